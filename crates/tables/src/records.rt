@@ -1,0 +1,105 @@
+// The four tables of records: objects, slots, values and addresses.
+use crate::values::SlotValue;
+use crate::values::fields_of;
+ghost use mathlib.Core.Path.{_≡_};
+ghost use Prim.Native.Nat.{_+_, _*_, _<_, _≤_};
+ghost use lib.ListN.{length, replicate, set};
+ghost use Rattle.tables.specs.Values.{fieldsOf};
+ghost use Rattle.tables.specs.Records.{room, Put, objectRow, slotRow, valueRow, addressRow, filled};
+
+// Every number of a table is 0.
+pub fn clear(t: &mut [u64])
+    ensures { λ _. ⌜ now (t .exit) ≡ replicate (length (now (t .entry))) 0 ⌝ }
+{
+    let mut i = 0;
+    while i < t.len() {
+        t[i] = 0;
+        i += 1;
+    }
+}
+
+// Record n of a table, if there is room for it; else the table stays. The answer is whether there was room.
+pub fn put(t: &mut [u64], n: usize, row: &[u64]) -> bool
+    requires { ⌜ 0 < length (now row) ⌝ }
+    ensures { λ r. ⌜ Put (now (t .entry)) n (now (row .entry)) r (now (t .exit)) ⌝ }
+{
+    let k = row.len();
+    if t.len() / k <= n {
+        return false;
+    }
+    let mut i = 0;
+    while i < k {
+        t[n * k + i] = row[i];
+        i += 1;
+    }
+    true
+}
+
+// An object record: byte size, tag offset, raw_len and slot count.
+pub fn add_object(t: &mut [u64], n: usize, bytes: u64, tag: u64) -> bool
+    ensures { λ r. ⌜ Put (now (t .entry)) n (objectRow bytes tag) r (now (t .exit)) ⌝ }
+{
+    let row = [bytes, tag, 0, 0];
+    put(t, n, &row)
+}
+
+// A slot record: object, index, the value's kind, a and b, and whether it waits.
+pub fn add_slot(t: &mut [u64], n: usize, object: u64, index: u64, v: SlotValue, waits: u64) -> bool
+    ensures { λ r. ⌜ Put (now (t .entry)) n (slotRow object index (fieldsOf v) waits) r (now (t .exit)) ⌝ }
+{
+    let f = fields_of(v);
+    let row = [object, index, f.kind, f.a, f.b, waits];
+    put(t, n, &row)
+}
+
+// A value record: kind, a and b.
+pub fn add_value(t: &mut [u64], n: usize, v: SlotValue) -> bool
+    ensures { λ r. ⌜ Put (now (t .entry)) n (valueRow (fieldsOf v)) r (now (t .exit)) ⌝ }
+{
+    let f = fields_of(v);
+    let row = [f.kind, f.a, f.b];
+    put(t, n, &row)
+}
+
+// An address record: space, chunk, offset, object and placed.
+pub fn add_address(
+    t: &mut [u64],
+    n: usize,
+    space: u64,
+    chunk: u64,
+    offset: u64,
+    object: u64,
+    placed: u64,
+) -> bool
+    ensures { λ r. ⌜ Put (now (t .entry)) n (addressRow space chunk offset object placed) r (now (t .exit)) ⌝ }
+{
+    let row = [space, chunk, offset, object, placed];
+    put(t, n, &row)
+}
+
+// The slot count of object o.
+pub fn set_slot_count(t: &mut [u64], o: usize, count: u64)
+    requires { ⌜ o < room 4 (now t) ⌝ }
+    ensures { λ _. ⌜ now (t .exit) ≡ set (now (t .entry)) (o * 4 + 3) count ⌝ }
+{
+    t[o * 4 + 3] = count;
+}
+
+// The raw_len flag of object o.
+pub fn set_raw_len(t: &mut [u64], o: usize)
+    requires { ⌜ o < room 4 (now t) ⌝ }
+    ensures { λ _. ⌜ now (t .exit) ≡ set (now (t .entry)) (o * 4 + 2) 1 ⌝ }
+{
+    t[o * 4 + 2] = 1;
+}
+
+// Slot k, which waited, is object o.
+pub fn fill_slot(t: &mut [u64], k: usize, o: u64)
+    requires { ⌜ k < room 6 (now t) ⌝ }
+    ensures { λ _. ⌜ now (t .exit) ≡ filled (now (t .entry)) k o ⌝ }
+{
+    t[k * 6 + 2] = 1;
+    t[k * 6 + 3] = o;
+    t[k * 6 + 4] = 0;
+    t[k * 6 + 5] = 0;
+}
