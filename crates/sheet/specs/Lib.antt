@@ -1,0 +1,6 @@
+pub mod Names
+pub mod Sheet
+pub mod Kinds
+pub mod Heads
+pub mod Tests
+pub mod Assigning
