@@ -26,9 +26,9 @@ pickSmi false a b = b
 abbrev pub smi8 : ℕ → Smi
 smi8 w = pickSmi (eqb (w % 2 ^ 32) 0) (Is (signed (w / 2 ^ 32))) No
 
--- a word of four bytes: even, half of it as a signed number
+-- a word of four bytes: even, half of the signed number (`shrZ z 2` halves and rounds down)
 abbrev pub smi4 : ℕ → Smi
-smi4 w = pickSmi (eqb (w % 2) 0) (Is (shrZ (signed w) 1)) No
+smi4 w = pickSmi (eqb (w % 2) 0) (Is (shrZ (signed w) 2)) No
 
 -- eight and four bytes; any other number of bytes is no Smi
 unfoldable pub smiOf : List ℕ → Smi

@@ -3,7 +3,7 @@ use crate::bytes::byte;
 use crate::bytes::little_endian;
 ghost use mathlib.Core.Path.{_≡_};
 ghost use lib.ListN.{length};
-ghost use Rattle.stream.specs.PutInt.{intAt};
+ghost use Rattle.stream.specs.PutInt.{intAt, Small};
 
 // An integer's value and its byte count, or that the payload ends before it does.
 pub enum Int {
@@ -14,6 +14,7 @@ pub enum Int {
 // The integer at a place.
 pub fn putint(p: &[u8], at: usize) -> Int
     ensures { λ r. ⌜ r ≡ intAt (now (p .entry)) at ⌝ }
+    ensures small { λ r. ⌜ Small r ⌝ }
 {
     if p.len() <= at {
         return Int::Cut;

@@ -1,20 +1,17 @@
-use borrow.Author.Needs.{needs}
+use native.Mathlib.Omega.{arith}
+use mathlib.Core.Path.{refl}
 use Rattle.stream.proofs.bytes.byte.Statement.{statement}
 use Rattle.stream.proofs.bytes.byte.Tie as tie
-use Rattle.stream.proofs.bytes.byte.Reads as reads
-use Rattle.stream.proofs.bytes.byte.Lts as lts
+use borrow.Author.Needs.{needs}
 
--- src/bytes.rt:12:5
 shared-slice-read-result : tie.Need-shared-slice-read-result
 shared-slice-read-result c = search needs
 
--- src/bytes.rt:12:5
 cast-result : tie.Need-cast-result
-cast-result c = ?
+cast-result c = omega (arith, c .shared-slice-known .given (c .before .args .at))
 
--- src/bytes.rt:8:1
 returns : tie.Need-returns
-returns c = ?
+returns c = (refl, omega (arith, c .shared-slice-known .given (c .before .args .at)))
 
 pub byte-spec : {M : Type 1} → statement M
 byte-spec = tie.close (tie.spec shared-slice-read-result cast-result returns)

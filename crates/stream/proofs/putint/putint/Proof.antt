@@ -1,52 +1,43 @@
 use borrow.Author.Needs.{needs}
+use native.Mathlib.Omega.{arith}
+use Prim.Native.Nat.{_^_, _<_}
+use Rattle.stream.proofs.IntegerLaws.{count-is, count-small, int-none, int-cut, int-is, int-below}
 use Rattle.stream.proofs.putint.putint.Statement.{statement}
 use Rattle.stream.proofs.putint.putint.Tie as tie
-use Rattle.stream.proofs.putint.putint.Reads as reads
-use Rattle.stream.proofs.putint.putint.Lts as lts
-use Rattle.stream.proofs.bytes.byte.Reads as byte-reads
-use Rattle.stream.proofs.bytes.little_endian.Reads as little-endian-reads
 
--- src/putint.rt:19:9
 returns : tie.Need-returns
-returns c = ?
+returns c = (int-none _ _ (c .if1 .taken), tt)
 
--- src/putint.rt:21:15
 byte-requires : tie.Need-byte-requires
 byte-requires c κs = search needs
 
--- src/putint.rt:21:14
 add-n : tie.Need-add-n
-add-n c = ?
+add-n c = let a = c .before .before .before .args in omega (arith, count-is (a .p .now) (a .at) (c .byte .ensures .0), count-small (a .p .now) (a .at))
 
--- src/putint.rt:22:8
 sub-if2 : tie.Need-sub-if2
 sub-if2 c = search needs
 
--- src/putint.rt:23:9
 returns-2 : tie.Need-returns-2
-returns-2 c = ?
+returns-2 c = (int-cut _ _ (c .before .before .if1 .left) (count-is _ _ (c .before .byte .ensures .0)) (c .if2 .taken), tt)
 
--- src/putint.rt:25:14
 little-endian-requires : tie.Need-little-endian-requires
-little-endian-requires c κs = ?
+little-endian-requires c κs =
+    let a = c .before .before .before .before .args in
+    omega (arith, count-is (a .p .now) (a .at) (c .before .byte .ensures .0), count-small (a .p .now) (a .at))
 
--- src/putint.rt:25:13
+-- the number that the bytes make is below 2 ^ 32
+raw-below : (c : tie.After-little-endian) → c .little-endian .result < 2 ^ 32
+raw-below c =
+    let s = c .before .before .before .before in
+    int-below _ _ (λ i. omega (arith, s .shared-slice-known .given i)) (count-is _ _ (c .before .before .byte .ensures .0)) (c .little-endian .ensures)
+
 cast-t10 : tie.Need-cast-t10
-cast-t10 c = ?
+cast-t10 c = let h = raw-below c in omega arith
 
--- src/putint.rt:15:1
 returns-3 : tie.Need-returns-3
-returns-3 c = ?
+returns-3 c =
+    let h = raw-below c in
+    (int-is _ _ (c .before .before .before .if1 .left) (count-is _ _ (c .before .before .byte .ensures .0)) (c .before .if2 .left) (c .little-endian .ensures), omega arith)
 
 pub putint-spec : {M : Type 1} → statement M
-putint-spec =
-    tie.close
-    (tie.spec
-    returns
-    byte-requires
-    add-n
-    sub-if2
-    returns-2
-    little-endian-requires
-    cast-t10
-    returns-3)
+putint-spec = tie.close (tie.spec returns byte-requires add-n sub-if2 returns-2 little-endian-requires cast-t10 returns-3)
