@@ -1,0 +1,2 @@
+pub mod HotRing
+pub mod Legacy
