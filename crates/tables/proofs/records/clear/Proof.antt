@@ -1,45 +1,43 @@
+-- Before turn i the first i numbers are 0 and the rest is as it was.
+use mathlib.Core.Path.{_≡_, refl}
+use mathlib.Core.List.{_++_}
+use Prim.Native.Nat.{_≤_, _-_}
+use native.Mathlib.Omega.{arith}
+use borrow.Author.Fill.{fill-none, fill-more}
+use lib.ListN.{length, drop, replicate, length-set}
+use Rattle.tables.proofs.Laws.{cleared}
 use Rattle.tables.proofs.records.clear.Statement.{statement}
 use Rattle.tables.proofs.records.clear.Tie as tie
-use Rattle.tables.proofs.records.clear.Reads as reads
-use Rattle.tables.proofs.records.clear.Lts as lts
 
 abbrev Inv-loop : tie.InvT-loop
-Inv-loop t₀ i₀ t i = ?
+Inv-loop t₀ i₀ t i = (i ≤ length t₀) × (length t ≡ length t₀) × (t ≡ replicate i 0 ++ drop i t₀)
 
 abbrev μ-loop : tie.MeasureT-loop
-μ-loop t₀ i₀ t i = ?
+μ-loop t₀ i₀ t i = length t₀ - i
 
--- src/records.rt:15:5
 loop-holds : tie.Need-loop-holds Inv-loop μ-loop
-loop-holds c = ?
+loop-holds c = (omega arith, refl, fill-none _ 0)
 
--- src/records.rt:16:9
 mul-t : tie.Need-mul-t Inv-loop μ-loop
-mul-t c = ?
+mul-t c = omega arith
 
--- src/records.rt:16:9
 slice-write-t : tie.Need-slice-write-t Inv-loop μ-loop
-slice-write-t c = ?
+slice-write-t c = omega arith
 
--- src/records.rt:17:9
 add-i : tie.Need-add-i Inv-loop μ-loop
-add-i c = ?
+add-i c = omega arith
 
--- src/records.rt:15:5
 loop-less : tie.Need-loop-less Inv-loop μ-loop
-loop-less c = ?
+loop-less c = omega arith
 
--- src/records.rt:15:5
 loop-again : tie.Need-loop-again Inv-loop μ-loop
-loop-again c = ?
+loop-again c = (omega arith, simp length-set (c .before .loop .inv .1), rw (c .before .loop .inv .2) (fill-more (c .before .loop .i) 0 _ (omega arith)))
 
--- src/records.rt:11:1
 same-length : tie.Need-same-length Inv-loop μ-loop
-same-length c = ?
+same-length c = c .before .loop .inv .1
 
--- src/records.rt:11:1
 returns : tie.Need-returns Inv-loop μ-loop
-returns c = ?
+returns c = cleared _ _ (c .before .loop .i) (omega arith) (c .before .loop .inv .2)
 
 pub clear-spec : {M : Type 1} → statement M
 clear-spec =

@@ -1,57 +1,62 @@
+use mathlib.Core.Path.{_≡_, sym, ap, _∙_}
+use Prim.Native.Nat.{_+_, _≤_}
+use native.Mathlib.Omega.{arith}
 use borrow.Author.Needs.{needs}
+use lib.ListN.{length}
+use Rattle.tables.specs.declared.view.View.the-variants.{Is}
+use Rattle.tables.specs.View.{viewOf, viewed}
+use Rattle.tables.proofs.Laws.{view-within, view-bytes}
 use Rattle.tables.proofs.view.raw_bytes.Statement.{statement}
 use Rattle.tables.proofs.view.raw_bytes.Tie as tie
-use Rattle.tables.proofs.view.raw_bytes.Reads as reads
-use Rattle.tables.proofs.view.raw_bytes.Lts as lts
-use Rattle.tables.proofs.view.raw_range.Reads as raw-range-reads
 
--- src/view.rt:43:11
 raw-range-requires : tie.Need-raw-range-requires
 raw-range-requires c κs = search needs
 
--- src/view.rt:44:18
 enum-known-off : tie.Need-enum-known-off
 enum-known-off c = search needs
 
--- src/view.rt:45:23
-add-end : tie.Need-add-end
-add-end c = ?
+-- where the range is not refused, it is the definition's and lies in the payload
+module _ (c : tie.After-known-told) where
+  found : Is (c .before .off .given .0 .0) (c .before .off .given .0 .1 .0)
+      ≡ viewOf
+      (length (c .before .before .before .before .before .before .args .payload .now))
+      (c .before .before .before .before .before .before .args .slots .now)
+      (c .before .before .before .before .before .before .args .count)
+      (c .before .before .before .before .before .before .args .k)
+  found = sym (c .before .off .given .1) ∙ c .before .before .before .raw-range .ensures
 
--- src/view.rt:46:13
+  within : c .before .off .given .0 .0 + c .before .off .given .0 .1 .0 ≤ length (c .before .before .before .before .before .before .args .payload .now)
+  within = view-within _ (c .before .before .before .before .before .before .args .slots .now) _ _ found
+
+add-end : tie.Need-add-end
+add-end c = omega (arith, within c)
+
 sub-result : tie.Need-sub-result
 sub-result c = search needs
 
--- src/view.rt:46:13
 part-result-start : tie.Need-part-result-start
 part-result-start c = search needs
 
--- src/view.rt:46:13
 part-result-end : tie.Need-part-result-end
-part-result-end c = ?
+part-result-end c = omega (arith, within c)
 
--- src/view.rt:48:29
 enum-told : tie.Need-enum-told
 enum-told c = search needs
 
--- src/view.rt:48:29
 sub-result-2 : tie.Need-sub-result-2
 sub-result-2 c = search needs
 
--- src/view.rt:48:29
 part-result-start-2 : tie.Need-part-result-start-2
 part-result-start-2 c = search needs
 
--- src/view.rt:48:29
 part-result-end-2 : tie.Need-part-result-end-2
 part-result-end-2 c = search needs
 
--- src/view.rt:40:1
 returns : tie.Need-returns
-returns c = ?
+returns c = view-bytes _ (found (c .before))
 
--- src/view.rt:40:1
 returns-2 : tie.Need-returns-2
-returns-2 c = ?
+returns-2 c = ap (viewed _) (sym (c .before .enum-told .given .1) ∙ c .before .before .before .raw-range .ensures)
 
 pub raw-bytes-spec : {M : Type 1} → statement M
 raw-bytes-spec =

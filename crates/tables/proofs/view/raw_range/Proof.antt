@@ -1,80 +1,70 @@
+use mathlib.Core.Path.{_≡_}
+use mathlib.Core.Logic.{⊎-elim}
+use mathlib.Core.Bool.{true}
+use native.Mathlib.Omega.{arith}
 use borrow.Author.Needs.{needs}
+use Rattle.tables.specs.View.{isRaw}
+use Rattle.tables.proofs.Laws.{raw-5, raw-6, view-count, view-unlisted, view-other, view-past, view-is}
 use Rattle.tables.proofs.view.raw_range.Statement.{statement}
 use Rattle.tables.proofs.view.raw_range.Tie as tie
-use Rattle.tables.proofs.view.raw_range.Reads as reads
-use Rattle.tables.proofs.view.raw_range.Lts as lts
 
--- src/view.rt:18:9
 returns : tie.Need-returns
-returns c = ?
+returns c = view-count _ _ _ _ (c .if1 .taken)
 
--- src/view.rt:21:9
 returns-2 : tie.Need-returns-2
-returns-2 c = ?
+returns-2 c = view-unlisted _ _ _ _ (c .before .if1 .left) (c .if2 .taken)
 
--- src/view.rt:23:22
 mul-kind : tie.Need-mul-kind
 mul-kind c = search needs
 
--- src/view.rt:23:22
 add-kind : tie.Need-add-kind
 add-kind c = search needs
 
--- src/view.rt:23:16
 mul-kind-2 : tie.Need-mul-kind-2
 mul-kind-2 c = search needs
 
--- src/view.rt:23:16
 shared-slice-read-kind : tie.Need-shared-slice-read-kind
 shared-slice-read-kind c = search needs
 
--- src/view.rt:25:9
 returns-3 : tie.Need-returns-3
-returns-3 c = ?
+returns-3 c = view-other _ _ _ _ (c .before .before .before .before .if1 .left) (c .before .before .before .if2 .left) (c .before .if3 .taken) (c .if4 .taken)
 
--- src/view.rt:27:21
+-- past the test of the kind, the slot is raw
+raw : (c : tie.Joined3) → isRaw (c .before .before .before .before .args .slots .now) (c .before .before .before .before .args .k) ≡ true
+raw c = ⊎-elim (λ w. raw-6 (c .before .before .before .before .args .slots .now) _ (w .1 .left)) (λ w. raw-5 (c .before .before .before .before .args .slots .now) _ (w .left)) (c .if3 .came)
+
 mul-off : tie.Need-mul-off
 mul-off c = search needs
 
--- src/view.rt:27:21
 add-off : tie.Need-add-off
 add-off c = search needs
 
--- src/view.rt:27:15
 mul-off-2 : tie.Need-mul-off-2
 mul-off-2 c = search needs
 
--- src/view.rt:27:15
 shared-slice-read-off : tie.Need-shared-slice-read-off
 shared-slice-read-off c = search needs
 
--- src/view.rt:28:21
 mul-len : tie.Need-mul-len
 mul-len c = search needs
 
--- src/view.rt:28:21
 add-len : tie.Need-add-len
 add-len c = search needs
 
--- src/view.rt:28:15
 mul-len-2 : tie.Need-mul-len-2
 mul-len-2 c = search needs
 
--- src/view.rt:28:15
 shared-slice-read-len : tie.Need-shared-slice-read-len
 shared-slice-read-len c = search needs
 
--- src/view.rt:31:9
 returns-4 : tie.Need-returns-4
-returns-4 c = ?
+returns-4 c = view-past _ _ _ _ (c .before .before .before .before .before .before .if1 .left) (c .before .before .before .before .before .if2 .left) (raw (c .before .before .before)) (omega arith)
 
--- src/view.rt:34:9
 returns-5 : tie.Need-returns-5
-returns-5 c = ?
+returns-5 c = view-past _ _ _ _ (c .before .before .before .before .before .before .before .if1 .left) (c .before .before .before .before .before .before .if2 .left) (raw (c .before .before .before .before)) (omega arith)
 
--- src/view.rt:14:1
 returns-6 : tie.Need-returns-6
-returns-6 c = ?
+returns-6 c = view-is _ _ _ _ (c .before .before .before .before .before .before .before .if1 .left) (c .before .before .before .before .before .before .if2 .left) (raw (c .before .before .before .before)) (omega arith)
 
 pub raw-range-spec : {M : Type 1} → statement M
 raw-range-spec =
