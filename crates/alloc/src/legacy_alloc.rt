@@ -3,9 +3,9 @@ use crate::fill::fill_to_align;
 use crate::fill::max_fill_to_align;
 use tables::records::add_address;
 ghost use mathlib.Core.Path.{_≡_};
-ghost use Prim.Native.Nat.{_+_, _^_, _<_, _≤_};
-ghost use lib.ListN.{length, getD, replicate};
-ghost use Rattle.alloc.specs.Allocation.{spacesOf, nextChunk, allocateOf, seen, zeroCounters};
+ghost use Prim.Native.Nat.{_-_, _^_, _<_, _≤_};
+ghost use lib.ListN.{getD};
+ghost use Rattle.alloc.specs.Allocation.{zeroCounters, spacesOf, nextChunk, advanceOf, allocateOf, seen};
 
 // Two counters for each of 256 spaces: the current chunk, and the next free offset in it.
 pub struct LegacyAlloc {
@@ -119,7 +119,7 @@ fn refused(alloc: LegacyAlloc, alignment: u64, number: u64) -> Allocated
 // How far the next free offset moves: by the size, and with an alignment pending by the most that a filler can take as well.
 fn advance(size: u64, alignment: u64, word: u64) -> u64
     requires { ⌜ size < 2 ^ 33 ⌝ }
-    ensures { λ r. ⌜ r ≡ Rattle.alloc.specs.Allocation.advanceOf size alignment word ⌝ }
+    ensures { λ r. ⌜ r ≡ advanceOf size alignment word ⌝ }
 {
     if alignment == 0 {
         size

@@ -1,4 +1,4 @@
-// Legacy back-references: 7.8 and 8.4 write a chunk and an offset, or a number in the map and large-object spaces; 6.x packs both in one
+// Legacy back-references: 7.8 and 8.4 write a chunk and an offset, or a number in the map and large-object spaces; 6.x packs these in one
 // integer.
 use crate::hot_ring::add;
 use alloc::resolve::Found;
@@ -18,7 +18,7 @@ ghost use Prim.Native.Nat.{_+_, _^_, _<_, _≤_};
 ghost use lib.ListN.{length};
 ghost use Rattle.sheet.specs.Sheet.{usable};
 ghost use Rattle.tables.specs.Records.{room};
-ghost use Rattle.backref.specs.Legacy.{ordinal, address, packed, backrefOf, seen, partsOf};
+ghost use Rattle.backref.specs.Legacy.{numberedAs, numbered, placed, indexOf, unpacked, packedBackref, plainBackref, backrefOf, ringAfter};
 
 // What a back-reference stands for and the cursor after it; or the payload ended in it; or its number has no entry, with the cursor.
 pub enum Backref {
@@ -27,22 +27,171 @@ pub enum Backref {
     Unknown(usize),
 }
 
-// A place in a space: chunk and offset.
+// A place in a space.
 pub struct Place {
     pub chunk: u64,
     pub offset: u64,
 }
 
+// The space whose objects a space numbers, or 0.
+fn numbered_as(sheet: &[u16], space: u64) -> u64
+    ensures { λ r. ⌜ r ≡ numberedAs (now (sheet .entry)) space ⌝ }
+{
+    if space == map_space(sheet) {
+        return 4;
+    }
+    if space == lo_space(sheet) {
+        return 5;
+    }
+    0
+}
+
+// The object with a number.
+fn by_number(sheet: &[u16], table: &[u64], n: usize, space: u64, index: u64, next: usize) -> Backref
+    requires { ⌜ n ≤ room 5 (now table) ⌝ }
+    ensures { λ r. ⌜ r ≡ numbered (now (sheet .entry)) (now (table .entry)) n space index next ⌝ }
+{
+    match resolve_ordinal(table, n, numbered_as(sheet, space), index) {
+        Found::Object(o) => Backref::To(Ref::Object(o), next),
+        Found::Nothing => Backref::Unknown(next),
+    }
+}
+
+// The object at a place, or the place itself in the read-only heap.
+fn by_place(
+    sheet: &[u16],
+    table: &[u64],
+    n: usize,
+    alignment: u64,
+    space: u64,
+    place: Place,
+    next: usize,
+) -> Backref
+    requires { ⌜ (n ≤ room 5 (now table)) × (place .offset < 2 ^ 32) × (usable (now sheet) ≡ true) ⌝ }
+    ensures { λ r. ⌜ r ≡ placed (now (sheet .entry)) (now (table .entry)) n alignment space place next ⌝ }
+{
+    match resolve(
+        table,
+        n,
+        space,
+        place.chunk,
+        place.offset,
+        alignment,
+        word_bytes(sheet),
+    ) {
+        Found::Object(o) => Backref::To(Ref::Object(o), next),
+        Found::Nothing => Backref::To(Ref::RoRef(place.chunk, place.offset), next),
+    }
+}
+
+fn power(bits: u64) -> u64
+    requires { ⌜ bits < 64 ⌝ }
+    ensures { λ r. ⌜ r ≡ 2 ^ bits ⌝ }
+{
+    1 << bits
+}
+
+// The index that 6.x writes.
+fn index_of(sheet: &[u16], value: u32) -> u64
+    requires { ⌜ usable (now sheet) ≡ true ⌝ }
+    ensures { λ r. ⌜ r ≡ indexOf (now (sheet .entry)) value ⌝ }
+{
+    (value as u64) % power(32 - space_tag_size(sheet))
+}
+
 // The place that 6.x packs in an index.
 fn unpack(sheet: &[u16], index: u64) -> Place
-    requires { ⌜ usable (now sheet) ≡ true ⌝ }
-    ensures { λ r. ⌜ r ≡ partsOf (now (sheet .entry)) index ⌝ }
+    requires { ⌜ (usable (now sheet) ≡ true) × (index < 2 ^ 32) ⌝ }
+    ensures { λ r. ⌜ (r ≡ unpacked (now (sheet .entry)) index) × (r .offset < 2 ^ 32) ⌝ }
 {
     let word = word_bytes(sheet);
-    let bits = page_size_bits(sheet) - (if word == 4 { 2 } else { 3 });
-    let size = 1u64 << bits;
+    let size = if word == 4 {
+        power(page_size_bits(sheet) - 2)
+    } else {
+        power(page_size_bits(sheet) - 3)
+    };
     Place {
         chunk: index / size,
         offset: index % size * word,
     }
+}
+
+// 6.x: one integer.
+fn packed_backref(
+    sheet: &[u16],
+    p: &[u8],
+    table: &[u64],
+    n: usize,
+    alignment: u64,
+    space: u64,
+    at: usize,
+) -> Backref
+    requires { ⌜ (n ≤ room 5 (now table)) × (usable (now sheet) ≡ true) ⌝ }
+    ensures { λ r. ⌜ r ≡ packedBackref (now (sheet .entry)) (now (p .entry)) (now (table .entry)) n alignment space at ⌝ }
+{
+    let Int::Is(value, count) = putint(p, at) else {
+        return Backref::Cut;
+    };
+    let index = index_of(sheet, value);
+    if numbered_as(sheet, space) == 0 {
+        let place = unpack(sheet, index);
+        by_place(sheet, table, n, alignment, space, place, at + count)
+    } else {
+        by_number(sheet, table, n, space, index, at + count)
+    }
+}
+
+// 7.8 and 8.4: one integer for a number, two for a place.
+fn plain_backref(
+    sheet: &[u16],
+    p: &[u8],
+    table: &[u64],
+    n: usize,
+    alignment: u64,
+    space: u64,
+    at: usize,
+) -> Backref
+    requires { ⌜ (n ≤ room 5 (now table)) × (usable (now sheet) ≡ true) ⌝ }
+    ensures { λ r. ⌜ r ≡ plainBackref (now (sheet .entry)) (now (p .entry)) (now (table .entry)) n alignment space at ⌝ }
+{
+    let Int::Is(first, count) = putint(p, at) else {
+        return Backref::Cut;
+    };
+    let next = at + count;
+    if numbered_as(sheet, space) != 0 {
+        return by_number(sheet, table, n, space, first as u64, next);
+    }
+    let Int::Is(second, more) = putint(p, next) else {
+        return Backref::Cut;
+    };
+    let place = Place {
+        chunk: first as u64,
+        offset: second as u64,
+    };
+    by_place(sheet, table, n, alignment, space, place, next + more)
+}
+
+// A back-reference to a space; what it stands for enters the ring.
+pub fn legacy_backref(
+    sheet: &[u16],
+    p: &[u8],
+    table: &[u64],
+    hot: &mut [u64; 25],
+    n: usize,
+    alignment: u64,
+    space: u64,
+    at: usize,
+) -> Backref
+    requires { ⌜ (n ≤ room 5 (now table)) × (usable (now sheet) ≡ true) ⌝ }
+    ensures { λ r. ⌜ (r ≡ backrefOf (now (sheet .entry)) (now (p .entry)) (now (table .entry)) n alignment space at) × (now (hot .exit) ≡ ringAfter (now (hot .entry)) r) ⌝ }
+{
+    let found = if six_x(sheet) {
+        packed_backref(sheet, p, table, n, alignment, space, at)
+    } else {
+        plain_backref(sheet, p, table, n, alignment, space, at)
+    };
+    if let Backref::To(r, _) = found {
+        add(hot, r);
+    }
+    found
 }
