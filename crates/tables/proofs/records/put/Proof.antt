@@ -16,10 +16,10 @@ abbrev μ-loop : tie.MeasureT-loop
 μ-loop t₀ n row k i₀ t i = k - i
 
 div-if1 : tie.Need-div-if1 Inv-loop μ-loop
-div-if1 c = c .pre
+div-if1 c = omega arith
 
 returns : tie.Need-returns Inv-loop μ-loop
-returns c = put-full _ _ _ (c .if1 .taken)
+returns c = put-full _ _ _ (omega arith)
 
 loop-holds : tie.Need-loop-holds Inv-loop μ-loop
 loop-holds c = (omega arith, refl, paste-zero _ (c .before .args .n * length (c .before .args .row .now)) (c .before .args .row .now))
@@ -35,7 +35,7 @@ ends : (c : tie.After-shared-slice-known Inv-loop μ-loop) →
     c .before .before .before .before .args .n * length (c .before .before .before .before .args .row .now)
     + length (c .before .before .before .before .args .row .now)
     ≤ length (c .before .before .before .before .args .t .now)
-ends c = record-end _ _ (c .before .before .before .before .args .t .now) (c .before .before .before .before .pre) (c .before .before .before .if1 .left)
+ends c = record-end _ _ (c .before .before .before .before .args .t .now) (omega arith) (omega arith)
 
 mul-t-2 : tie.Need-mul-t-2 Inv-loop μ-loop
 mul-t-2 c = omega (arith, ends c)
@@ -58,13 +58,13 @@ loop-less c = omega arith
 loop-again : tie.Need-loop-again Inv-loop μ-loop
 loop-again c =
     let a = c .before .before .before .before .args in
-    (omega arith, simp length-set (c .before .before .loop .inv .1), put-more (a .t .now) (a .row .now) (a .n) _ (c .before .before .loop .i) (c .before .before .loop .inv .2) (omega (arith, ends c)) (c .before .loop-test .taken))
+    (omega arith, simp length-set (c .before .before .loop .inv .1), put-more (a .t .now) (a .row .now) (a .n) _ (c .before .before .loop .i) (c .before .before .loop .inv .2) (omega (arith, ends c)) (omega arith))
 
 same-length : tie.Need-same-length Inv-loop μ-loop
 same-length c = c .before .loop .inv .1
 
 returns-2 : tie.Need-returns-2 Inv-loop μ-loop
-returns-2 c = put-done _ _ _ _ (c .before .loop .i) (c .before .loop .inv .2) (c .before .before .before .pre) (c .before .before .if1 .left) (omega arith)
+returns-2 c = put-done _ _ _ _ (c .before .loop .i) (c .before .loop .inv .2) (omega arith) (omega arith) (omega arith)
 
 pub put-spec : {M : Type 1} → statement M
 put-spec =

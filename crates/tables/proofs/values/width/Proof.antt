@@ -16,7 +16,7 @@ cast-result : tie.Need-cast-result
 cast-result c = search needs
 
 mul-result : tie.Need-mul-result
-mul-result c = words-fit _ _ (omega arith) (c .before .before .before .pre)
+mul-result c = words-fit _ _ (omega arith) (omega arith)
 
 enum-known-v-3 : tie.Need-enum-known-v-3
 enum-known-v-3 c = search needs
@@ -25,7 +25,7 @@ cast-result-2 : tie.Need-cast-result-2
 cast-result-2 c = search needs
 
 mul-result-2 : tie.Need-mul-result-2
-mul-result-2 c = words-fit _ _ (omega arith) (c .before .before .before .pre)
+mul-result-2 c = words-fit _ _ (omega arith) (omega arith)
 
 enum-known-v-4 : tie.Need-enum-known-v-4
 enum-known-v-4 c = search needs

@@ -9,10 +9,10 @@ use Rattle.tables.proofs.view.raw_range.Statement.{statement}
 use Rattle.tables.proofs.view.raw_range.Tie as tie
 
 returns : tie.Need-returns
-returns c = view-count _ _ _ _ (c .if1 .taken)
+returns c = view-count _ _ _ _ (omega arith)
 
 returns-2 : tie.Need-returns-2
-returns-2 c = view-unlisted _ _ _ _ (c .before .if1 .left) (c .if2 .taken)
+returns-2 c = view-unlisted _ _ _ _ (omega arith) (omega arith)
 
 mul-kind : tie.Need-mul-kind
 mul-kind c = search needs
@@ -27,7 +27,7 @@ shared-slice-read-kind : tie.Need-shared-slice-read-kind
 shared-slice-read-kind c = search needs
 
 returns-3 : tie.Need-returns-3
-returns-3 c = view-other _ _ _ _ (c .before .before .before .before .if1 .left) (c .before .before .before .if2 .left) (c .before .if3 .taken) (c .if4 .taken)
+returns-3 c = view-other _ _ _ _ (omega arith) (omega arith) (c .before .if3 .taken) (c .if4 .taken)
 
 -- past the test of the kind, the slot is raw
 raw : (c : tie.Joined3) → isRaw (c .before .before .before .before .args .slots .now) (c .before .before .before .before .args .k) ≡ true
@@ -58,13 +58,13 @@ shared-slice-read-len : tie.Need-shared-slice-read-len
 shared-slice-read-len c = search needs
 
 returns-4 : tie.Need-returns-4
-returns-4 c = view-past _ _ _ _ (c .before .before .before .before .before .before .if1 .left) (c .before .before .before .before .before .if2 .left) (raw (c .before .before .before)) (omega arith)
+returns-4 c = view-past _ _ _ _ (omega arith) (omega arith) (raw (c .before .before .before)) (omega arith)
 
 returns-5 : tie.Need-returns-5
-returns-5 c = view-past _ _ _ _ (c .before .before .before .before .before .before .before .if1 .left) (c .before .before .before .before .before .before .if2 .left) (raw (c .before .before .before .before)) (omega arith)
+returns-5 c = view-past _ _ _ _ (omega arith) (omega arith) (raw (c .before .before .before .before)) (omega arith)
 
 returns-6 : tie.Need-returns-6
-returns-6 c = view-is _ _ _ _ (c .before .before .before .before .before .before .before .if1 .left) (c .before .before .before .before .before .before .if2 .left) (raw (c .before .before .before .before)) (omega arith)
+returns-6 c = view-is _ _ _ _ (omega arith) (omega arith) (raw (c .before .before .before .before)) (omega arith)
 
 pub raw-range-spec : {M : Type 1} → statement M
 raw-range-spec =
