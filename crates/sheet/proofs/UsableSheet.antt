@@ -7,9 +7,9 @@ use Prim.Native.Nat.{ℕ, zero, suc, _+_, _<_, _≤_}
 use native.Mathlib.Omega.{arith}
 use lib.Dec.{leb, eqb}
 use lib.ListN.{length, getD}
-use borrow.Author.Tests.{leb-true, eqb-true}
+use borrow.Author.Tests.{leb-true, eqb-true, eqb-false, not-true}
 use Rattle.sheet.specs.Names.{kNewObject, kBackref, kHotObject, kRootArrayConstants, kFixedRawData, kAlignmentPrefix, kHotObjectWithSkip, kRootArrayConstantsWithSkip, kFixedRepeat, kFixedRepeatRoot, kBackrefWithSkip}
-use Rattle.sheet.specs.Sheet.{number, present, numberOfSpaces, rootMask, wordBytes, pageSizeBits, spaceTagSize, isLegacy, isSixX, hasLength, hasWordSize, within, allWithin, hasRequired, numbersFit, between, spaceTagSizeFits, pageSizeBitsFits, sixXIsLegacy, spanFits, spansFit, legacySpansFit, usable}
+use Rattle.sheet.specs.Sheet.{pickℕ, number, present, constant, numberOfSpaces, rootMask, wordBytes, pageSizeBits, spaceTagSize, isLegacy, isSixX, hasLength, hasWordSize, within, allWithin, hasRequired, numbersFit, between, spaceTagSizeFits, pageSizeBitsFits, sixXIsLegacy, spanFits, spansFit, legacySpansFit, usable}
 use Rattle.sheet.specs.Usable.{SpanFits, Usable}
 
 pub and-left : (a b : Bool) → a && b ≡ true → a ≡ true
@@ -78,6 +78,10 @@ within-at v most absent (suc n) at zero k e h q =
     rw at-first (and-left (within most absent (number v at)) (allWithin v most absent (at + 1) n) e)
 within-at v most absent (suc n) at (suc i) k e h q = within-at v most absent n (at + 1) i k (and-right (within most absent (number v at)) (allWithin v most absent (at + 1) n) e) (omega arith) (omega arith)
 
+picked : (t : Bool) (a b : ℕ) → (t ≡ true → a ≤ 255) → b ≤ 255 → pickℕ t a b ≤ 255
+picked true a b h l = h refl
+picked false a b h l = l
+
 module _ (v : List ℕ) where
   abbrev clauses : List Bool
   clauses = hasLength v ∷ hasWordSize v ∷ hasRequired v ∷ numbersFit v ∷ spaceTagSizeFits v ∷ pageSizeBitsFits v ∷ sixXIsLegacy v ∷ spansFit v ∷ legacySpansFit v ∷ []
@@ -118,3 +122,12 @@ module _ (v : List ℕ) where
         backref = λ h. span-bound v kBackref (numberOfSpaces v) (l h 1);
         backref-with-skip = λ h. span-bound v kBackrefWithSkip (numberOfSpaces v) (l h 2);
       }
+
+module _ (v : List ℕ) (u : Usable v) (k : ℕ) (h : k < 56) where
+  -- a present tag or constant is at most 255
+  pub present-bound : present v k ≡ true → number v k ≤ 255
+  present-bound p = ⊎-elim (λ b. b) (λ a. absurd (eqb-false (number v k) 65535 (not-true (eqb (number v k) 65535) p) a)) (u .numbers k h)
+
+  -- and so is a constant with its default
+  pub constant-bound : (default : ℕ) → default ≤ 255 → constant v k default ≤ 255
+  constant-bound default d = picked (present v k) (number v k) default present-bound d
