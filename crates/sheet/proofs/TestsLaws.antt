@@ -1,12 +1,11 @@
 -- The tests before a reference, at each way out of the code. Assumes nothing.
-use mathlib.Core.Path.{_≡_, refl, sym, ap, _∙_}
+use mathlib.Core.Path.{_≡_, refl, sym, _∙_}
 use mathlib.Core.Bool.{Bool, true, false, not, _&&_}
 use mathlib.Core.List.{List}
 use Prim.Native.Nat.{ℕ, _+_, _-_, _<_, _≤_}
 use native.Mathlib.Omega.{arith}
 use borrow.Author.Tests.{ltb-true, leb-true}
 use lib.Dec.{ltb, leb, eqb}
-use Rattle.sheet.specs.declared.tests.Closing.{Closing}
 use Rattle.sheet.specs.declared.tests.Closing.the-variants.{Synchronize, Alignment, Deferred, Reference}
 use Rattle.sheet.specs.Names.{kNewObject, kSynchronize, kAlignmentPrefix, kNewMetaMap}
 use Rattle.sheet.specs.Sheet.{pickℕ, number, present, numberOfSpaces, isLegacy}

@@ -20,10 +20,10 @@ add-result : tie.Need-add-result
 add-result c = omega (arith, c .number .ensures .0, span-below (c .before .before .before .before .args .sheet .now) kAlignmentPrefix 3 (c .before .before .before .before .args .b) (sym (c .before .before .in-span .ensures) ∙ c .before .if1 .taken))
 
 returns : tie.Need-returns
-returns c = alignment-in (c .before .before .before .before .args .sheet .now) (c .before .before .before .before .args .b) (c .number .ensures .0) (sym (c .before .before .in-span .ensures) ∙ c .before .if1 .taken)
+returns c = alignment-in _ _ (c .number .ensures .0) (sym (c .before .before .in-span .ensures) ∙ c .before .if1 .taken)
 
 returns-2 : tie.Need-returns-2
-returns-2 c = alignment-out (c .before .before .before .args .sheet .now) (c .before .before .before .args .b) (sym (c .before .in-span .ensures) ∙ c .if1 .left)
+returns-2 c = alignment-out _ _ (sym (c .before .in-span .ensures) ∙ c .if1 .left)
 
 pub alignment-spec : {M : Type 1} → statement M
 alignment-spec =

@@ -10,13 +10,13 @@ is-tag-requires : tie.Need-is-tag-requires
 is-tag-requires c κs = search needs
 
 returns : tie.Need-returns
-returns c = closes (c .before .before .before .args .sheet .now) (c .before .before .before .args .b) (sym (c .before .is-tag .ensures) ∙ c .if1 .taken)
+returns c = closes _ _ (sym (c .before .is-tag .ensures) ∙ c .if1 .taken)
 
 alignment-requires : tie.Need-alignment-requires
 alignment-requires c κs = search needs
 
 returns-2 : tie.Need-returns-2
-returns-2 c = closes-aligned (c .before .before .before .before .before .args .sheet .now) (c .before .before .before .before .before .args .b) (sym (c .before .before .before .is-tag .ensures) ∙ c .before .before .if1 .left) (c .before .alignment .ensures) (c .if2 .taken)
+returns-2 c = closes-aligned _ _ (sym (c .before .before .before .is-tag .ensures) ∙ c .before .before .if1 .left) (c .before .alignment .ensures) (c .if2 .taken)
 
 is-entry-requires : tie.Need-is-entry-requires
 is-entry-requires c κs = search needs
@@ -28,10 +28,10 @@ sub-t8 : tie.Need-sub-t8
 sub-t8 c = omega (arith, c .number .ensures .0, entry-from (c .before .before .before .before .before .before .before .before .args .sheet .now) (c .before .before .before .before .before .before .before .before .args .b) (sym (c .before .before .is-entry .ensures) ∙ c .before .if3 .taken))
 
 returns-3 : tie.Need-returns-3
-returns-3 c = closes-deferred (c .before .before .before .before .before .before .before .before .args .sheet .now) (c .before .before .before .before .before .before .before .before .args .b) (sym (c .before .before .before .before .before .before .is-tag .ensures) ∙ c .before .before .before .before .before .if1 .left) (c .before .before .before .before .alignment .ensures) (c .before .before .before .if2 .left) (sym (c .before .before .is-entry .ensures) ∙ c .before .if3 .taken) (c .number .ensures .0)
+returns-3 c = closes-deferred _ _ (sym (c .before .before .before .before .before .before .is-tag .ensures) ∙ c .before .before .before .before .before .if1 .left) (c .before .before .before .before .alignment .ensures) (c .before .before .before .if2 .left) (sym (c .before .before .is-entry .ensures) ∙ c .before .if3 .taken) (c .number .ensures .0)
 
 returns-4 : tie.Need-returns-4
-returns-4 c = closes-other (c .before .before .before .before .before .before .before .args .sheet .now) (c .before .before .before .before .before .before .before .args .b) (sym (c .before .before .before .before .before .is-tag .ensures) ∙ c .before .before .before .before .if1 .left) (c .before .before .before .alignment .ensures) (c .before .before .if2 .left) (sym (c .before .is-entry .ensures) ∙ c .if3 .left)
+returns-4 c = closes-other _ _ (sym (c .before .before .before .before .before .is-tag .ensures) ∙ c .before .before .before .before .if1 .left) (c .before .before .before .alignment .ensures) (c .before .before .if2 .left) (sym (c .before .is-entry .ensures) ∙ c .if3 .left)
 
 pub closing-entry-spec : {M : Type 1} → statement M
 closing-entry-spec =

@@ -13,7 +13,7 @@ abbrev μ-loop : tie.MeasureT-loop
 μ-loop sheet most absent n i₀ i = n - i
 
 loop-holds : tie.Need-loop-holds Inv-loop μ-loop
-loop-holds c = passed-none (c .before .args .sheet .now) (c .before .args .most) (c .before .args .absent) (c .before .args .n)
+loop-holds c = passed-none _ _ _ _
 
 number-requires : tie.Need-number-requires Inv-loop μ-loop
 number-requires c κs = search needs
@@ -22,7 +22,7 @@ within-requires : tie.Need-within-requires Inv-loop μ-loop
 within-requires c κs = search needs
 
 returns : tie.Need-returns Inv-loop μ-loop
-returns c = stops (c .before .before .before .before .before .before .args .sheet .now) (c .before .before .before .before .before .before .args .most) (c .before .before .before .before .before .before .args .absent) (c .before .before .before .before .before .before .args .n) (c .before .before .before .before .loop .i) (c .before .before .number .result) (c .before .before .before .before .loop .inv) (c .before .before .before .loop-test .taken) (c .before .before .number .ensures .0) (c .before .within .ensures) (c .if1 .taken)
+returns c = stops _ _ _ _ _ _ (c .before .before .before .before .loop .inv) (c .before .before .before .loop-test .taken) (c .before .before .number .ensures .0) (c .before .within .ensures) (c .if1 .taken)
 
 add-i : tie.Need-add-i Inv-loop μ-loop
 add-i c = omega arith
@@ -31,10 +31,10 @@ loop-less : tie.Need-loop-less Inv-loop μ-loop
 loop-less c = omega arith
 
 loop-again : tie.Need-loop-again Inv-loop μ-loop
-loop-again c = passed-more (c .before .before .before .before .before .before .args .sheet .now) (c .before .before .before .before .before .before .args .most) (c .before .before .before .before .before .before .args .absent) (c .before .before .before .before .before .before .args .n) (c .before .before .before .before .loop .i) (c .before .before .number .result) (c .before .before .before .before .loop .inv) (c .before .before .before .loop-test .taken) (c .before .before .number .ensures .0) (c .before .within .ensures) (c .if1 .left)
+loop-again c = passed-more _ _ _ _ _ _ (c .before .before .before .before .loop .inv) (c .before .before .before .loop-test .taken) (c .before .before .number .ensures .0) (c .before .within .ensures) (c .if1 .left)
 
 returns-2 : tie.Need-returns-2 Inv-loop μ-loop
-returns-2 c = passed-all (c .before .before .before .args .sheet .now) (c .before .before .before .args .most) (c .before .before .before .args .absent) (c .before .before .before .args .n) (c .before .loop .i) (c .before .loop .inv) (c .loop-test .left)
+returns-2 c = passed-all _ _ _ _ _ (c .before .loop .inv) (c .loop-test .left)
 
 pub all-within-spec : {M : Type 1} → statement M
 all-within-spec =
