@@ -35,14 +35,14 @@ fn in_span(sheet: &[u16], k: usize, n: u64, b: u64) -> bool
     ensures { λ r. ⌜ r ≡ Tests.inSpan (now (sheet .entry)) k n b ⌝ }
 {
     let first = number(sheet, k);
-    first <= b && b < first + n
+    (first <= b) & (b < first + n)
 }
 
 // The payload's first byte opens an object.
 pub fn opens(sheet: &[u16], b: u64) -> bool
     ensures { λ r. ⌜ r ≡ Tests.opens (now (sheet .entry)) b ⌝ }
 {
-    number(sheet, K_NEW_OBJECT) <= b && b < number(sheet, K_BACKREF)
+    (number(sheet, K_NEW_OBJECT) <= b) & (b < number(sheet, K_BACKREF))
 }
 
 // An alignment prefix: 1 to 3, or 0 where the byte is none.
@@ -56,6 +56,15 @@ pub fn alignment(sheet: &[u16], b: u64) -> u64
     }
 }
 
+// A deferred entry of a legacy closing section.
+fn is_entry(sheet: &[u16], b: u64) -> bool
+    ensures { λ r. ⌜ r ≡ Tests.isEntry (now (sheet .entry)) b ⌝ }
+{
+    legacy(sheet)
+        & !present(sheet, K_NEW_META_MAP)
+        & in_span(sheet, K_NEW_OBJECT, number_of_spaces(sheet), b)
+}
+
 // What the closing section takes a byte for: kSynchronize, alignment, deferred entry, reference, in this order.
 pub fn closing_entry(sheet: &[u16], b: u64) -> Closing
     ensures { λ r. ⌜ r ≡ Tests.closingOf (now (sheet .entry)) b ⌝ }
@@ -67,12 +76,8 @@ pub fn closing_entry(sheet: &[u16], b: u64) -> Closing
     if a != 0 {
         return Closing::Alignment(a);
     }
-    if legacy(sheet) {
-        if !present(sheet, K_NEW_META_MAP) {
-            if in_span(sheet, K_NEW_OBJECT, number_of_spaces(sheet), b) {
-                return Closing::Deferred(b - number(sheet, K_NEW_OBJECT));
-            }
-        }
+    if is_entry(sheet, b) {
+        return Closing::Deferred(b - number(sheet, K_NEW_OBJECT));
     }
     Closing::Reference
 }

@@ -1,4 +1,5 @@
 // The numbers of a version sheet, and which sheets are usable and plain.
+// Tests are joined by & and |: all of them are safe to make, and a test without branches is its definition's equation.
 use crate::names::K_ALIGNMENT_PREFIX;
 use crate::names::K_BACKREF;
 use crate::names::K_BACKREF_WITH_SKIP;
@@ -121,14 +122,14 @@ pub fn six_x(sheet: &[u16]) -> bool
 pub fn map_first(sheet: &[u16]) -> bool
     ensures { λ r. ⌜ r ≡ Sheet.isMapFirst (now (sheet .entry)) ⌝ }
 {
-    legacy(sheet) && present(sheet, K_NEW_META_MAP)
+    legacy(sheet) & present(sheet, K_NEW_META_MAP)
 }
 
 // At most so much, or absent where that may be.
 fn within(most: u64, absent: bool, x: u64) -> bool
     ensures { λ r. ⌜ r ≡ Sheet.within most absent x ⌝ }
 {
-    x <= most || (absent && x == 65535)
+    (x <= most) | (absent & (x == 65535))
 }
 
 // n numbers from the first on are within.
@@ -148,7 +149,7 @@ fn all_within(sheet: &[u16], most: u64, absent: bool, n: usize) -> bool
 fn between(low: u64, high: u64, x: u64) -> bool
     ensures { λ r. ⌜ r ≡ Sheet.between low high x ⌝ }
 {
-    low <= x && x <= high
+    (low <= x) & (x <= high)
 }
 
 // The first byte after a present name's span is at most 255.
@@ -156,7 +157,7 @@ fn span_fits(sheet: &[u16], k: usize, n: u64) -> bool
     requires { ⌜ n < 65537 ⌝ }
     ensures { λ r. ⌜ r ≡ Sheet.spanFits (now (sheet .entry)) k n ⌝ }
 {
-    !present(sheet, k) || number(sheet, k) + n <= 255
+    !present(sheet, k) | (number(sheet, k) + n <= 255)
 }
 
 fn spans_fit(sheet: &[u16]) -> bool
@@ -164,13 +165,13 @@ fn spans_fit(sheet: &[u16]) -> bool
 {
     let constants = root_mask(sheet) + 1;
     span_fits(sheet, K_HOT_OBJECT, 8)
-        && span_fits(sheet, K_HOT_OBJECT_WITH_SKIP, 8)
-        && span_fits(sheet, K_ROOT_ARRAY_CONSTANTS, constants)
-        && span_fits(sheet, K_ROOT_ARRAY_CONSTANTS_WITH_SKIP, constants)
-        && span_fits(sheet, K_FIXED_RAW_DATA, 32)
-        && span_fits(sheet, K_FIXED_REPEAT, 16)
-        && span_fits(sheet, K_FIXED_REPEAT_ROOT, 16)
-        && span_fits(sheet, K_ALIGNMENT_PREFIX, 3)
+        & span_fits(sheet, K_HOT_OBJECT_WITH_SKIP, 8)
+        & span_fits(sheet, K_ROOT_ARRAY_CONSTANTS, constants)
+        & span_fits(sheet, K_ROOT_ARRAY_CONSTANTS_WITH_SKIP, constants)
+        & span_fits(sheet, K_FIXED_RAW_DATA, 32)
+        & span_fits(sheet, K_FIXED_REPEAT, 16)
+        & span_fits(sheet, K_FIXED_REPEAT_ROOT, 16)
+        & span_fits(sheet, K_ALIGNMENT_PREFIX, 3)
 }
 
 fn legacy_spans_fit(sheet: &[u16]) -> bool
@@ -178,9 +179,9 @@ fn legacy_spans_fit(sheet: &[u16]) -> bool
 {
     let spaces = number_of_spaces(sheet);
     !legacy(sheet)
-        || (span_fits(sheet, K_NEW_OBJECT, spaces)
-            && span_fits(sheet, K_BACKREF, spaces)
-            && span_fits(sheet, K_BACKREF_WITH_SKIP, spaces))
+        | (span_fits(sheet, K_NEW_OBJECT, spaces)
+            & span_fits(sheet, K_BACKREF, spaces)
+            & span_fits(sheet, K_BACKREF_WITH_SKIP, spaces))
 }
 
 // A usable sheet.
@@ -188,15 +189,15 @@ pub fn usable(sheet: &[u16]) -> bool
     ensures { λ r. ⌜ r ≡ Sheet.usable (now (sheet .entry)) ⌝ }
 {
     let word = word_bytes(sheet);
-    sheet.len() == 58
-        && (word == 4 || word == 8)
-        && all_within(sheet, 65534, false, 9)
-        && all_within(sheet, 255, true, 56)
-        && between(1, 16, space_tag_size(sheet))
-        && between(3, 28, page_size_bits(sheet))
-        && (!six_x(sheet) || legacy(sheet))
-        && spans_fit(sheet)
-        && legacy_spans_fit(sheet)
+    (sheet.len() == 58)
+        & ((word == 4) | (word == 8))
+        & all_within(sheet, 65534, false, 9)
+        & all_within(sheet, 255, true, 56)
+        & between(1, 16, space_tag_size(sheet))
+        & between(3, 28, page_size_bits(sheet))
+        & (!six_x(sheet) | legacy(sheet))
+        & spans_fit(sheet)
+        & legacy_spans_fit(sheet)
 }
 
 // A plain sheet.
@@ -204,10 +205,10 @@ pub fn plain(sheet: &[u16]) -> bool
     ensures { λ r. ⌜ r ≡ Sheet.plain (now (sheet .entry)) ⌝ }
 {
     usable(sheet)
-        && !present(sheet, K_SPACE_MASK)
-        && !present(sheet, K_BACKREF_WITH_SKIP)
-        && !present(sheet, K_HOT_OBJECT_WITH_SKIP)
-        && !present(sheet, K_ROOT_ARRAY_CONSTANTS_WITH_SKIP)
-        && !present(sheet, K_SKIP)
-        && !present(sheet, K_DEFERRED)
+        & !present(sheet, K_SPACE_MASK)
+        & !present(sheet, K_BACKREF_WITH_SKIP)
+        & !present(sheet, K_HOT_OBJECT_WITH_SKIP)
+        & !present(sheet, K_ROOT_ARRAY_CONSTANTS_WITH_SKIP)
+        & !present(sheet, K_SKIP)
+        & !present(sheet, K_DEFERRED)
 }

@@ -1,34 +1,29 @@
+-- `alignment` meets its contract. Assumes nothing.
+use mathlib.Core.Path.{sym, _∙_}
+use native.Mathlib.Omega.{arith}
+use Rattle.sheet.specs.Names.{kAlignmentPrefix}
+use Rattle.sheet.proofs.TestsLaws.{span-from, span-below, alignment-in, alignment-out}
 use borrow.Author.Needs.{needs}
 use Rattle.sheet.proofs.tests.alignment.Statement.{statement}
 use Rattle.sheet.proofs.tests.alignment.Tie as tie
-use Rattle.sheet.proofs.tests.alignment.Reads as reads
-use Rattle.sheet.proofs.tests.alignment.Lts as lts
-use Rattle.sheet.proofs.tests.in_span.Reads as in-span-reads
-use Rattle.sheet.proofs.usable.number.Reads as number-reads
 
--- src/tests.rt:52:8
 in-span-requires : tie.Need-in-span-requires
 in-span-requires c κs = search needs
 
--- src/tests.rt:53:13
 number-requires : tie.Need-number-requires
 number-requires c κs = search needs
 
--- src/tests.rt:53:9
 sub-result : tie.Need-sub-result
-sub-result c = ?
+sub-result c = omega (arith, c .number .ensures .0, span-from (c .before .before .before .before .args .sheet .now) kAlignmentPrefix 3 (c .before .before .before .before .args .b) (sym (c .before .before .in-span .ensures) ∙ c .before .if1 .taken))
 
--- src/tests.rt:53:9
 add-result : tie.Need-add-result
-add-result c = ?
+add-result c = omega (arith, c .number .ensures .0, span-below (c .before .before .before .before .args .sheet .now) kAlignmentPrefix 3 (c .before .before .before .before .args .b) (sym (c .before .before .in-span .ensures) ∙ c .before .if1 .taken))
 
--- src/tests.rt:49:1
 returns : tie.Need-returns
-returns c = ?
+returns c = alignment-in _ _ (c .number .ensures .0) (sym (c .before .before .in-span .ensures) ∙ c .before .if1 .taken)
 
--- src/tests.rt:49:1
 returns-2 : tie.Need-returns-2
-returns-2 c = ?
+returns-2 c = alignment-out _ _ (sym (c .before .in-span .ensures) ∙ c .if1 .left)
 
 pub alignment-spec : {M : Type 1} → statement M
 alignment-spec =

@@ -1,71 +1,37 @@
+-- `closing_entry` meets its contract. Assumes nothing.
+use mathlib.Core.Path.{sym, _∙_}
+use native.Mathlib.Omega.{arith}
+use Rattle.sheet.proofs.TestsLaws.{closes, closes-aligned, closes-deferred, closes-other, entry-from}
 use borrow.Author.Needs.{needs}
 use Rattle.sheet.proofs.tests.closing_entry.Statement.{statement}
 use Rattle.sheet.proofs.tests.closing_entry.Tie as tie
-use Rattle.sheet.proofs.tests.closing_entry.Reads as reads
-use Rattle.sheet.proofs.tests.closing_entry.Lts as lts
-use Rattle.sheet.proofs.tests.alignment.Reads as alignment-reads
-use Rattle.sheet.proofs.tests.in_span.Reads as in-span-reads
-use Rattle.sheet.proofs.tests.is_tag.Reads as is-tag-reads
-use Rattle.sheet.proofs.usable.legacy.Reads as legacy-reads
-use Rattle.sheet.proofs.usable.number.Reads as number-reads
-use Rattle.sheet.proofs.usable.number_of_spaces.Reads as number-of-spaces-reads
-use Rattle.sheet.proofs.usable.present.Reads as present-reads
 
--- src/tests.rt:63:8
 is-tag-requires : tie.Need-is-tag-requires
 is-tag-requires c κs = search needs
 
--- src/tests.rt:64:9
 returns : tie.Need-returns
-returns c = ?
+returns c = closes _ _ (sym (c .before .is-tag .ensures) ∙ c .if1 .taken)
 
--- src/tests.rt:66:9
 alignment-requires : tie.Need-alignment-requires
 alignment-requires c κs = search needs
 
--- src/tests.rt:68:9
 returns-2 : tie.Need-returns-2
-returns-2 c = ?
+returns-2 c = closes-aligned _ _ (sym (c .before .before .before .is-tag .ensures) ∙ c .before .before .if1 .left) (c .before .alignment .ensures) (c .if2 .taken)
 
--- src/tests.rt:70:8
-legacy-requires : tie.Need-legacy-requires
-legacy-requires c κs = search needs
+is-entry-requires : tie.Need-is-entry-requires
+is-entry-requires c κs = search needs
 
--- src/tests.rt:71:13
-present-requires : tie.Need-present-requires
-present-requires c κs = search needs
-
--- src/tests.rt:72:45
-number-of-spaces-requires : tie.Need-number-of-spaces-requires
-number-of-spaces-requires c κs = search needs
-
--- src/tests.rt:72:16
-in-span-requires : tie.Need-in-span-requires
-in-span-requires c κs = search needs
-
--- src/tests.rt:73:46
 number-requires : tie.Need-number-requires
 number-requires c κs = search needs
 
--- src/tests.rt:73:42
-sub-t12 : tie.Need-sub-t12
-sub-t12 c = ?
+sub-t8 : tie.Need-sub-t8
+sub-t8 c = omega (arith, c .number .ensures .0, entry-from (c .before .before .before .before .before .before .before .before .args .sheet .now) (c .before .before .before .before .before .before .before .before .args .b) (sym (c .before .before .is-entry .ensures) ∙ c .before .if3 .taken))
 
--- src/tests.rt:73:17
 returns-3 : tie.Need-returns-3
-returns-3 c = ?
+returns-3 c = closes-deferred _ _ (sym (c .before .before .before .before .before .before .is-tag .ensures) ∙ c .before .before .before .before .before .if1 .left) (c .before .before .before .before .alignment .ensures) (c .before .before .before .if2 .left) (sym (c .before .before .is-entry .ensures) ∙ c .before .if3 .taken) (c .number .ensures .0)
 
--- src/tests.rt:60:1
 returns-4 : tie.Need-returns-4
-returns-4 c = ?
-
--- src/tests.rt:60:1
-returns-5 : tie.Need-returns-5
-returns-5 c = ?
-
--- src/tests.rt:60:1
-returns-6 : tie.Need-returns-6
-returns-6 c = ?
+returns-4 c = closes-other _ _ (sym (c .before .before .before .before .before .is-tag .ensures) ∙ c .before .before .before .before .if1 .left) (c .before .before .before .alignment .ensures) (c .before .before .if2 .left) (sym (c .before .is-entry .ensures) ∙ c .if3 .left)
 
 pub closing-entry-spec : {M : Type 1} → statement M
 closing-entry-spec =
@@ -75,13 +41,8 @@ closing-entry-spec =
     returns
     alignment-requires
     returns-2
-    legacy-requires
-    present-requires
-    number-of-spaces-requires
-    in-span-requires
+    is-entry-requires
     number-requires
-    sub-t12
+    sub-t8
     returns-3
-    returns-4
-    returns-5
-    returns-6)
+    returns-4)

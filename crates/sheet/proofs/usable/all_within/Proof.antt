@@ -1,47 +1,40 @@
+-- `all_within` meets its contract. The loop's invariant: the numbers before `i` are within. Assumes nothing.
+use Prim.Native.Nat.{_-_}
+use native.Mathlib.Omega.{arith}
+use borrow.Author.Needs.{needs}
+use Rattle.sheet.proofs.SheetLaws.{Passed, passed-none, passed-more, passed-all, stops}
 use Rattle.sheet.proofs.usable.all_within.Statement.{statement}
 use Rattle.sheet.proofs.usable.all_within.Tie as tie
-use Rattle.sheet.proofs.usable.all_within.Reads as reads
-use Rattle.sheet.proofs.usable.all_within.Lts as lts
-use Rattle.sheet.proofs.usable.number.Reads as number-reads
-use Rattle.sheet.proofs.usable.within.Reads as within-reads
 
 abbrev Inv-loop : tie.InvT-loop
-Inv-loop sheet most absent n i₀ i = ?
+Inv-loop sheet most absent n i₀ i = Passed sheet most absent n i
 
 abbrev μ-loop : tie.MeasureT-loop
-μ-loop sheet most absent n i₀ i = ?
+μ-loop sheet most absent n i₀ i = n - i
 
--- src/usable.rt:139:5
 loop-holds : tie.Need-loop-holds Inv-loop μ-loop
-loop-holds c = ?
+loop-holds c = passed-none _ _ _ _
 
--- src/usable.rt:140:34
 number-requires : tie.Need-number-requires Inv-loop μ-loop
-number-requires c κs = ?
+number-requires c κs = search needs
 
--- src/usable.rt:140:13
 within-requires : tie.Need-within-requires Inv-loop μ-loop
-within-requires c κs = ?
+within-requires c κs = search needs
 
--- src/usable.rt:141:13
 returns : tie.Need-returns Inv-loop μ-loop
-returns c = ?
+returns c = stops _ _ _ _ _ _ (c .before .before .before .before .loop .inv) (c .before .before .before .loop-test .taken) (c .before .before .number .ensures .0) (c .before .within .ensures) (c .if1 .taken)
 
--- src/usable.rt:143:9
 add-i : tie.Need-add-i Inv-loop μ-loop
-add-i c = ?
+add-i c = omega arith
 
--- src/usable.rt:139:5
 loop-less : tie.Need-loop-less Inv-loop μ-loop
-loop-less c = ?
+loop-less c = omega arith
 
--- src/usable.rt:139:5
 loop-again : tie.Need-loop-again Inv-loop μ-loop
-loop-again c = ?
+loop-again c = passed-more _ _ _ _ _ _ (c .before .before .before .before .loop .inv) (c .before .before .before .loop-test .taken) (c .before .before .number .ensures .0) (c .before .within .ensures) (c .if1 .left)
 
--- src/usable.rt:135:1
 returns-2 : tie.Need-returns-2 Inv-loop μ-loop
-returns-2 c = ?
+returns-2 c = passed-all _ _ _ _ _ (c .before .loop .inv) (c .loop-test .left)
 
 pub all-within-spec : {M : Type 1} → statement M
 all-within-spec =

@@ -1,28 +1,24 @@
+-- `number` meets its contract. Assumes nothing.
+use native.Mathlib.Omega.{arith}
+use Rattle.sheet.proofs.SheetLaws.{number-within, number-past}
 use borrow.Author.Needs.{needs}
 use Rattle.sheet.proofs.usable.number.Statement.{statement}
 use Rattle.sheet.proofs.usable.number.Tie as tie
-use Rattle.sheet.proofs.usable.number.Reads as reads
-use Rattle.sheet.proofs.usable.number.Lts as lts
 
--- src/usable.rt:35:9
 mul-result : tie.Need-mul-result
 mul-result c = search needs
 
--- src/usable.rt:35:9
 shared-slice-read-result : tie.Need-shared-slice-read-result
 shared-slice-read-result c = search needs
 
--- src/usable.rt:35:9
 cast-result : tie.Need-cast-result
-cast-result c = ?
+cast-result c = omega (arith, c .shared-slice-known .given (c .before .before .args .k))
 
--- src/usable.rt:31:1
 returns : tie.Need-returns
-returns c = ?
+returns c = (number-within (c .before .before .args .sheet .now) (c .before .before .args .k) (omega arith), omega (arith, c .shared-slice-known .given (c .before .before .args .k)))
 
--- src/usable.rt:31:1
 returns-2 : tie.Need-returns-2
-returns-2 c = ?
+returns-2 c = (number-past (c .before .args .sheet .now) (c .before .args .k) (omega arith), omega arith)
 
 pub number-spec : {M : Type 1} → statement M
 number-spec =

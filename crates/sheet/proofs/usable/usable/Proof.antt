@@ -1,69 +1,45 @@
+-- `usable` meets its contract. Assumes nothing.
+use Rattle.sheet.specs.Sheet.{usable}
 use borrow.Author.Needs.{needs}
 use Rattle.sheet.proofs.usable.usable.Statement.{statement}
 use Rattle.sheet.proofs.usable.usable.Tie as tie
-use Rattle.sheet.proofs.usable.usable.Reads as reads
-use Rattle.sheet.proofs.usable.usable.Lts as lts
-use Rattle.sheet.proofs.usable.all_within.Reads as all-within-reads
-use Rattle.sheet.proofs.usable.between.Reads as between-reads
-use Rattle.sheet.proofs.usable.legacy.Reads as legacy-reads
-use Rattle.sheet.proofs.usable.legacy_spans_fit.Reads as legacy-spans-fit-reads
-use Rattle.sheet.proofs.usable.page_size_bits.Reads as page-size-bits-reads
-use Rattle.sheet.proofs.usable.six_x.Reads as six-x-reads
-use Rattle.sheet.proofs.usable.space_tag_size.Reads as space-tag-size-reads
-use Rattle.sheet.proofs.usable.spans_fit.Reads as spans-fit-reads
-use Rattle.sheet.proofs.usable.word_bytes.Reads as word-bytes-reads
 
--- src/usable.rt:190:9
 word-bytes-requires : tie.Need-word-bytes-requires
 word-bytes-requires c κs = search needs
 
--- src/usable.rt:193:12
 all-within-requires : tie.Need-all-within-requires
 all-within-requires c κs = search needs
 
--- src/usable.rt:194:12
 all-within-requires-2 : tie.Need-all-within-requires-2
 all-within-requires-2 c κs = search needs
 
--- src/usable.rt:195:27
 space-tag-size-requires : tie.Need-space-tag-size-requires
 space-tag-size-requires c κs = search needs
 
--- src/usable.rt:195:12
 between-requires : tie.Need-between-requires
 between-requires c κs = search needs
 
--- src/usable.rt:196:27
 page-size-bits-requires : tie.Need-page-size-bits-requires
 page-size-bits-requires c κs = search needs
 
--- src/usable.rt:196:12
 between-requires-2 : tie.Need-between-requires-2
 between-requires-2 c κs = search needs
 
--- src/usable.rt:197:14
 six-x-requires : tie.Need-six-x-requires
 six-x-requires c κs = search needs
 
--- src/usable.rt:197:30
 legacy-requires : tie.Need-legacy-requires
 legacy-requires c κs = search needs
 
--- src/usable.rt:198:12
 spans-fit-requires : tie.Need-spans-fit-requires
 spans-fit-requires c κs = search needs
 
--- src/usable.rt:199:12
 legacy-spans-fit-requires : tie.Need-legacy-spans-fit-requires
 legacy-spans-fit-requires c κs = search needs
 
--- src/usable.rt:187:1
 returns : tie.Need-returns
-returns c = ?
-
--- src/usable.rt:187:1
-returns-2 : tie.Need-returns-2
-returns-2 c = ?
+unfolding usable
+returns c = rw (c .before .before .before .before .before .before .before .before .before .before .word-bytes .ensures .0, c .before .before .before .before .before .before .before .before .before .all-within .ensures, c .before .before .before .before .before .before .before .before .all-within2 .ensures, c .before .before .before .before .before .before .between .ensures, c .before .before .before .before .before .before .before .space-tag-size .ensures .0, c .before .before .before .before .between2 .ensures, c .before .before .before .before .before .page-size-bits .ensures .0, c .before .before .before .six-x .ensures, c .before .before .legacy .ensures, c .before .spans-fit .ensures, c .legacy-spans-fit .ensures)
 
 pub usable-spec : {M : Type 1} → statement M
 usable-spec =
@@ -80,5 +56,4 @@ usable-spec =
     legacy-requires
     spans-fit-requires
     legacy-spans-fit-requires
-    returns
-    returns-2)
+    returns)

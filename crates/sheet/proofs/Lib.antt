@@ -1,0 +1,3 @@
+pub mod UsableSheet
+pub mod SheetLaws
+pub mod TestsLaws
