@@ -1,4 +1,7 @@
+use mathlib.Core.Path.{refl}
 use borrow.Author.Needs.{needs}
+use Rattle.sheet.specs.Heads.{order}
+use Rattle.sheet.proofs.Order.{is-row}
 use Rattle.sheet.proofs.heads.order_row.Statement.{statement}
 use Rattle.sheet.proofs.heads.order_row.Tie as tie
 use Rattle.sheet.proofs.heads.order_row.Reads as reads
@@ -18,7 +21,8 @@ cast-t15 c = search needs
 
 -- src/heads.rt:85:1
 returns : tie.Need-returns
-returns c = ?
+unfolding order
+returns c = is-row _ _ refl
 
 pub order-row-spec : {M : Type 1} → statement M
 order-row-spec = tie.close (tie.spec mul-row array-read-row cast-t15 returns)
