@@ -16,14 +16,16 @@ both t b kind x = set (set t b kind) (256 + b) x
 
 module _ (t : List ℕ) (b kind x : ℕ) (size : length t ≡ 512) (small : b < 256) where
   both-here : (getD (both t b kind x) b 0 ≡ kind) × (getD (both t b kind x) (256 + b) 0 ≡ x)
-  both-here =
-      (getD-set-other (set t b kind) (256 + b) b x 0 (omega arith) ∙ getD-set-same t b kind 0 (omega arith),
-      getD-set-same (set t b kind) (256 + b) x 0 (simp length-set (omega arith)))
+  both-here = (
+    getD-set-other (set t b kind) (256 + b) b x 0 (omega arith) ∙ getD-set-same t b kind 0 (omega arith),
+    getD-set-same (set t b kind) (256 + b) x 0 (simp length-set (omega arith)),
+  )
 
   both-other : (k : ℕ) → k < 256 → (k ≡ b → ⊥) → Same t (both t b kind x) k
-  both-other k l n =
-      (getD-set-other (set t b kind) (256 + b) k x 0 (omega arith) ∙ getD-set-other t b k kind 0 n,
-      getD-set-other (set t b kind) (256 + b) (256 + k) x 0 (λ e. n (omega arith)) ∙ getD-set-other t b (256 + k) kind 0 (omega arith))
+  both-other k l n = (
+    getD-set-other (set t b kind) (256 + b) k x 0 (omega arith) ∙ getD-set-other t b k kind 0 n,
+    getD-set-other (set t b kind) (256 + b) (256 + k) x 0 (λ e. n (omega arith)) ∙ getD-set-other t b (256 + k) kind 0 (omega arith),
+  )
 
 module _ (t : List ℕ) (first kind rule mask : ℕ) where
   pub assigned-none : (n : ℕ) → n ≡ 0 → Assigned t first n kind rule mask t
@@ -36,9 +38,10 @@ module _ (t : List ℕ) (first kind rule mask : ℕ) where
 
     more-inside : (k : ℕ) → first ≤ k → (k ≡ b) ⊎ (k < b) → (getD (both after b kind x) k 0 ≡ kind) × (getD (both after b kind x) (256 + k) 0 ≡ argumentOf mask rule first k)
     more-inside k h (inl q) =
-        rw q
-        (both-here after b kind x after-size small .0,
-        both-here after b kind x after-size small .1 ∙ e)
+        rw q (
+          both-here after b kind x after-size small .0,
+          both-here after b kind x after-size small .1 ∙ e,
+        )
     more-inside k h (inr l) =
         let s = both-other after b kind x after-size small k (omega arith) (omega arith) in
         let w = d .inside k h (omega arith) in
@@ -53,5 +56,6 @@ module _ (t : List ℕ) (first kind rule mask : ℕ) where
     assigned-more =
         record { size = simp length-set (d .size); inside = λ k h l. more-inside k h (eq-or-lt-of-le (omega arith)); below = λ k h. more-other k (omega arith) (omega arith) (d .below k h); above = λ k h l. more-other k l (omega arith) (d .above k (omega arith) l) }
 
-  pub assigned-all : (after : List ℕ) (m n : ℕ) → m ≡ n → Assigned t first m kind rule mask after → Assigned t first n kind rule mask after
-  assigned-all after m n e d = rw (← e) d
+-- equal numbers, the same assignment
+pub assigned-as : {t after : List ℕ} {first first' n n' kind kind' rule rule' mask mask' : ℕ} → first ≡ first' → n ≡ n' → kind ≡ kind' → rule ≡ rule' → mask ≡ mask' → Assigned t first n kind rule mask after → Assigned t first' n' kind' rule' mask' after
+assigned-as f n k r m d = rw (← f, ← n, ← k, ← r, ← m) d

@@ -1,79 +1,64 @@
+-- `sheet::heads::claim_all` meets its contract. The loop's invariant: the table has the answers of the rows from i on. Assumes nothing.
+use Prim.Native.Nat.{_≤_}
+use native.Mathlib.Omega.{arith}
+use borrow.Author.Needs.{needs}
+use lib.ListN.{drop}
+use Rattle.sheet.specs.Heads.{order}
+use Rattle.sheet.proofs.Answers.{Answers, answers-none, answers-all, step-absent, step-untested, step-claimed}
+use Rattle.sheet.proofs.Spans.{fits}
 use Rattle.sheet.proofs.heads.claim_all.Statement.{statement}
 use Rattle.sheet.proofs.heads.claim_all.Tie as tie
-use Rattle.sheet.proofs.heads.claim_all.Reads as reads
-use Rattle.sheet.proofs.heads.claim_all.Lts as lts
-use Rattle.sheet.proofs.heads.assign.Reads as assign-reads
-use Rattle.sheet.proofs.heads.order_row.Reads as order-row-reads
-use Rattle.sheet.proofs.heads.span_of.Reads as span-of-reads
-use Rattle.sheet.proofs.heads.tested.Reads as tested-reads
-use Rattle.sheet.proofs.usable.number.Reads as number-reads
-use Rattle.sheet.proofs.usable.root_mask.Reads as root-mask-reads
 
 abbrev Inv-loop : tie.InvT-loop
-Inv-loop sheet heads₀ mask i₀ heads i = ?
+Inv-loop sheet heads₀ mask i₀ heads i = (i ≤ 50) × Answers sheet (drop i order) heads
 
 abbrev μ-loop : tie.MeasureT-loop
-μ-loop sheet heads₀ mask i₀ heads i = ?
+μ-loop sheet heads₀ mask i₀ heads i = i
 
--- src/heads.rt:190:9
 root-mask-requires : tie.Need-root-mask-requires Inv-loop μ-loop
-root-mask-requires c κs = ?
+root-mask-requires c κs = search needs
 
--- src/heads.rt:192:5
 loop-holds : tie.Need-loop-holds Inv-loop μ-loop
-loop-holds c = ?
+loop-holds c = (omega arith, answers-none _ _ (c .before .before .pre .1))
 
--- src/heads.rt:193:9
 sub-i : tie.Need-sub-i Inv-loop μ-loop
-sub-i c = ?
+sub-i c = omega arith
 
--- src/heads.rt:194:13
 order-row-requires : tie.Need-order-row-requires Inv-loop μ-loop
-order-row-requires c κs = ?
+order-row-requires c κs = omega arith
 
--- src/heads.rt:195:13
 number-requires : tie.Need-number-requires Inv-loop μ-loop
-number-requires c κs = ?
+number-requires c κs = search needs
 
--- src/heads.rt:197:16
 tested-requires : tie.Need-tested-requires Inv-loop μ-loop
-tested-requires c κs = ?
+tested-requires c κs = search needs
 
--- src/heads.rt:201:21
 span-of-requires : tie.Need-span-of-requires Inv-loop μ-loop
-span-of-requires c κs = ?
+span-of-requires c κs = search needs
 
--- src/heads.rt:198:17
 assign-requires : tie.Need-assign-requires Inv-loop μ-loop
-assign-requires c κs = ?
+assign-requires c κs = (fits (c .before .before .before .before .before .before .before .before .before .before .before .args .sheet .now) _ _ _ _ _ (c .before .before .before .before .before .before .before .before .before .before .before .pre .0) (omega arith) (c .before .before .before .before .before .before .order-row .ensures) (c .before .before .before .before .before .number .ensures .0) (c .before .before .before .before .if1 .taken) (c .before .before .before .tested .ensures) (c .before .before .if2 .taken) (c .span-of .ensures), c .before .before .before .before .before .before .before .before .loop .inv .1 .size)
 
--- src/heads.rt:192:5
 loop-less : tie.Need-loop-less Inv-loop μ-loop
-loop-less c = ?
+loop-less c = omega arith
 
--- src/heads.rt:192:5
 loop-again : tie.Need-loop-again Inv-loop μ-loop
-loop-again c = ?
+loop-again c = (omega arith, step-claimed (c .before .before .before .before .before .before .before .before .before .before .before .before .args .sheet .now) _ _ _ _ (c .before .before .before .before .before .before .before .before .loop-test .taken) (c .before .before .before .before .before .before .before .before .before .loop .inv .0) (c .before .before .before .before .before .before .before .before .before .loop .inv .1) (c .before .before .before .before .before .before .before .order-row .ensures) (c .before .before .before .before .before .before .number .ensures .0) _ (c .before .before .before .before .tested .ensures) _ _ _ (c .before .before .before .before .before .if1 .taken) (c .before .before .before .if2 .taken) (c .before .span-of .ensures) (c .before .before .before .before .before .before .before .before .before .before .root-mask .ensures .0) (c .assign .ensures))
 
--- src/heads.rt:192:5
 loop-less-2 : tie.Need-loop-less-2 Inv-loop μ-loop
-loop-less-2 c = ?
+loop-less-2 c = omega arith
 
--- src/heads.rt:192:5
 loop-again-2 : tie.Need-loop-again-2 Inv-loop μ-loop
-loop-again-2 c = ?
+loop-again-2 c = (omega arith, step-untested (c .before .before .before .before .before .before .before .before .before .args .sheet .now) _ _ _ _ (c .before .before .before .before .before .loop-test .taken) (c .before .before .before .before .before .before .loop .inv .0) (c .before .before .before .before .before .before .loop .inv .1) (c .before .before .before .before .order-row .ensures) (c .before .before .before .number .ensures .0) _ (c .before .tested .ensures) (c .if2 .left))
 
--- src/heads.rt:192:5
 loop-less-3 : tie.Need-loop-less-3 Inv-loop μ-loop
-loop-less-3 c = ?
+loop-less-3 c = omega arith
 
--- src/heads.rt:192:5
 loop-again-3 : tie.Need-loop-again-3 Inv-loop μ-loop
-loop-again-3 c = ?
+loop-again-3 c = (omega arith, step-absent (c .before .before .before .before .before .before .before .args .sheet .now) _ _ _ _ (c .before .before .before .loop-test .taken) (c .before .before .before .before .loop .inv .0) (c .before .before .before .before .loop .inv .1) (c .before .before .order-row .ensures) (c .before .number .ensures .0) (c .if1 .left))
 
--- src/heads.rt:185:1
 returns : tie.Need-returns Inv-loop μ-loop
-returns c = ?
+returns c = answers-all _ _ (c .before .loop .i) (omega arith) (c .before .loop .inv .1)
 
 pub claim-all-spec : {M : Type 1} → statement M
 claim-all-spec =
