@@ -1,5 +1,4 @@
 // What a reference with each head byte is: the 256 answers, made once for a sheet.
-use crate::names::ABSENT;
 use crate::names::K_BACKREF;
 use crate::names::K_FIXED_REPEAT;
 use crate::names::K_NEW_OBJECT;
@@ -10,9 +9,10 @@ use crate::usable::present;
 use crate::usable::root_mask;
 use crate::usable::six_x;
 use crate::usable::usable;
+ghost use mathlib.Core.Bool.{true};
 ghost use mathlib.Core.Path.{_≡_};
-ghost use Prim.Native.Nat.{ℕ, _+_, _<_, _≤_};
-ghost use lib.ListN.{length, getD, replicate};
+ghost use Prim.Native.Nat.{_+_, _<_, _≤_};
+ghost use lib.ListN.{length, replicate};
 ghost use Rattle.sheet.specs.Sheet.{usable as isUsable};
 ghost use Rattle.sheet.specs.Heads.{spanOf, tests, argumentOf, Heads, Decoded};
 ghost use Rattle.sheet.specs.Assigning.{IsRow, Assigned};
@@ -170,7 +170,7 @@ fn argument_of(mask: u64, rule: u64, first: u64, b: u64) -> u64
 
 // n bytes from `first` on get this kind and their arguments.
 fn assign(heads: &mut [u16; 512], first: u64, n: u64, kind: u16, argument: u64, mask: u64)
-    requires { ⌜ first + n ≤ 256 ⌝ }
+    requires { ⌜ (first + n ≤ 256) × (length (now heads) ≡ 512) ⌝ }
     ensures { λ _. ⌜ Assigned (now (heads .entry)) first n kind argument mask (now (heads .exit)) ⌝ }
 {
     let mut b = first;
