@@ -1,29 +1,25 @@
+use mathlib.Core.Path.{_∙_}
+use mathlib.Core.Logic.{⊎-elim}
+use Rattle.alloc.proofs.Laws.{fill-word, fill-double, fill-unaligned, fill-aligned, fill-none}
 use borrow.Author.Needs.{needs}
 use Rattle.alloc.proofs.fill.fill_to_align.Statement.{statement}
 use Rattle.alloc.proofs.fill.fill_to_align.Tie as tie
-use Rattle.alloc.proofs.fill.fill_to_align.Reads as reads
-use Rattle.alloc.proofs.fill.fill_to_align.Lts as lts
-use Rattle.alloc.proofs.fill.max_fill_to_align.Reads as max-fill-to-align-reads
 
--- src/fill.rt:19:13
 returns : tie.Need-returns
-returns c = ?
+returns c = fill-word _ _ _ (c .before .if1 .taken) (c .if2 .taken)
 
--- src/fill.rt:24:13
 max-fill-to-align-requires : tie.Need-max-fill-to-align-requires
 max-fill-to-align-requires c κs = search needs
 
--- src/fill.rt:24:13
 returns-2 : tie.Need-returns-2
-returns-2 c = ?
+returns-2 c = c .max-fill-to-align .ensures ∙ fill-double _ _ _ (c .before .before .if3 .taken) (c .before .if4 .taken)
 
--- src/fill.rt:14:1
 returns-3 : tie.Need-returns-3
-returns-3 c = ?
+returns-3 c = fill-unaligned _ _ _ (c .before .if3 .taken) (c .if4 .left)
 
--- src/fill.rt:14:1
 returns-4 : tie.Need-returns-4
-returns-4 c = ?
+returns-4 c = 
+    ⊎-elim (λ w. fill-aligned _ _ _ (w .0 .taken) (w .1 .left)) (λ w. fill-none _ _ _ (w .left) (c .if3 .left)) (c .before .if1 .came)
 
 pub fill-to-align-spec : {M : Type 1} → statement M
 fill-to-align-spec =

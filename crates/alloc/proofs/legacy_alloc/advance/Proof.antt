@@ -1,25 +1,20 @@
+use native.Mathlib.Omega.{arith}
+use Rattle.alloc.proofs.Laws.{max-fill-bound, advance-size, advance-more}
 use borrow.Author.Needs.{needs}
 use Rattle.alloc.proofs.legacy_alloc.advance.Statement.{statement}
 use Rattle.alloc.proofs.legacy_alloc.advance.Tie as tie
-use Rattle.alloc.proofs.legacy_alloc.advance.Reads as reads
-use Rattle.alloc.proofs.legacy_alloc.advance.Lts as lts
-use Rattle.alloc.proofs.fill.max_fill_to_align.Reads as max-fill-to-align-reads
 
--- src/legacy_alloc.rt:127:16
 max-fill-to-align-requires : tie.Need-max-fill-to-align-requires
 max-fill-to-align-requires c κs = search needs
 
--- src/legacy_alloc.rt:127:9
 add-result : tie.Need-add-result
-add-result c = ?
+add-result c = omega (arith, max-fill-bound (c .before .before .args .word))
 
--- src/legacy_alloc.rt:120:1
 returns : tie.Need-returns
-returns c = ?
+returns c = advance-size _ _ _ (c .if1 .taken)
 
--- src/legacy_alloc.rt:120:1
 returns-2 : tie.Need-returns-2
-returns-2 c = ?
+returns-2 c = rw (c .max-fill-to-align .ensures) (advance-more _ _ _ (c .before .if1 .left))
 
 pub advance-spec : {M : Type 1} → statement M
 advance-spec = tie.close (tie.spec max-fill-to-align-requires add-result returns returns-2)

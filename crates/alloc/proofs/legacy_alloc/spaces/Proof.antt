@@ -1,45 +1,46 @@
+use native.Mathlib.Omega.{arith}
+use mathlib.Core.Path.{_≡_}
+use mathlib.Core.Logic.{⊎-elim}
+use Prim.Native.Nat.{_+_, _-_, _≤_}
+use lib.ListN.{length, drop}
+use Rattle.alloc.specs.Allocation.{spacesOf}
+use Rattle.alloc.proofs.Laws.{spaces-more, spaces-same, spaces-all}
 use Rattle.alloc.proofs.legacy_alloc.spaces.Statement.{statement}
 use Rattle.alloc.proofs.legacy_alloc.spaces.Tie as tie
-use Rattle.alloc.proofs.legacy_alloc.spaces.Reads as reads
-use Rattle.alloc.proofs.legacy_alloc.spaces.Lts as lts
 
 abbrev Inv-loop : tie.InvT-loop
-Inv-loop reservations n₀ i₀ n i = ?
+Inv-loop reservations n₀ i₀ n i = (i ≤ length reservations) × (n ≤ i + 1) × (n + spacesOf (drop i reservations) ≡ spacesOf reservations + 1)
 
 abbrev μ-loop : tie.MeasureT-loop
-μ-loop reservations n₀ i₀ n i = ?
+μ-loop reservations n₀ i₀ n i = length reservations - i
 
--- src/legacy_alloc.rt:38:5
 loop-holds : tie.Need-loop-holds Inv-loop μ-loop
-loop-holds c = ?
+loop-holds c = omega arith
 
--- src/legacy_alloc.rt:39:26
 mul-if1 : tie.Need-mul-if1 Inv-loop μ-loop
-mul-if1 c = ?
+mul-if1 c = omega arith
 
--- src/legacy_alloc.rt:39:26
 shared-slice-read-if1 : tie.Need-shared-slice-read-if1 Inv-loop μ-loop
-shared-slice-read-if1 c = ?
+shared-slice-read-if1 c = omega arith
 
--- src/legacy_alloc.rt:40:13
 add-n : tie.Need-add-n Inv-loop μ-loop
-add-n c = ?
+add-n c = omega arith
 
--- src/legacy_alloc.rt:42:9
 add-i : tie.Need-add-i Inv-loop μ-loop
-add-i c = ?
+add-i c = omega arith
 
--- src/legacy_alloc.rt:38:5
 loop-less : tie.Need-loop-less Inv-loop μ-loop
-loop-less c = ?
+loop-less c = omega arith
 
--- src/legacy_alloc.rt:38:5
 loop-again : tie.Need-loop-again Inv-loop μ-loop
-loop-again c = ?
+loop-again c = 
+    ⊎-elim
+    (λ w. (omega arith, omega arith, spaces-more _ _ _ (c .before .before .before .loop .inv .2) (c .before .before .loop-test .taken) (w .0 .taken) (w .1)))
+    (λ w. (omega arith, omega arith, spaces-same _ _ _ (c .before .before .before .loop .inv .2) (c .before .before .loop-test .taken) (w .0 .left) (w .1)))
+    (c .if1 .came)
 
--- src/legacy_alloc.rt:33:1
 returns : tie.Need-returns Inv-loop μ-loop
-returns c = ?
+returns c = spaces-all _ _ _ (c .before .loop .inv .2) (c .before .loop .inv .0) (c .loop-test .left)
 
 pub spaces-spec : {M : Type 1} → statement M
 spaces-spec =

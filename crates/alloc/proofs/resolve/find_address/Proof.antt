@@ -1,58 +1,52 @@
+use native.Mathlib.Omega.{arith}
+use mathlib.Core.Path.{_≡_, refl}
+use Prim.Native.Nat.{_≤_}
+use Rattle.alloc.specs.Resolve.{addressed}
+use Rattle.alloc.proofs.Laws.{address-here, address-older, address-none}
 use Rattle.alloc.proofs.resolve.find_address.Statement.{statement}
 use Rattle.alloc.proofs.resolve.find_address.Tie as tie
-use Rattle.alloc.proofs.resolve.find_address.Reads as reads
-use Rattle.alloc.proofs.resolve.find_address.Lts as lts
-use Rattle.alloc.proofs.resolve.is_address.Reads as is-address-reads
 
 abbrev Inv-loop : tie.InvT-loop
-Inv-loop table n space chunk offset i₀ i = ?
+Inv-loop table n space chunk offset i₀ i = (i ≤ n) × (addressed table space chunk offset n ≡ addressed table space chunk offset i)
 
 abbrev μ-loop : tie.MeasureT-loop
-μ-loop table n space chunk offset i₀ i = ?
+μ-loop table n space chunk offset i₀ i = i
 
--- src/resolve.rt:31:5
 loop-holds : tie.Need-loop-holds Inv-loop μ-loop
-loop-holds c = ?
+loop-holds c = (omega arith, refl)
 
--- src/resolve.rt:32:9
 sub-i : tie.Need-sub-i Inv-loop μ-loop
-sub-i c = ?
+sub-i c = omega arith
 
--- src/resolve.rt:33:12
 is-address-requires : tie.Need-is-address-requires Inv-loop μ-loop
-is-address-requires c κs = ?
+is-address-requires c κs = omega arith
 
--- src/resolve.rt:34:40
 mul-t9 : tie.Need-mul-t9 Inv-loop μ-loop
-mul-t9 c = ?
+mul-t9 c = omega arith
 
--- src/resolve.rt:34:40
 add-t10 : tie.Need-add-t10 Inv-loop μ-loop
-add-t10 c = ?
+add-t10 c = omega arith
 
--- src/resolve.rt:34:34
 mul-t11 : tie.Need-mul-t11 Inv-loop μ-loop
-mul-t11 c = ?
+mul-t11 c = omega arith
 
--- src/resolve.rt:34:34
 shared-slice-read-t13 : tie.Need-shared-slice-read-t13 Inv-loop μ-loop
-shared-slice-read-t13 c = ?
+shared-slice-read-t13 c = omega arith
 
--- src/resolve.rt:34:13
 returns : tie.Need-returns Inv-loop μ-loop
-returns c = ?
+returns c = 
+    address-here _ _ _ _ _ _ (c .before .before .before .before .loop .inv .1) (c .before .before .before .loop-test .taken) (c .before .before .is-address .ensures) (c .before .if1 .taken)
 
--- src/resolve.rt:31:5
 loop-less : tie.Need-loop-less Inv-loop μ-loop
-loop-less c = ?
+loop-less c = omega arith
 
--- src/resolve.rt:31:5
 loop-again : tie.Need-loop-again Inv-loop μ-loop
-loop-again c = ?
+loop-again c = 
+    (omega arith,
+      address-older _ _ _ _ _ _ (c .before .before .before .loop .inv .1) (c .before .before .loop-test .taken) (c .before .is-address .ensures) (c .if1 .left))
 
--- src/resolve.rt:26:1
 returns-2 : tie.Need-returns-2 Inv-loop μ-loop
-returns-2 c = ?
+returns-2 c = address-none _ _ _ _ _ _ (c .before .loop .inv .1) (omega arith)
 
 pub find-address-spec : {M : Type 1} → statement M
 find-address-spec =

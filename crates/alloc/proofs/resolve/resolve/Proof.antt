@@ -1,45 +1,35 @@
+use native.Mathlib.Omega.{arith}
+use Rattle.alloc.proofs.Laws.{fill-bound, exact, no-filler, after-filler}
 use borrow.Author.Needs.{needs}
 use Rattle.alloc.proofs.resolve.resolve.Statement.{statement}
 use Rattle.alloc.proofs.resolve.resolve.Tie as tie
-use Rattle.alloc.proofs.resolve.resolve.Reads as reads
-use Rattle.alloc.proofs.resolve.resolve.Lts as lts
-use Rattle.alloc.proofs.fill.fill_to_align.Reads as fill-to-align-reads
-use Rattle.alloc.proofs.resolve.find_address.Reads as find-address-reads
 
--- src/resolve.rt:53:9
 find-address-requires : tie.Need-find-address-requires
 find-address-requires c κs = search needs
 
--- src/resolve.rt:55:9
 enum-told : tie.Need-enum-told
 enum-told c = search needs
 
--- src/resolve.rt:55:9
 returns : tie.Need-returns
-returns c = ?
+returns c = exact _ _ _ _ _ _ _ (c .before .before .find-address .ensures) (c .enum-told .given .1)
 
 enum-told-2 : tie.Need-enum-told-2
 enum-told-2 c = search needs
 
--- src/resolve.rt:57:9
 fill-to-align-requires : tie.Need-fill-to-align-requires
 fill-to-align-requires c κs = search needs
 
--- src/resolve.rt:59:9
 returns-2 : tie.Need-returns-2
-returns-2 c = ?
+returns-2 c = no-filler _ _ _ _ _ _ _ (c .before .before .before .before .find-address .ensures) (c .before .before .enum-told2 .given .1) (c .before .fill-to-align .ensures) (c .if1 .taken)
 
--- src/resolve.rt:61:42
 add-find-address : tie.Need-add-find-address
-add-find-address c = ?
+add-find-address c = omega (arith, fill-bound (c .before .before .before .before .before .before .args .offset) (c .before .before .before .before .before .before .args .alignment) (c .before .before .before .before .before .before .args .word) (c .before .before .before .before .before .before .pre .2))
 
--- src/resolve.rt:61:5
 find-address-requires-2 : tie.Need-find-address-requires-2
 find-address-requires-2 c κs = search needs
 
--- src/resolve.rt:41:1
 returns-3 : tie.Need-returns-3
-returns-3 c = ?
+returns-3 c = after-filler _ _ _ _ _ _ _ (c .before .before .before .before .before .find-address .ensures) (c .before .before .before .enum-told2 .given .1) (c .before .before .fill-to-align .ensures) (c .before .if1 .left) (c .find-address2 .ensures)
 
 pub resolve-spec : {M : Type 1} → statement M
 resolve-spec =

@@ -1,69 +1,63 @@
+use native.Mathlib.Omega.{arith}
+use mathlib.Core.Path.{_≡_}
+use mathlib.Core.Logic.{⊎-elim}
+use Prim.Native.Nat.{_-_, _≤_}
+use Rattle.alloc.specs.Resolve.{ordinalFrom}
+use Rattle.alloc.proofs.Laws.{ordinal-start, ordinal-here, ordinal-less, ordinal-other, ordinal-none}
 use Rattle.alloc.proofs.resolve.resolve_ordinal.Statement.{statement}
 use Rattle.alloc.proofs.resolve.resolve_ordinal.Tie as tie
-use Rattle.alloc.proofs.resolve.resolve_ordinal.Reads as reads
-use Rattle.alloc.proofs.resolve.resolve_ordinal.Lts as lts
 
 abbrev Inv-loop : tie.InvT-loop
-Inv-loop table n space index left₀ i₀ left i = ?
+Inv-loop table n space index left₀ i₀ left i = (i ≤ n) × (ordinalFrom table space index 0 n ≡ ordinalFrom table space left i (n - i))
 
 abbrev μ-loop : tie.MeasureT-loop
-μ-loop table n space index left₀ i₀ left i = ?
+μ-loop table n space index left₀ i₀ left i = n - i
 
--- src/resolve.rt:71:5
 loop-holds : tie.Need-loop-holds Inv-loop μ-loop
-loop-holds c = ?
+loop-holds c = (omega arith, ordinal-start _ _ _ _)
 
--- src/resolve.rt:72:18
 mul-if1 : tie.Need-mul-if1 Inv-loop μ-loop
-mul-if1 c = ?
+mul-if1 c = omega arith
 
--- src/resolve.rt:72:12
 mul-if1-2 : tie.Need-mul-if1-2 Inv-loop μ-loop
-mul-if1-2 c = ?
+mul-if1-2 c = omega arith
 
--- src/resolve.rt:72:12
 shared-slice-read-if1 : tie.Need-shared-slice-read-if1 Inv-loop μ-loop
-shared-slice-read-if1 c = ?
+shared-slice-read-if1 c = omega arith
 
--- src/resolve.rt:74:44
 mul-t13 : tie.Need-mul-t13 Inv-loop μ-loop
-mul-t13 c = ?
+mul-t13 c = omega arith
 
--- src/resolve.rt:74:44
 add-t14 : tie.Need-add-t14 Inv-loop μ-loop
-add-t14 c = ?
+add-t14 c = omega arith
 
--- src/resolve.rt:74:38
 mul-t15 : tie.Need-mul-t15 Inv-loop μ-loop
-mul-t15 c = ?
+mul-t15 c = omega arith
 
--- src/resolve.rt:74:38
 shared-slice-read-t17 : tie.Need-shared-slice-read-t17 Inv-loop μ-loop
-shared-slice-read-t17 c = ?
+shared-slice-read-t17 c = omega arith
 
--- src/resolve.rt:74:17
 returns : tie.Need-returns Inv-loop μ-loop
-returns c = ?
+returns c = ordinal-here _ _ _ _ _ _ (c .before .before .before .before .before .loop .inv .1) (c .before .before .before .before .loop-test .taken) (c .before .before .if1 .taken) (c .before .if2 .taken)
 
--- src/resolve.rt:76:13
 sub-left : tie.Need-sub-left Inv-loop μ-loop
-sub-left c = ?
+sub-left c = omega arith
 
--- src/resolve.rt:78:9
 add-i : tie.Need-add-i Inv-loop μ-loop
-add-i c = ?
+add-i c = omega arith
 
--- src/resolve.rt:71:5
 loop-less : tie.Need-loop-less Inv-loop μ-loop
-loop-less c = ?
+loop-less c = omega arith
 
--- src/resolve.rt:71:5
 loop-again : tie.Need-loop-again Inv-loop μ-loop
-loop-again c = ?
+loop-again c = 
+    ⊎-elim
+    (λ w. (omega arith, rw (w .2) (ordinal-less _ _ _ _ _ _ (c .before .before .before .loop .inv .1) (c .before .before .loop-test .taken) (w .0 .taken) (w .1 .left))))
+    (λ w. (omega arith, rw (w .1) (ordinal-other _ _ _ _ _ _ (c .before .before .before .loop .inv .1) (c .before .before .loop-test .taken) (w .0 .left))))
+    (c .if1 .came)
 
--- src/resolve.rt:65:1
 returns-2 : tie.Need-returns-2 Inv-loop μ-loop
-returns-2 c = ?
+returns-2 c = ordinal-none _ _ _ _ _ _ (c .before .loop .inv .1) (c .loop-test .left)
 
 pub resolve-ordinal-spec : {M : Type 1} → statement M
 resolve-ordinal-spec =

@@ -1,116 +1,108 @@
+use mir.Syntax.{w32, w64}
+use mir.Val.{Fits}
+use Prim.Native.Nat.{_+_}
+use mathlib.Core.Path.{_∙_}
+use mathlib.Core.Logic.{⊎-elim}
+use native.Mathlib.Omega.{arith}
+use borrow.Author.Tests.{ltb-false}
+use lib.ListN.{getD}
+use Rattle.alloc.proofs.Laws.{fill-bound, advance-bound, kept, no-room, size-over, not-placed, address-over, free-over, is-placed}
 use borrow.Author.Needs.{needs}
 use Rattle.alloc.proofs.legacy_alloc.LegacyAlloc.allocate.Statement.{statement}
 use Rattle.alloc.proofs.legacy_alloc.LegacyAlloc.allocate.Tie as tie
-use Rattle.alloc.proofs.legacy_alloc.LegacyAlloc.allocate.Reads as reads
-use Rattle.alloc.proofs.legacy_alloc.LegacyAlloc.allocate.Lts as lts
-use Rattle.alloc.proofs.fill.fill_to_align.Reads as fill-to-align-reads
-use Rattle.alloc.proofs.legacy_alloc.advance.Reads as advance-reads
-use Rattle.alloc.proofs.legacy_alloc.refused.Reads as refused-reads
-use Rattle.tables.proofs.records.add_address.Reads as add-address-reads
 
--- src/legacy_alloc.rt:80:13
+-- a counter is a number of 32 bits
+used-fits : (c : tie.Start) → Fits w32 (getD (c .args .t1 .used) (c .args .want .space) 0)
+used-fits c = search needs
+
+cur-fits : (c : tie.Start) → Fits w64 (getD (c .args .t1 .cur) (c .args .want .space) 0)
+cur-fits c = search needs
+
 refused-requires : tie.Need-refused-requires
 refused-requires c κs = search needs
 
--- src/legacy_alloc.rt:80:13
 returns : tie.Need-returns
-returns c = ?
+returns c = kept _ _ (c .refused .ensures) ∙ no-room _ _ _ _ _ (c .before .if1 .taken)
 
--- src/legacy_alloc.rt:83:13
 refused-requires-2 : tie.Need-refused-requires-2
 refused-requires-2 c κs = search needs
 
--- src/legacy_alloc.rt:83:13
 returns-2 : tie.Need-returns-2
-returns-2 c = ?
+returns-2 c = kept _ _ (c .refused2 .ensures) ∙ size-over _ _ _ _ _ (c .before .before .before .if1 .left) (c .before .if2 .taken)
 
--- src/legacy_alloc.rt:86:13
 add-address-requires : tie.Need-add-address-requires
 add-address-requires c κs = search needs
 
--- src/legacy_alloc.rt:87:13
 refused-requires-3 : tie.Need-refused-requires-3
 refused-requires-3 c κs = search needs
 
--- src/legacy_alloc.rt:87:13
 same-length : tie.Need-same-length
 same-length c = search needs
 
--- src/legacy_alloc.rt:87:13
 returns-3 : tie.Need-returns-3
-returns-3 c = ?
+returns-3 c = 
+    kept _ _ (c .refused3 .ensures)
+    ∙ not-placed _ _ _ _ _ (c .before .before .before .before .before .before .before .before .before .if1 .left) (c .before .before .before .before .before .before .before .if2 .left) (c .before .before .before .before .before .if3 .taken) (c .before .before .before .add-address .ensures)
 
--- src/legacy_alloc.rt:90:20
 mul-used : tie.Need-mul-used
 mul-used c = search needs
 
--- src/legacy_alloc.rt:90:20
 element-copy-out-used : tie.Need-element-copy-out-used
 element-copy-out-used c = search needs
 
--- src/legacy_alloc.rt:90:20
 cast-used : tie.Need-cast-used
 cast-used c = search needs
 
--- src/legacy_alloc.rt:91:29
 fill-to-align-requires : tie.Need-fill-to-align-requires
 fill-to-align-requires c κs = search needs
 
--- src/legacy_alloc.rt:91:22
 add-offset : tie.Need-add-offset
-add-offset c = ?
+add-offset c = let a = c .before .before .before .before .before .before .before .before .args in omega (arith, used-fits (c .before .before .before .before .before .before .before .before), fill-bound (getD (a .t1 .used) (a .want .space) 0) (a .want .alignment) (a .want .word) (c .before .before .before .before .before .before .before .before .pre .1))
 
--- src/legacy_alloc.rt:92:27
 advance-requires : tie.Need-advance-requires
 advance-requires c κs = search needs
 
--- src/legacy_alloc.rt:92:20
 add-free : tie.Need-add-free
-add-free c = ?
+add-free c = let a = c .before .before .before .before .before .before .before .before .before .args in omega (arith, used-fits (c .before .before .before .before .before .before .before .before .before), advance-bound (a .want .size) (a .want .alignment) (a .want .word))
 
--- src/legacy_alloc.rt:94:13
 refused-requires-4 : tie.Need-refused-requires-4
 refused-requires-4 c κs = search needs
 
--- src/legacy_alloc.rt:94:13
 returns-4 : tie.Need-returns-4
-returns-4 c = ?
+returns-4 c = 
+    kept _ _ (c .refused4 .ensures)
+    ∙ ⊎-elim
+    (λ w. address-over _ _ _ _ _ (c .before .before .before .before .before .before .before .before .before .if1 .left) (c .before .before .before .before .before .before .before .if2 .left) (c .before .before .before .before .before .if3 .left) (c .before .before .before .fill-to-align .ensures) (c .before .before .advance .ensures) (w .taken))
+    (λ w. free-over _ _ _ _ _ (c .before .before .before .before .before .before .before .before .before .if1 .left) (c .before .before .before .before .before .before .before .if2 .left) (c .before .before .before .before .before .if3 .left) (c .before .before .before .fill-to-align .ensures) (c .before .before .advance .ensures) (w .0 .left) (w .1 .taken))
+    (c .before .if4 .came)
 
--- src/legacy_alloc.rt:96:21
 mul-chunk : tie.Need-mul-chunk
 mul-chunk c = search needs
 
--- src/legacy_alloc.rt:96:21
 element-copy-out-chunk : tie.Need-element-copy-out-chunk
 element-copy-out-chunk c = search needs
 
--- src/legacy_alloc.rt:96:21
 cast-chunk : tie.Need-cast-chunk
-cast-chunk c = ?
+cast-chunk c = cur-fits (c .before .before .before .before .before .before .before .before .before .before .before .before)
 
--- src/legacy_alloc.rt:97:9
 add-address-requires-2 : tie.Need-add-address-requires-2
 add-address-requires-2 c κs = search needs
 
--- src/legacy_alloc.rt:99:24
 cast-next : tie.Need-cast-next
-cast-next c = ?
+cast-next c = let a = c .before .before .before .before .before .before .before .before .before .before .before .before .before .before .before .before .args in omega (arith, ltb-false 4294967295 (getD (a .t1 .used) (a .want .space) 0 + c .before .before .before .before .before .before .before .advance .result) (c .before .before .before .before .before .if5 .left))
 
--- src/legacy_alloc.rt:99:9
 mul-next : tie.Need-mul-next
 mul-next c = search needs
 
--- src/legacy_alloc.rt:99:9
 element-write-next : tie.Need-element-write-next
 element-write-next c = search needs
 
--- src/legacy_alloc.rt:75:5
 same-length-2 : tie.Need-same-length-2
 same-length-2 c = search needs
 
--- src/legacy_alloc.rt:75:5
 returns-5 : tie.Need-returns-5
-returns-5 c = ?
+returns-5 c = 
+    is-placed _ _ _ _ _ (c .before .before .before .before .before .before .before .before .before .before .before .before .before .before .if1 .left) (c .before .before .before .before .before .before .before .before .before .before .before .before .if2 .left) (c .before .before .before .before .before .before .before .before .before .before .if3 .left) (c .before .before .before .before .before .before .before .before .fill-to-align .ensures) (c .before .before .before .before .before .before .before .advance .ensures) (c .before .before .before .before .before .before .if4 .left) (c .before .before .before .before .before .if5 .left) (c .before .before .add-address2 .ensures)
 
 pub allocate-spec : {M : Type 1} → statement M
 allocate-spec =
