@@ -137,8 +137,8 @@ module _ (t : List ℕ) (n spaces : ℕ) (want : Request) (c : LegacyAlloc) wher
       not-placed g p = rw (put-roomy p, lt-leb (room 5 t) n h, le-ltb 4294967295 (want .size) l, le-leb spaces (want .space) g)
 
       module _ (g : want .space < spaces) {fill advance : ℕ}
-        (f : fill ≡ fillToAlign (getD (c .used) (want .space) 0) (want .alignment) (want .word))
-        (a : advance ≡ advanceOf (want .size) (want .alignment) (want .word)) where
+          (f : fill ≡ fillToAlign (getD (c .used) (want .space) 0) (want .alignment) (want .word))
+          (a : advance ≡ advanceOf (want .size) (want .alignment) (want .word)) where
         in-counters : placed t n want c (getD (c .used) (want .space) 0) ≡ allocateOf t n spaces want c
         unfolding allocateOf
         in-counters = rw (lt-leb (room 5 t) n h, le-ltb 4294967295 (want .size) l, lt-leb spaces (want .space) g)

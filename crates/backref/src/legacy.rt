@@ -13,6 +13,7 @@ use sheet::usable::word_bytes;
 use stream::putint::Int;
 use stream::putint::putint;
 use tables::values::Ref;
+ghost use mathlib.Core.Bool.{true};
 ghost use mathlib.Core.Path.{_≡_};
 ghost use Prim.Native.Nat.{_+_, _^_, _<_, _≤_};
 ghost use lib.ListN.{length};

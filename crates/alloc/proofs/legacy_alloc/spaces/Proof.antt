@@ -33,7 +33,7 @@ loop-less : tie.Need-loop-less Inv-loop μ-loop
 loop-less c = omega arith
 
 loop-again : tie.Need-loop-again Inv-loop μ-loop
-loop-again c = 
+loop-again c =
     ⊎-elim
     (λ w. (omega arith, omega arith, spaces-more _ _ _ (c .before .before .before .loop .inv .2) (c .before .before .loop-test .taken) (w .0 .taken) (w .1)))
     (λ w. (omega arith, omega arith, spaces-same _ _ _ (c .before .before .before .loop .inv .2) (c .before .before .loop-test .taken) (w .0 .left) (w .1)))

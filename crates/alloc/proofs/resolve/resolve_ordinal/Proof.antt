@@ -50,7 +50,7 @@ loop-less : tie.Need-loop-less Inv-loop μ-loop
 loop-less c = omega arith
 
 loop-again : tie.Need-loop-again Inv-loop μ-loop
-loop-again c = 
+loop-again c =
     ⊎-elim
     (λ w. (omega arith, rw (w .2) (ordinal-less _ _ _ _ _ _ (c .before .before .before .loop .inv .1) (c .before .before .loop-test .taken) (w .0 .taken) (w .1 .left))))
     (λ w. (omega arith, rw (w .1) (ordinal-other _ _ _ _ _ _ (c .before .before .before .loop .inv .1) (c .before .before .loop-test .taken) (w .0 .left))))
