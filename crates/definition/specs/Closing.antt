@@ -15,7 +15,7 @@ use Rattle.tables.specs.declared.values.SlotValue.the-variants.{Ref as IsRef, R
 use Rattle.tables.specs.declared.values.Fields.{Fields}
 use Rattle.tables.specs.Values.{pickℕ, triple, fieldsOf, widthOf}
 use Rattle.tables.specs.Records.{field}
-use Rattle.definition.specs.Memory.{Input, word, inSlot, dropped, value, Table, Mem, Out, got, no, Reader, _>>=_, _>>_, choose, give, change, refuse, refuseAt, moved, aligned, tell, byte, int}
+use Rattle.definition.specs.Memory.{Input, word, inSlot, dropped, value, synchronize, Table, Mem, Out, got, no, Reader, _>>=_, _>>_, choose, give, change, refuse, refuseAt, moved, aligned, tell, byte, int}
 use Rattle.definition.specs.Slots.{addSlot}
 use Rattle.definition.specs.Object.{peek}
 use Rattle.definition.specs.Reference.{legacyReference, refAt}
@@ -96,7 +96,7 @@ afterEntry x k (got v m) = k m
 afterEntry x k (no n q m) = choose (endsLegacy x n) (give tt) (refuseAt n q) m
 
 abbrev pub byEntry : Input → Reader (Unit {0}) → Closing → Reader (Unit {0})
-byEntry x k Synchronize m = (byte x >> give tt) m
+byEntry x k Synchronize m = (tell (synchronize (m .at)) >> byte x >> give tt) m
 byEntry x k (Alignment a) m = (byte x >> change (aligned a) >> k) m
 byEntry x k (Deferred space) m = afterEntry x k (entry x space m)
 byEntry x k Reference m = afterEntry x k (dropReference x m)

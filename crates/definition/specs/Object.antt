@@ -120,7 +120,7 @@ flagObject x o v = choose (flags x v) (change (λ m. withObjects (flagged o (m .
 
 -- slot 0 is the map, whatever its value: one word
 unfoldable pub keepMap : Input → ℕ → SlotValue → Reader (Unit {0})
-keepMap x o v = flagObject x o v >> addSlot o 0 (fieldsOf v) 0 inMap >> tell (item o 0 (word x))
+keepMap x o v = flagObject x o v >> addSlot o 0 (fieldsOf v) 0 inMap >>= (λ k. tell (item o 0 (word x) k))
 
 -- ---- resolves and items
 

@@ -83,8 +83,8 @@ keepItem x o done v m =
     let start : ℕ = done + m .skip in
     let end : ℕ = start + widthOf (word x) v in
     (addSlot o (start / word x) (fieldsOf v) (waitsOf v) inSlot
+    >>= (λ k. tell (item o start (widthOf (word x) v) k))
     >> change (withSkip 0)
-    >> tell (item o start (widthOf (word x) v))
     >> give end) m
 
 -- the value of the previous slot, the newest slot record
