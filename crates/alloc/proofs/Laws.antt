@@ -1,13 +1,13 @@
 -- Each definition at each way out of the code that cites it. Assumes nothing.
-use mathlib.Core.Path.{_≡_, refl, sym, ap, _∙_}
-use mathlib.Core.Bool.{Bool, true, false, not, _&&_, _||_}
-use mathlib.Core.List.{List, [], _∷_}
-use Prim.Native.Nat.{ℕ, zero, suc, _+_, _-_, _*_, _%_, _^_, _<_, _≤_}
+use mathlib.Core.Path.{_≡_, refl, sym}
+use mathlib.Core.Bool.{Bool, true, false, not, _&&_}
+use mathlib.Core.List.{List}
+use Prim.Native.Nat.{ℕ, zero, suc, _+_, _-_, _*_, _%_, _<_, _≤_}
 use native.Mathlib.Nat.{add-zero}
 use native.Mathlib.Numerals.{add-one}
 use native.Mathlib.Omega.{arith}
-use borrow.Author.Tests.{lt-ltb, le-ltb, le-leb, lt-leb, eq-eqb, ne-eqb, ltb-true, ltb-false}
-use lib.Dec.{leb, ltb, eqb}
+use borrow.Author.Tests.{lt-ltb, le-ltb, le-leb, lt-leb, eq-eqb, ne-eqb}
+use lib.Dec.{ltb, eqb}
 use lib.ListN.{length, getD, set, drop}
 use lib.Seq.{drop-cons, drop-length}
 use Rattle.tables.specs.Records.{room, field, Put, written, addressRow}
@@ -137,8 +137,8 @@ module _ (t : List ℕ) (n spaces : ℕ) (want : Request) (c : LegacyAlloc) wher
       not-placed g p = rw (put-roomy p, lt-leb (room 5 t) n h, le-ltb 4294967295 (want .size) l, le-leb spaces (want .space) g)
 
       module _ (g : want .space < spaces) {fill advance : ℕ}
-        (f : fill ≡ fillToAlign (getD (c .used) (want .space) 0) (want .alignment) (want .word))
-        (a : advance ≡ advanceOf (want .size) (want .alignment) (want .word)) where
+          (f : fill ≡ fillToAlign (getD (c .used) (want .space) 0) (want .alignment) (want .word))
+          (a : advance ≡ advanceOf (want .size) (want .alignment) (want .word)) where
         in-counters : placed t n want c (getD (c .used) (want .space) 0) ≡ allocateOf t n spaces want c
         unfolding allocateOf
         in-counters = rw (lt-leb (room 5 t) n h, le-ltb 4294967295 (want .size) l, lt-leb spaces (want .space) g)

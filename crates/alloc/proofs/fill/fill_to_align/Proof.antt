@@ -1,7 +1,7 @@
-use mathlib.Core.Path.{_∙_}
 use mathlib.Core.Logic.{⊎-elim}
-use Rattle.alloc.proofs.Laws.{fill-word, fill-double, fill-unaligned, fill-aligned, fill-none}
+use mathlib.Core.Path.{_∙_}
 use borrow.Author.Needs.{needs}
+use Rattle.alloc.proofs.Laws.{fill-word, fill-double, fill-unaligned, fill-aligned, fill-none}
 use Rattle.alloc.proofs.fill.fill_to_align.Statement.{statement}
 use Rattle.alloc.proofs.fill.fill_to_align.Tie as tie
 
@@ -18,7 +18,7 @@ returns-3 : tie.Need-returns-3
 returns-3 c = fill-unaligned _ _ _ (c .before .if3 .taken) (c .if4 .left)
 
 returns-4 : tie.Need-returns-4
-returns-4 c = 
+returns-4 c =
     ⊎-elim (λ w. fill-aligned _ _ _ (w .0 .taken) (w .1 .left)) (λ w. fill-none _ _ _ (w .left) (c .if3 .left)) (c .before .if1 .came)
 
 pub fill-to-align-spec : {M : Type 1} → statement M

@@ -1,7 +1,7 @@
-use native.Mathlib.Omega.{arith}
-use mathlib.Core.Path.{_≡_}
 use mathlib.Core.Logic.{⊎-elim}
+use mathlib.Core.Path.{_≡_}
 use Prim.Native.Nat.{_+_, _-_, _≤_}
+use native.Mathlib.Omega.{arith}
 use lib.ListN.{length, drop}
 use Rattle.alloc.specs.Allocation.{spacesOf}
 use Rattle.alloc.proofs.Laws.{spaces-more, spaces-same, spaces-all}
@@ -33,7 +33,7 @@ loop-less : tie.Need-loop-less Inv-loop μ-loop
 loop-less c = omega arith
 
 loop-again : tie.Need-loop-again Inv-loop μ-loop
-loop-again c = 
+loop-again c =
     ⊎-elim
     (λ w. (omega arith, omega arith, spaces-more _ _ _ (c .before .before .before .loop .inv .2) (c .before .before .loop-test .taken) (w .0 .taken) (w .1)))
     (λ w. (omega arith, omega arith, spaces-same _ _ _ (c .before .before .before .loop .inv .2) (c .before .before .loop-test .taken) (w .0 .left) (w .1)))
