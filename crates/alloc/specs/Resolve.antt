@@ -12,6 +12,10 @@ abbrev pub pickFound : Bool → Found → Found → Found
 pickFound true a b = a
 pickFound false a b = b
 
+abbrev pub orElse : Found → Found → Found
+orElse (Object o) other = Object o
+orElse Nothing other = other
+
 -- address record k is placed at this address
 abbrev pub isAddress : List ℕ → ℕ → ℕ → ℕ → ℕ → Bool
 isAddress t space chunk offset k =
@@ -22,10 +26,6 @@ unfoldable pub addressed : List ℕ → ℕ → ℕ → ℕ → ℕ → Found
 addressed t space chunk offset zero = Nothing
 addressed t space chunk offset (suc n) =
     pickFound (isAddress t space chunk offset n) (Object (field 5 t n 3)) (addressed t space chunk offset n)
-
-abbrev pub orElse : Found → Found → Found
-orElse (Object o) other = Object o
-orElse Nothing other = other
 
 -- the exact address is tried first, then the one after the filler of the pending alignment (difference D29: V8 takes the latter alone)
 unfoldable pub resolveOf : List ℕ → ℕ → ℕ → ℕ → ℕ → ℕ → ℕ → Found

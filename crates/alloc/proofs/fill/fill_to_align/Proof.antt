@@ -1,7 +1,7 @@
-use mathlib.Core.Path.{_∙_}
 use mathlib.Core.Logic.{⊎-elim}
-use Rattle.alloc.proofs.Laws.{fill-word, fill-double, fill-unaligned, fill-aligned, fill-none}
+use mathlib.Core.Path.{_∙_}
 use borrow.Author.Needs.{needs}
+use Rattle.alloc.proofs.Laws.{fill-word, fill-double, fill-unaligned, fill-aligned, fill-none}
 use Rattle.alloc.proofs.fill.fill_to_align.Statement.{statement}
 use Rattle.alloc.proofs.fill.fill_to_align.Tie as tie
 

@@ -1,6 +1,6 @@
 use native.Mathlib.Omega.{arith}
-use Rattle.alloc.proofs.Laws.{max-fill-bound, advance-size, advance-more}
 use borrow.Author.Needs.{needs}
+use Rattle.alloc.proofs.Laws.{max-fill-bound, advance-size, advance-more}
 use Rattle.alloc.proofs.legacy_alloc.advance.Statement.{statement}
 use Rattle.alloc.proofs.legacy_alloc.advance.Tie as tie
 

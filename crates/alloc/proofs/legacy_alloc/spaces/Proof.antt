@@ -1,7 +1,7 @@
-use native.Mathlib.Omega.{arith}
-use mathlib.Core.Path.{_≡_}
 use mathlib.Core.Logic.{⊎-elim}
+use mathlib.Core.Path.{_≡_}
 use Prim.Native.Nat.{_+_, _-_, _≤_}
+use native.Mathlib.Omega.{arith}
 use lib.ListN.{length, drop}
 use Rattle.alloc.specs.Allocation.{spacesOf}
 use Rattle.alloc.proofs.Laws.{spaces-more, spaces-same, spaces-all}

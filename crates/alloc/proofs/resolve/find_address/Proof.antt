@@ -1,6 +1,6 @@
-use native.Mathlib.Omega.{arith}
 use mathlib.Core.Path.{_≡_, refl}
 use Prim.Native.Nat.{_≤_}
+use native.Mathlib.Omega.{arith}
 use Rattle.alloc.specs.Resolve.{addressed}
 use Rattle.alloc.proofs.Laws.{address-here, address-older, address-none}
 use Rattle.alloc.proofs.resolve.find_address.Statement.{statement}
@@ -35,7 +35,8 @@ shared-slice-read-t13 c = omega arith
 
 returns : tie.Need-returns Inv-loop μ-loop
 returns c =
-    address-here _ _ _ _ _ _ (c .before .before .before .before .loop .inv .1) (c .before .before .before .loop-test .taken) (c .before .before .is-address .ensures) (c .before .if1 .taken)
+    address-here _ _ _ _ _ _ (c .before .before .before .before .loop .inv .1) (c .before .before .before .loop-test .taken) (c .before .before .is-address .ensures)
+    (c .before .if1 .taken)
 
 loop-less : tie.Need-loop-less Inv-loop μ-loop
 loop-less c = omega arith
@@ -43,7 +44,8 @@ loop-less c = omega arith
 loop-again : tie.Need-loop-again Inv-loop μ-loop
 loop-again c = (
   omega arith,
-  address-older _ _ _ _ _ _ (c .before .before .before .loop .inv .1) (c .before .before .loop-test .taken) (c .before .is-address .ensures) (c .if1 .left),
+  address-older _ _ _ _ _ _ (c .before .before .before .loop .inv .1) (c .before .before .loop-test .taken) (c .before .is-address .ensures)
+      (c .if1 .left),
 )
 
 returns-2 : tie.Need-returns-2 Inv-loop μ-loop

@@ -1,7 +1,7 @@
-use mathlib.Core.Path.{_≡_, refl}
 use mathlib.Core.Logic.{⊎-elim}
-use Rattle.alloc.proofs.Laws.{and-true, and-false, two, three, same-space, other-space}
+use mathlib.Core.Path.{_≡_, refl}
 use borrow.Author.Needs.{needs}
+use Rattle.alloc.proofs.Laws.{and-true, and-false, two, three, same-space, other-space}
 use Rattle.alloc.proofs.resolve.is_address.Statement.{statement}
 use Rattle.alloc.proofs.resolve.is_address.Tie as tie
 
@@ -62,7 +62,8 @@ flag-two c =
 
 flag-three : (c : tie.Joined2)
     → c .if2 .if3
-    ≡ three (c .before .before .before .args .table .now) (c .before .before .before .args .space) (c .before .before .before .args .chunk) (c .before .before .before .args .offset) (c .before .before .before .args .i)
+    ≡ three (c .before .before .before .args .table .now) (c .before .before .before .args .space) (c .before .before .before .args .chunk)
+    (c .before .before .before .args .offset) (c .before .before .before .args .i)
 flag-three c =
     ⊎-elim
     (λ w. and-true (flag-two (c .before)) (w .0 .taken) (w .2))

@@ -1,7 +1,7 @@
-use native.Mathlib.Omega.{arith}
-use mathlib.Core.Path.{_≡_}
 use mathlib.Core.Logic.{⊎-elim}
+use mathlib.Core.Path.{_≡_}
 use Prim.Native.Nat.{_-_, _≤_}
+use native.Mathlib.Omega.{arith}
 use Rattle.alloc.specs.Resolve.{ordinalFrom}
 use Rattle.alloc.proofs.Laws.{ordinal-start, ordinal-here, ordinal-less, ordinal-other, ordinal-none}
 use Rattle.alloc.proofs.resolve.resolve_ordinal.Statement.{statement}
@@ -38,7 +38,9 @@ shared-slice-read-t17 : tie.Need-shared-slice-read-t17 Inv-loop μ-loop
 shared-slice-read-t17 c = omega arith
 
 returns : tie.Need-returns Inv-loop μ-loop
-returns c = ordinal-here _ _ _ _ _ _ (c .before .before .before .before .before .loop .inv .1) (c .before .before .before .before .loop-test .taken) (c .before .before .if1 .taken) (c .before .if2 .taken)
+returns c =
+    ordinal-here _ _ _ _ _ _ (c .before .before .before .before .before .loop .inv .1) (c .before .before .before .before .loop-test .taken)
+    (c .before .before .if1 .taken) (c .before .if2 .taken)
 
 sub-left : tie.Need-sub-left Inv-loop μ-loop
 sub-left c = omega arith

@@ -1,13 +1,13 @@
+use mathlib.Core.Logic.{⊎-elim}
+use mathlib.Core.Path.{_∙_}
+use Prim.Native.Nat.{_+_}
+use native.Mathlib.Omega.{arith}
 use mir.Syntax.{w32, w64}
 use mir.Val.{Fits}
-use Prim.Native.Nat.{_+_}
-use mathlib.Core.Path.{_∙_}
-use mathlib.Core.Logic.{⊎-elim}
-use native.Mathlib.Omega.{arith}
+use borrow.Author.Needs.{needs}
 use borrow.Author.Tests.{ltb-false}
 use lib.ListN.{getD}
 use Rattle.alloc.proofs.Laws.{fill-bound, advance-bound, kept, no-room, size-over, not-placed, address-over, free-over, is-placed}
-use borrow.Author.Needs.{needs}
 use Rattle.alloc.proofs.legacy_alloc.LegacyAlloc.allocate.Statement.{statement}
 use Rattle.alloc.proofs.legacy_alloc.LegacyAlloc.allocate.Tie as tie
 
@@ -41,8 +41,9 @@ same-length c = search needs
 
 returns-3 : tie.Need-returns-3
 returns-3 c =
+    let e = c .before .before .before .before .before in
     kept _ _ (c .refused3 .ensures)
-    ∙ not-placed _ _ _ _ _ (c .before .before .before .before .before .before .before .before .before .if1 .left) (c .before .before .before .before .before .before .before .if2 .left) (c .before .before .before .before .before .if3 .taken) (c .before .before .before .add-address .ensures)
+    ∙ not-placed _ _ _ _ _ (e .before .before .before .before .if1 .left) (e .before .before .if2 .left) (e .if3 .taken) (c .before .before .before .add-address .ensures)
 
 mul-used : tie.Need-mul-used
 mul-used c = search needs
@@ -57,23 +58,31 @@ fill-to-align-requires : tie.Need-fill-to-align-requires
 fill-to-align-requires c κs = search needs
 
 add-offset : tie.Need-add-offset
-add-offset c = let a = c .before .before .before .before .before .before .before .before .args in omega (arith, used-fits (c .before .before .before .before .before .before .before .before), fill-bound (getD (a .t1 .used) (a .want .space) 0) (a .want .alignment) (a .want .word) (c .before .before .before .before .before .before .before .before .pre .1))
+add-offset c =
+    let s = c .before .before .before .before .before .before .before .before in
+    let a = s .args in
+    omega (arith, used-fits s, fill-bound (getD (a .t1 .used) (a .want .space) 0) (a .want .alignment) (a .want .word) (s .pre .1))
 
 advance-requires : tie.Need-advance-requires
 advance-requires c κs = search needs
 
 add-free : tie.Need-add-free
-add-free c = let a = c .before .before .before .before .before .before .before .before .before .args in omega (arith, used-fits (c .before .before .before .before .before .before .before .before .before), advance-bound (a .want .size) (a .want .alignment) (a .want .word))
+add-free c =
+    let s = c .before .before .before .before .before .before .before .before .before in
+    omega (arith, used-fits s, advance-bound (s .args .want .size) (s .args .want .alignment) (s .args .want .word))
 
 refused-requires-4 : tie.Need-refused-requires-4
 refused-requires-4 c κs = search needs
 
 returns-4 : tie.Need-returns-4
 returns-4 c =
+    let d = c .before .before in
+    let e = d .before .before .before in
+    let h = e .before .before .before .before .if1 .left in
     kept _ _ (c .refused4 .ensures)
     ∙ ⊎-elim
-    (λ w. address-over _ _ _ _ _ (c .before .before .before .before .before .before .before .before .before .if1 .left) (c .before .before .before .before .before .before .before .if2 .left) (c .before .before .before .before .before .if3 .left) (c .before .before .before .fill-to-align .ensures) (c .before .before .advance .ensures) (w .taken))
-    (λ w. free-over _ _ _ _ _ (c .before .before .before .before .before .before .before .before .before .if1 .left) (c .before .before .before .before .before .before .before .if2 .left) (c .before .before .before .before .before .if3 .left) (c .before .before .before .fill-to-align .ensures) (c .before .before .advance .ensures) (w .0 .left) (w .1 .taken))
+    (λ w. address-over _ _ _ _ _ h (e .before .before .if2 .left) (e .if3 .left) (d .before .fill-to-align .ensures) (d .advance .ensures) (w .taken))
+    (λ w. free-over _ _ _ _ _ h (e .before .before .if2 .left) (e .if3 .left) (d .before .fill-to-align .ensures) (d .advance .ensures) (w .0 .left) (w .1 .taken))
     (c .before .if4 .came)
 
 mul-chunk : tie.Need-mul-chunk
@@ -89,7 +98,10 @@ add-address-requires-2 : tie.Need-add-address-requires-2
 add-address-requires-2 c κs = search needs
 
 cast-next : tie.Need-cast-next
-cast-next c = let a = c .before .before .before .before .before .before .before .before .before .before .before .before .before .before .before .before .args in omega (arith, ltb-false 4294967295 (getD (a .t1 .used) (a .want .space) 0 + c .before .before .before .before .before .before .before .advance .result) (c .before .before .before .before .before .if5 .left))
+cast-next c =
+    let d = c .before .before .before .before .before .before .before in
+    let a = c .before .before .before .before .before .before .before .before .before .before .before .before .before .before .before .before .args in
+    omega (arith, ltb-false 4294967295 (getD (a .t1 .used) (a .want .space) 0 + d .advance .result) (c .before .before .before .before .before .if5 .left))
 
 mul-next : tie.Need-mul-next
 mul-next c = search needs
@@ -102,7 +114,10 @@ same-length-2 c = search needs
 
 returns-5 : tie.Need-returns-5
 returns-5 c =
-    is-placed _ _ _ _ _ (c .before .before .before .before .before .before .before .before .before .before .before .before .before .before .if1 .left) (c .before .before .before .before .before .before .before .before .before .before .before .before .if2 .left) (c .before .before .before .before .before .before .before .before .before .before .if3 .left) (c .before .before .before .before .before .before .before .before .fill-to-align .ensures) (c .before .before .before .before .before .before .before .advance .ensures) (c .before .before .before .before .before .before .if4 .left) (c .before .before .before .before .before .if5 .left) (c .before .before .add-address2 .ensures)
+    let d = c .before .before .before .before .before .before .before in
+    let e = d .before .before .before in
+    is-placed _ _ _ _ _ (e .before .before .before .before .if1 .left) (e .before .before .if2 .left) (e .if3 .left)
+    (d .before .fill-to-align .ensures) (d .advance .ensures) (c .before .before .before .before .before .before .if4 .left) (c .before .before .before .before .before .if5 .left) (c .before .before .add-address2 .ensures)
 
 pub allocate-spec : {M : Type 1} → statement M
 allocate-spec =

@@ -1,5 +1,5 @@
-use Rattle.alloc.proofs.Laws.{chunk-stays, chunk-next}
 use borrow.Author.Needs.{needs}
+use Rattle.alloc.proofs.Laws.{chunk-stays, chunk-next}
 use Rattle.alloc.proofs.legacy_alloc.LegacyAlloc.next_chunk.Statement.{statement}
 use Rattle.alloc.proofs.legacy_alloc.LegacyAlloc.next_chunk.Tie as tie
 
