@@ -39,7 +39,7 @@ empty length = table (replicate length 0) 0
 abbrev pub start : Rooms → Log → Mem
 start rooms log =
     record
-    { at = 0; objects = empty (rooms .objects); slots = empty (rooms .slots); values = empty (rooms .values); addresses = empty (rooms .addresses); hot = emptyRing; pending = 0; skip = 0; alignment = 0; alloc = zeroCounters; log = log }
+    { at = 0; objects = empty (rooms .objects); slots = empty (rooms .slots); values = empty (rooms .values); addresses = empty (rooms .addresses); hot = emptyRing; pending = 0; waiting = 0; skip = 0; alignment = 0; alloc = zeroCounters; log = log }
 
 -- the top object's space, in legacy
 abbrev pub topSpace : Input → ℕ → ℕ

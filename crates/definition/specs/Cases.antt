@@ -12,7 +12,7 @@ use Rattle.tables.specs.Records.{written, filled}
 use Rattle.alloc.specs.Allocation.{spacesOf}
 use Rattle.backref.specs.HotRing.{entered, hotAt}
 use Rattle.definition.specs.Memory.{Table, Mem, Out, got, no, byte, int}
-use Rattle.definition.specs.Slots.{addValue, addSlot, waiter, anyWaits, resolved, keepItem, placeItem}
+use Rattle.definition.specs.Slots.{addValue, addSlot, waiter, resolved, keepItem, placeItem}
 use Rattle.definition.specs.Object.{addObject, flagObject, keepMap, resolves, items, body, object}
 use Rattle.definition.specs.Reference.{backrefTo, pendingReference, rawData, byHead, reference, refAt}
 use Rattle.definition.specs.Closing.{entries, padding, closing}
@@ -82,5 +82,5 @@ cases =
     []
 
 pub cases-hold : map (λ (c : Case). shown (graph (callA (c .0)) roomsA)) cases ≡ map (λ (c : Case). c .1) cases
-unfolding peekAt littleEndian rawAt intLength intAt allWithin usable order firstOf headOf alignmentOf closingOf written filled spacesOf entered hotAt byte int addValue addSlot waiter anyWaits resolved keepItem placeItem addObject flagObject keepMap resolves items body object backrefTo pendingReference rawData byHead reference refAt entries padding closing walk called graph
+unfolding peekAt littleEndian rawAt intLength intAt allWithin usable order firstOf headOf alignmentOf closingOf written filled spacesOf entered hotAt byte int addValue addSlot waiter resolved keepItem placeItem addObject flagObject keepMap resolves items body object backrefTo pendingReference rawData byHead reference refAt entries padding closing walk called graph
 cases-hold = refl

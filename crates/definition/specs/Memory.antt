@@ -58,8 +58,8 @@ pub record Table : Type 0 where
 abbrev pub table : List ℕ → ℕ → Table
 table rows count = record { rows = rows; count = count }
 
--- what a reader has: the cursor, the four tables, the hot ring, the next pending number, the with-skip amount that stands, the pending
--- alignment, the chunk counters, and who listens
+-- what a reader has: the cursor, the four tables, the hot ring, the next pending number and how many slots wait, the with-skip amount that
+-- stands, the pending alignment, the chunk counters, and who listens
 pub record Mem : Type 0 where
   pub at : ℕ
   pub objects : Table
@@ -68,6 +68,7 @@ pub record Mem : Type 0 where
   pub addresses : Table
   pub hot : List ℕ
   pub pending : ℕ
+  pub waiting : ℕ
   pub skip : ℕ
   pub alignment : ℕ
   pub alloc : LegacyAlloc
@@ -118,43 +119,44 @@ refuse n m = no n (m .at) m
 abbrev pub moved : ℕ → Mem → Mem
 moved at m =
     record
-    { at = at; objects = m .objects; slots = m .slots; values = m .values; addresses = m .addresses; hot = m .hot; pending = m .pending; skip = m .skip; alignment = m .alignment; alloc = m .alloc; log = m .log }
+    { at = at; objects = m .objects; slots = m .slots; values = m .values; addresses = m .addresses; hot = m .hot; pending = m .pending; waiting = m .waiting; skip = m .skip; alignment = m .alignment; alloc = m .alloc; log = m .log }
 
 abbrev pub withObjects : Table → Mem → Mem
 withObjects t m =
     record
-    { at = m .at; objects = t; slots = m .slots; values = m .values; addresses = m .addresses; hot = m .hot; pending = m .pending; skip = m .skip; alignment = m .alignment; alloc = m .alloc; log = m .log }
+    { at = m .at; objects = t; slots = m .slots; values = m .values; addresses = m .addresses; hot = m .hot; pending = m .pending; waiting = m .waiting; skip = m .skip; alignment = m .alignment; alloc = m .alloc; log = m .log }
 
 abbrev pub withSlots : Table → Mem → Mem
 withSlots t m =
     record
-    { at = m .at; objects = m .objects; slots = t; values = m .values; addresses = m .addresses; hot = m .hot; pending = m .pending; skip = m .skip; alignment = m .alignment; alloc = m .alloc; log = m .log }
+    { at = m .at; objects = m .objects; slots = t; values = m .values; addresses = m .addresses; hot = m .hot; pending = m .pending; waiting = m .waiting; skip = m .skip; alignment = m .alignment; alloc = m .alloc; log = m .log }
 
 abbrev pub withValues : Table → Mem → Mem
 withValues t m =
     record
-    { at = m .at; objects = m .objects; slots = m .slots; values = t; addresses = m .addresses; hot = m .hot; pending = m .pending; skip = m .skip; alignment = m .alignment; alloc = m .alloc; log = m .log }
+    { at = m .at; objects = m .objects; slots = m .slots; values = t; addresses = m .addresses; hot = m .hot; pending = m .pending; waiting = m .waiting; skip = m .skip; alignment = m .alignment; alloc = m .alloc; log = m .log }
 
 abbrev pub withHot : List ℕ → Mem → Mem
 withHot h m =
     record
-    { at = m .at; objects = m .objects; slots = m .slots; values = m .values; addresses = m .addresses; hot = h; pending = m .pending; skip = m .skip; alignment = m .alignment; alloc = m .alloc; log = m .log }
+    { at = m .at; objects = m .objects; slots = m .slots; values = m .values; addresses = m .addresses; hot = h; pending = m .pending; waiting = m .waiting; skip = m .skip; alignment = m .alignment; alloc = m .alloc; log = m .log }
 
-abbrev pub withPending : ℕ → Mem → Mem
-withPending n m =
+-- the next pending number, and how many slots wait
+abbrev pub withPending : ℕ → ℕ → Mem → Mem
+withPending n w m =
     record
-    { at = m .at; objects = m .objects; slots = m .slots; values = m .values; addresses = m .addresses; hot = m .hot; pending = n; skip = m .skip; alignment = m .alignment; alloc = m .alloc; log = m .log }
+    { at = m .at; objects = m .objects; slots = m .slots; values = m .values; addresses = m .addresses; hot = m .hot; pending = n; waiting = w; skip = m .skip; alignment = m .alignment; alloc = m .alloc; log = m .log }
 
 abbrev pub withSkip : ℕ → Mem → Mem
 withSkip n m =
     record
-    { at = m .at; objects = m .objects; slots = m .slots; values = m .values; addresses = m .addresses; hot = m .hot; pending = m .pending; skip = n; alignment = m .alignment; alloc = m .alloc; log = m .log }
+    { at = m .at; objects = m .objects; slots = m .slots; values = m .values; addresses = m .addresses; hot = m .hot; pending = m .pending; waiting = m .waiting; skip = n; alignment = m .alignment; alloc = m .alloc; log = m .log }
 
 -- addresses, pending alignment and chunk counters
 abbrev pub withAlloc : Table → ℕ → LegacyAlloc → Mem → Mem
 withAlloc t a c m =
     record
-    { at = m .at; objects = m .objects; slots = m .slots; values = m .values; addresses = t; hot = m .hot; pending = m .pending; skip = m .skip; alignment = a; alloc = c; log = m .log }
+    { at = m .at; objects = m .objects; slots = m .slots; values = m .values; addresses = t; hot = m .hot; pending = m .pending; waiting = m .waiting; skip = m .skip; alignment = a; alloc = c; log = m .log }
 
 abbrev pub aligned : ℕ → Mem → Mem
 aligned a m = withAlloc (m .addresses) a (m .alloc) m
@@ -163,7 +165,7 @@ aligned a m = withAlloc (m .addresses) a (m .alloc) m
 abbrev pub noted : Event → Mem → Mem
 noted e m =
     record
-    { at = m .at; objects = m .objects; slots = m .slots; values = m .values; addresses = m .addresses; hot = m .hot; pending = m .pending; skip = m .skip; alignment = m .alignment; alloc = m .alloc; log = note e (m .log) }
+    { at = m .at; objects = m .objects; slots = m .slots; values = m .values; addresses = m .addresses; hot = m .hot; pending = m .pending; waiting = m .waiting; skip = m .skip; alignment = m .alignment; alloc = m .alloc; log = note e (m .log) }
 
 -- ---- steps
 

@@ -66,7 +66,7 @@ abbrev pub outside : Input → ℕ → Reader SlotValue
 outside x k = int x >>= (λ i. refers (RoRef (2 ^ 32 - k) i))
 
 unfoldable pub pendingReference : Reader SlotValue
-pendingReference m = got (PendingRef (m .pending)) (withPending (m .pending + 1) m)
+pendingReference m = got (PendingRef (m .pending)) (withPending (m .pending + 1) (m .waiting) m)
 
 -- raw data of n bytes; past the payload's end: refusal 7
 abbrev pub afterRaw : ℕ → Bool → Range → Reader SlotValue

@@ -1,5 +1,5 @@
 -- Slots, values and pending forward references. Assumes nothing: these are definitions.
-use mathlib.Core.Bool.{Bool, true, false, not, _&&_, _||_}
+use mathlib.Core.Bool.{Bool, true, false, _&&_}
 use mathlib.Core.List.{List}
 use Prim.Native.Nat.{ℕ, zero, suc, _+_, _-_, _*_, _/_}
 use lib.Dec.{eqb}
@@ -8,7 +8,7 @@ use Rattle.tables.specs.declared.values.SlotValue.{SlotValue}
 use Rattle.tables.specs.declared.values.SlotValue.the-variants.{Ref, Repeat, RepeatPrev, Skip, StreamBytes, Raw, ClearedWeak, WeakRef, PendingRef}
 use Rattle.tables.specs.declared.values.Fields.{Fields}
 use Rattle.tables.specs.Values.{pickℕ, triple, fieldsOf, widthOf}
-use Rattle.tables.specs.Records.{field, slotRow, valueRow, filled, pickTable}
+use Rattle.tables.specs.Records.{field, slotRow, valueRow, filled}
 use Rattle.definition.specs.Memory.{Input, word, Kept, inMap, inSlot, inValue, Event, item, value, resolve, Table, table, Mem, Out, Reader, _>>=_, _>>_, give, change, withObjects, withSlots, withValues, withPending, withSkip, noted, tell, added, append}
 
 -- ---- records
@@ -23,45 +23,39 @@ addValue v =
 abbrev pub counted : ℕ → Table → Table
 counted o t = table (set (t .rows) (o * 4 + 3) (field 4 (t .rows) o 3 + 1)) (t .count)
 
--- a slot record of an object: its number. `k` says where the value is then kept
+-- a slot record of an object: its number. `waits` is 1 for one that waits, else 0; `k` says where the value is then kept
 unfoldable pub addSlot : ℕ → ℕ → Fields → ℕ → (ℕ → Kept) → Reader ℕ
 addSlot o index v waits k =
     append 6 (λ m. m .slots)
     (λ m. noted (value v (k (m .slots .count)))
-    (withSlots (added (m .slots) (slotRow o index v waits)) (withObjects (counted o (m .objects)) m)))
+    (withPending (m .pending) (m .waiting + waits)
+    (withSlots (added (m .slots) (slotRow o index v waits)) (withObjects (counted o (m .objects)) m))))
 
 -- ---- pending forward references
 
--- slot record k waits, and waits under a number
-abbrev pub isWaiting : List ℕ → ℕ → Bool
-isWaiting st k = eqb (field 6 st k 5) 1
-
+-- slot record k waits under a number
 abbrev pub waitsFor : List ℕ → ℕ → ℕ → Bool
-waitsFor st number k = isWaiting st k && eqb (field 6 st k 3) number
+waitsFor st number k = eqb (field 6 st k 5) 1 && eqb (field 6 st k 3) number
 
 -- of the first n slots the newest that waits under a number, counted from 1; 0: none does. (In one walk at most one does.)
 unfoldable pub waiter : List ℕ → ℕ → ℕ → ℕ
 waiter st number zero = 0
 waiter st number (suc n) = pickℕ (waitsFor st number n) (suc n) (waiter st number n)
 
--- one of the first n slots waits
-unfoldable pub anyWaits : List ℕ → ℕ → Bool
-anyWaits st zero = false
-anyWaits st (suc n) = isWaiting st n || anyWaits st n
+-- when none waits, numbering returns to 0 (difference D9)
+abbrev pub renumbered : ℕ → ℕ → ℕ
+renumbered pending waiting = pickℕ (eqb waiting 0) 0 pending
 
--- the slot that waits under a number becomes this object; an unknown number changes no slot (differences D8 and D10)
-abbrev pub resolvedTable : List ℕ → ℕ → ℕ → ℕ → List ℕ
-resolvedTable st number o n = pickTable (eqb (waiter st number n) 0) st (filled st (waiter st number n - 1) o)
+-- a slot that waited, counted from 1, becomes this object; 0: an unknown number changes no slot (differences D8 and D10)
+abbrev pub fillWaiter : ℕ → ℕ → Mem → Mem
+fillWaiter zero o m = withPending (renumbered (m .pending) (m .waiting)) (m .waiting) m
+fillWaiter (suc k) o m =
+    withPending (renumbered (m .pending) (m .waiting - 1)) (m .waiting - 1)
+    (withSlots (table (filled (m .slots .rows) k o) (m .slots .count)) m)
 
--- when none waits then, numbering returns to 0 (difference D9)
-abbrev pub renumbered : List ℕ → ℕ → ℕ → ℕ
-renumbered st n pending = pickℕ (anyWaits st n) pending 0
-
+-- a resolve of a number, after the map of object o
 unfoldable pub resolved : ℕ → ℕ → Mem → Mem
-resolved number o m =
-    let st : List ℕ = resolvedTable (m .slots .rows) number o (m .slots .count) in
-    noted (resolve number o)
-    (withPending (renumbered st (m .slots .count) (m .pending)) (withSlots (table st (m .slots .count)) m))
+resolved number o m = noted (resolve number o) (fillWaiter (waiter (m .slots .rows) number (m .slots .count)) o m)
 
 -- ---- items of an object, `done` bytes of which have been read
 
