@@ -8,7 +8,7 @@ use Prim.Native.Nat.{ℕ, zero, suc, _+_, _<_, _≤_}
 use native.Mathlib.Omega.{arith}
 use borrow.Author.Tests.{ltb-false, leb-true, leb-false, le-leb, lt-leb}
 use lib.Dec.{leb, ltb}
-use lib.ListN.{length, getD, set, length-set, length-replicate}
+use lib.ListN.{length, getD, set, replicate, length-set, length-replicate}
 use Rattle.tables.specs.Records.{room, field, written, addressRow, pickTable}
 use Rattle.tables.proofs.RecordLaws.{written-length, written-same, written-else}
 use Rattle.alloc.specs.declared.legacy_alloc.LegacyAlloc.{LegacyAlloc}
@@ -23,6 +23,14 @@ pub record Sized (c : LegacyAlloc) : Type 0 where
 
 pub zero-sized : Sized zeroCounters
 zero-sized = record { cur = length-replicate {A = ℕ} 256 0; used = length-replicate {A = ℕ} 256 0 }
+
+zeros : (n j : ℕ) → getD {A = ℕ} (replicate n 0) j 0 ≡ 0
+zeros zero j = refl
+zeros (suc n) zero = refl
+zeros (suc n) (suc j) = zeros n j
+
+pub zero-cur : (j : ℕ) → getD (zeroCounters .cur) j 0 ≡ 0
+zero-cur = zeros 256
 
 -- ---- chunk changes
 
@@ -100,7 +108,8 @@ module _ (t : List ℕ) (n spaces : ℕ) (want : Request) (c : LegacyAlloc) wher
 
   pub allocate-number : let k = allocateOf t n spaces want c .number in (k ≡ 0) ⊎ ((k ≡ 3) ⊎ (k ≡ 16))
   allocate-number =
-      allocate-cases (λ o. (o .number ≡ 0) ⊎ ((o .number ≡ 3) ⊎ (o .number ≡ 16))) (λ _. inr (inl refl)) (λ _. inr (inr refl)) (λ _ _. inl refl) (λ _ _ _. inl refl)
+      allocate-cases (λ o. (o .number ≡ 0) ⊎ ((o .number ≡ 3) ⊎ (o .number ≡ 16)))
+      (λ _. inr (inl refl)) (λ _. inr (inr refl)) (λ _ _. inl refl) (λ _ _ _. inl refl)
 
   pub allocate-length : length (allocateOf t n spaces want c .table) ≡ length t
   allocate-length =
@@ -120,7 +129,8 @@ module _ (t : List ℕ) (n spaces : ℕ) (want : Request) (c : LegacyAlloc) wher
   -- an allocation that is refused changes nothing
   pub allocate-refused : let o = allocateOf t n spaces want c in o .number ≢ 0 → o ≡ outcome (o .number) (want .alignment) c t
   allocate-refused =
-      allocate-cases (λ o. o .number ≢ 0 → o ≡ outcome (o .number) (want .alignment) c t) (λ _ _. refl) (λ _ _. refl) (λ _ _ h. absurd (h refl)) (λ _ _ _ h. absurd (h refl))
+      allocate-cases (λ o. o .number ≢ 0 → o ≡ outcome (o .number) (want .alignment) c t)
+      (λ _ _. refl) (λ _ _. refl) (λ _ _ h. absurd (h refl)) (λ _ _ _ h. absurd (h refl))
 
   pub allocate-room : allocateOf t n spaces want c .number ≡ 0 → n < room 5 t
   allocate-room = allocate-cases (λ o. o .number ≡ 0 → n < room 5 t) (λ _ e. omega arith) (λ h e. h) (λ h _ e. h) (λ h _ _ e. h)
@@ -131,7 +141,8 @@ module _ (t : List ℕ) (n spaces : ℕ) (want : Request) (c : LegacyAlloc) wher
       (λ _ g e. rw (le-leb spaces (want .space) g)) (λ _ g _ e. rw (lt-leb spaces (want .space) g))
 
   -- the fields of record n
-  pub allocate-record : allocateOf t n spaces want c .number ≡ 0 → (k : ℕ) → k < 5 → field 5 (allocateOf t n spaces want c .table) n k ≡ getD (rowOf spaces want c) k 0
+  pub allocate-record : allocateOf t n spaces want c .number ≡ 0 → (k : ℕ) → k < 5
+      → field 5 (allocateOf t n spaces want c .table) n k ≡ getD (rowOf spaces want c) k 0
   allocate-record e k b =
       allocate-cases (λ o. o .number ≡ 0 → field 5 (o .table) n k ≡ getD (rowOf spaces want c) k 0)
       (λ _ e. absurd (omega arith))
@@ -142,4 +153,5 @@ module _ (t : List ℕ) (n spaces : ℕ) (want : Request) (c : LegacyAlloc) wher
   -- every other record stays
   pub allocate-else : (m k : ℕ) → k < 5 → m ≢ n → field 5 (allocateOf t n spaces want c .table) m k ≡ field 5 t m k
   allocate-else m k b apart =
-      allocate-cases (λ o. field 5 (o .table) m k ≡ field 5 t m k) (λ _. refl) (λ _. refl) (λ _ _. written-else t _ n m k b apart) (λ _ _ _. written-else t _ n m k b apart)
+      allocate-cases (λ o. field 5 (o .table) m k ≡ field 5 t m k)
+      (λ _. refl) (λ _. refl) (λ _ _. written-else t _ n m k b apart) (λ _ _ _. written-else t _ n m k b apart)

@@ -194,10 +194,12 @@ module _ (t : List ℕ) (space chunk offset : ℕ) where
 
   -- the records from i on are not at the address
   module _ (n i : ℕ) (e : addressed t space chunk offset n ≡ addressed t space chunk offset i) where
-    pub address-here : 0 < i → {b : Bool} → b ≡ isAddress t space chunk offset (i - 1) → b ≡ true → Object (field 5 t (i - 1) 3) ≡ addressed t space chunk offset n
+    pub address-here : 0 < i → {b : Bool} → b ≡ isAddress t space chunk offset (i - 1) → b ≡ true
+        → Object (field 5 t (i - 1) 3) ≡ addressed t space chunk offset n
     address-here h p q = rw (e, last-record i h, ← p, q)
 
-    pub address-older : 0 < i → {b : Bool} → b ≡ isAddress t space chunk offset (i - 1) → b ≡ false → addressed t space chunk offset n ≡ addressed t space chunk offset (i - 1)
+    pub address-older : 0 < i → {b : Bool} → b ≡ isAddress t space chunk offset (i - 1) → b ≡ false
+        → addressed t space chunk offset n ≡ addressed t space chunk offset (i - 1)
     address-older h p q = rw (e, last-record i h, ← p, q)
 
     pub address-none : i ≡ 0 → Nothing ≡ addressed t space chunk offset n
@@ -214,7 +216,8 @@ module _ (t : List ℕ) (n space chunk offset alignment word : ℕ) {found : Fou
     unfolding resolveOf
     no-filler h = rw (← e, none, ← f, h)
 
-    pub after-filler : (pad ≡ 0 → ⊥) → {other : Found} → other ≡ addressed t space chunk (offset + pad) n → other ≡ resolveOf t n space chunk offset alignment word
+    pub after-filler : (pad ≡ 0 → ⊥) → {other : Found} → other ≡ addressed t space chunk (offset + pad) n
+        → other ≡ resolveOf t n space chunk offset alignment word
     unfolding resolveOf
     after-filler h p = rw (← e, none, ← f, ne-eqb pad 0 h, p)
 

@@ -43,7 +43,8 @@ returns-3 : tie.Need-returns-3
 returns-3 c =
     let e = c .before .before .before .before .before in
     kept _ _ (c .refused3 .ensures)
-    ∙ not-placed _ _ _ _ _ (e .before .before .before .before .if1 .left) (e .before .before .if2 .left) (e .if3 .taken) (c .before .before .before .add-address .ensures)
+    ∙ not-placed _ _ _ _ _ (e .before .before .before .before .if1 .left) (e .before .before .if2 .left) (e .if3 .taken)
+    (c .before .before .before .add-address .ensures)
 
 mul-used : tie.Need-mul-used
 mul-used c = search needs
@@ -117,7 +118,8 @@ returns-5 c =
     let d = c .before .before .before .before .before .before .before in
     let e = d .before .before .before in
     is-placed _ _ _ _ _ (e .before .before .before .before .if1 .left) (e .before .before .if2 .left) (e .if3 .left)
-    (d .before .fill-to-align .ensures) (d .advance .ensures) (c .before .before .before .before .before .before .if4 .left) (c .before .before .before .before .before .if5 .left) (c .before .before .add-address2 .ensures)
+    (d .before .fill-to-align .ensures) (d .advance .ensures) (c .before .before .before .before .before .before .if4 .left)
+    (c .before .before .before .before .before .if5 .left) (c .before .before .add-address2 .ensures)
 
 pub allocate-spec : {M : Type 1} → statement M
 allocate-spec =
