@@ -1,73 +1,55 @@
+use Rattle.backref.proofs.RingLaws.{ring-entered}
 use borrow.Author.Needs.{needs}
 use Rattle.backref.proofs.hot_ring.add.Statement.{statement}
 use Rattle.backref.proofs.hot_ring.add.Tie as tie
-use Rattle.backref.proofs.hot_ring.add.Reads as reads
-use Rattle.backref.proofs.hot_ring.add.Lts as lts
-use Rattle.tables.proofs.values.fields_of.Reads as fields-of-reads
 
--- src/hot_ring.rt:20:9
 fields-of-requires : tie.Need-fields-of-requires
 fields-of-requires c κs = search needs
 
--- src/hot_ring.rt:21:17
 element-copy-out-next : tie.Need-element-copy-out-next
 element-copy-out-next c = search needs
 
--- src/hot_ring.rt:22:9
 mul-hot : tie.Need-mul-hot
 mul-hot c = search needs
 
--- src/hot_ring.rt:22:5
 mul-hot-2 : tie.Need-mul-hot-2
 mul-hot-2 c = search needs
 
--- src/hot_ring.rt:22:5
 element-write-hot : tie.Need-element-write-hot
 element-write-hot c = search needs
 
--- src/hot_ring.rt:23:9
 mul-hot-3 : tie.Need-mul-hot-3
 mul-hot-3 c = search needs
 
--- src/hot_ring.rt:23:9
 add-hot : tie.Need-add-hot
 add-hot c = search needs
 
--- src/hot_ring.rt:23:5
 mul-hot-4 : tie.Need-mul-hot-4
 mul-hot-4 c = search needs
 
--- src/hot_ring.rt:23:5
 element-write-hot-2 : tie.Need-element-write-hot-2
 element-write-hot-2 c = search needs
 
--- src/hot_ring.rt:24:9
 mul-hot-5 : tie.Need-mul-hot-5
 mul-hot-5 c = search needs
 
--- src/hot_ring.rt:24:9
 add-hot-2 : tie.Need-add-hot-2
 add-hot-2 c = search needs
 
--- src/hot_ring.rt:24:5
 mul-hot-6 : tie.Need-mul-hot-6
 mul-hot-6 c = search needs
 
--- src/hot_ring.rt:24:5
 element-write-hot-3 : tie.Need-element-write-hot-3
 element-write-hot-3 c = search needs
 
--- src/hot_ring.rt:25:17
 add-hot-3 : tie.Need-add-hot-3
 add-hot-3 c = search needs
 
--- src/hot_ring.rt:25:5
 element-write-hot-4 : tie.Need-element-write-hot-4
 element-write-hot-4 c = search needs
 
--- src/hot_ring.rt:17:1
 returns : tie.Need-returns
-returns c = ?
+returns c = ring-entered (c .before .before .args .hot .now) (c .before .fields-of .result) (c .before .fields-of .ensures)
 
 pub add-spec : {M : Type 1} → statement M
 add-spec =

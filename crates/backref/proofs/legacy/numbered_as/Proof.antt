@@ -1,30 +1,22 @@
+use Rattle.backref.proofs.BackrefLaws.{as-map, as-large, as-none}
 use borrow.Author.Needs.{needs}
 use Rattle.backref.proofs.legacy.numbered_as.Statement.{statement}
 use Rattle.backref.proofs.legacy.numbered_as.Tie as tie
-use Rattle.backref.proofs.legacy.numbered_as.Reads as reads
-use Rattle.backref.proofs.legacy.numbered_as.Lts as lts
-use Rattle.sheet.proofs.usable.lo_space.Reads as lo-space-reads
-use Rattle.sheet.proofs.usable.map_space.Reads as map-space-reads
 
--- src/legacy.rt:40:17
 map-space-requires : tie.Need-map-space-requires
 map-space-requires c κs = search needs
 
--- src/legacy.rt:41:9
 returns : tie.Need-returns
-returns c = ?
+returns c = as-map (c .before .before .before .args .sheet .now) _ (c .before .map-space .ensures .0) (c .if1 .taken)
 
--- src/legacy.rt:43:17
 lo-space-requires : tie.Need-lo-space-requires
 lo-space-requires c κs = search needs
 
--- src/legacy.rt:44:9
 returns-2 : tie.Need-returns-2
-returns-2 c = ?
+returns-2 c = as-large (c .before .before .before .before .before .args .sheet .now) _ (c .before .before .before .map-space .ensures .0) (c .before .before .if1 .left) (c .before .lo-space .ensures .0) (c .if2 .taken)
 
--- src/legacy.rt:37:1
 returns-3 : tie.Need-returns-3
-returns-3 c = ?
+returns-3 c = as-none (c .before .before .before .before .before .args .sheet .now) _ (c .before .before .before .map-space .ensures .0) (c .before .before .if1 .left) (c .before .lo-space .ensures .0) (c .if2 .left)
 
 pub numbered-as-spec : {M : Type 1} → statement M
 numbered-as-spec =
