@@ -8,11 +8,13 @@ import argparse
 import collections
 import os
 import random
+import re
 import struct
 import subprocess
 import sys
 import tempfile
 
+from noted import payloads as noted
 from payloads import Payload, damaged, drawn
 from sheets import SHEETS, coinciding, numbers, unusable
 
@@ -22,7 +24,8 @@ RESERVATIONS = [[], [TOP] * 3, [TOP] * 6, [TOP] * 6, [64, TOP | 128, TOP, 32, 32
 LARGE = {'o': 70 * 4, 's': 140 * 6, 'v': 70 * 3, 'd': 70 * 5}
 GROUP = 25
 
-Case = collections.namedtuple('Case', 'family name sheet payload reservations trusted rooms answer')
+# `whole`: values and slots are compared too
+Case = collections.namedtuple('Case', 'family name sheet payload reservations trusted rooms answer whole', defaults=[True])
 
 
 def ask(oracle, sheet, payload, reservations, trusted):
@@ -55,18 +58,25 @@ def accepted(rnd, lines):
     return rooms, [[0] + counts + [end, 0]] + tables
 
 
+def part(lines):
+    """Where the oracle does not know a value that the closing section drops: the numbers without the values, objects, addresses."""
+    counts, end = [int(word) for word in lines[0][1:5]], int(lines[0][5])
+    rows = {letter: [int(word) for line in lines[1:] if line[0] == letter for word in line[1:]] for letter in 'od'}
+    tables = [rows[letter] + [0] * (LARGE[letter] - len(rows[letter])) for letter in 'od']
+    return LARGE, [[0, counts[0], counts[1], counts[3], end, 0]] + tables, False
+
+
 def answered(rnd, lines):
     """Rooms and answer; None where the oracle cannot tell."""
-    if any('?' in line for line in lines):
-        return None
     if lines[0][0] == 'graph':
-        return accepted(rnd, lines)
-    return LARGE, refusal(int(lines[0][1]), int(lines[0][2]), LARGE)
+        return part(lines) if any('?' in line for line in lines) else accepted(rnd, lines)
+    return None if '?' in lines[0] else (LARGE, refusal(int(lines[0][1]), int(lines[0][2]), LARGE))
 
 
 def short_room(rnd, lines, marks):
     """One table with room for fewer records than the payload has: 3 at the cursor where the first is missing."""
-    if lines[0][0] != 'graph' or [int(word) for word in lines[0][1:5]] != [len(marks[letter]) for letter in 'osvd']:
+    counts = [str(len(marks[letter])) for letter in 'osvd']
+    if lines[0][0] != 'graph' or any('?' in line for line in lines) or lines[0][1:5] != counts:
         return None
     letter = rnd.choice([letter for letter in 'osvd' if marks[letter]])
     k = rnd.choice([0, len(marks[letter]) - 1, rnd.randrange(len(marks[letter]))])
@@ -120,36 +130,54 @@ class Maker:
         self.add('unusable', 'unusable', (numbers(sheet) + [1])[:length], [0, 4, 0x45, 0x0D])
 
     def fixed(self):
-        """Inputs that chance does not give: depth (6), 32 bits (16), numbers without an entry (15), the payload's ends."""
-        for name, sheet in sorted(SHEETS.items()):
-            reservations = [TOP] * 6 if 'kSpaceMask' in sheet else []
-            legacy = 'kSpaceMask' in sheet
-            root, new, last = sheet['kRootArrayConstants'], sheet['kNewObject'], sheet['kSynchronize']
-            spaces = sheet.get('kNumberOfSpaces', 6)
-            family = family_of(name)
-            add = lambda payload, place=None: self.add(family, name, numbers(sheet), payload, reservations, place=place)
-            add([])
-            add([root, last])
-            add([new, 4, root])
-            add([new, 8, root] + [sheet['kWeakPrefix']] * 63 + [root, last])
-            add([new, 8, root] + [sheet['kWeakPrefix']] * 64 + [root, last])
-            if spaces:
-                add([new, 4] * 64 + [root, last])
-                add([new, 4] * 65)
-            if not legacy:
-                continue
-            large = [0xFF, 0xFF, 0xFF, 0xFF]
-            half = list((((1 << 31) // sheet['tagged_size']) << 2 | 3).to_bytes(4, 'little'))
-            deferred = sheet.get('kDeferred')
-            add([new] + large + [root, last], 6 if sheet['tagged_size'] == 8 else None)
-            if spaces and deferred is not None:
-                map_first = 'kNewMetaMap' in sheet
-                add([new] + half + [root, deferred, last])
-                add([new, 8, root, new] + half + [root, deferred, last], 9)
-                add([new, 12, root, new] + half + [root, deferred, new] + half + [root, deferred, last], 16)
-                if map_first:
-                    add([new] + half + [root, deferred, new] + half + [root, deferred, last], 13)
+        """Inputs that chance does not give: those noted, the payload's ends, depth (6) and 32 bits (16)."""
+        for name, payload in noted():
+            self.plainly(name, payload, [0] * 5 + [1])
+        for name in sorted(SHEETS):
+            for payload in ends_and_depths(SHEETS[name]):
+                self.plainly(name, payload)
+            for payload, place in thirty_two_bits(SHEETS[name]):
+                self.plainly(name, payload, place=place)
         self.add('legacy', 'legacy8', numbers(SHEETS['legacy8']), [7, 255, 255, 255, 255, 0x45, 0x14], [TOP] * 3, place=6)
+
+    def plainly(self, name, payload, trusted=(), place=None):
+        """A case under one of the sheets, with six reservations in legacy."""
+        reservations = [TOP] * 6 if 'kSpaceMask' in SHEETS[name] else []
+        self.add(family_of(name), name, numbers(SHEETS[name]), payload, reservations, trusted, place=place)
+
+
+def ends_and_depths(sheet):
+    root, new, last, weak = (sheet[name] for name in ('kRootArrayConstants', 'kNewObject', 'kSynchronize', 'kWeakPrefix'))
+    yield []
+    yield [root, last]
+    yield [new, 4, root]
+    for head, most in (([new, 8, root], 63), ([new, 4, root], 64)):
+        yield head + [weak] * most + [root, last]
+        yield head + [weak] * (most + 1) + [root, last]
+    if not sheet.get('kNumberOfSpaces', 6):
+        return
+    if 'kSpaceMask' in sheet and 'kNewMetaMap' not in sheet:
+        address = [0] if 'kBackrefWithSkip' in sheet or sheet.get('kMapSpace', 4) == 0 else [0, 0]
+        yield [new, 4, root, new] + address + [12] + [weak] * 63 + [root, last]
+        yield [new, 4, root, new] + address + [12] + [weak] * 64 + [root, last]
+    yield [new, 4] * 64 + [root, last]
+    yield [new, 4] * 65
+
+
+def thirty_two_bits(sheet):
+    """Sizes and offsets about 2^32, each with the place of 16 if it is refused so: the oracle knows the number alone."""
+    if 'kSpaceMask' not in sheet:
+        return
+    root, new, last, deferred = (sheet.get(name) for name in ('kRootArrayConstants', 'kNewObject', 'kSynchronize', 'kDeferred'))
+    half = list((((1 << 31) // sheet['tagged_size']) << 2 | 3).to_bytes(4, 'little'))
+    part = [new] + half + [root, deferred]
+    yield [new, 255, 255, 255, 255, root, last], 6
+    if sheet.get('kNumberOfSpaces', 6) and deferred is not None:
+        yield part + [last], None
+        yield [new, 8, root] + part + [last], None
+        yield [new, 12, root] + part + part + [last], 16
+        if 'kNewMetaMap' in sheet:
+            yield part + part + [last], 13
 
 
 def family_of(name):
@@ -167,23 +195,9 @@ use mathlib.Core.Path.{{_≡_, refl}}
 use mathlib.Core.List.{{List, [], _∷_, map}}
 use Prim.Native.Nat.{{ℕ}}
 use lib.ListN.{{replicate}}
-use Rattle.stream.specs.Bytes.{{peekAt, littleEndian, rawAt}}
-use Rattle.stream.specs.PutInt.{{intLength, intAt}}
-use Rattle.sheet.specs.Sheet.{{allWithin, usable}}
-use Rattle.sheet.specs.Heads.{{order, firstOf, headOf}}
-use Rattle.sheet.specs.Tests.{{alignmentOf, closingOf}}
-use Rattle.tables.specs.Records.{{written, filled}}
-use Rattle.alloc.specs.Fill.{{maxFillToAlign, fillToAlign}}
-use Rattle.alloc.specs.Allocation.{{spacesOf, nextChunk, advanceOf, allocateOf}}
-use Rattle.alloc.specs.Resolve.{{addressed, resolveOf, ordinalFrom}}
-use Rattle.backref.specs.HotRing.{{entered, hotAt}}
-use Rattle.backref.specs.Legacy.{{packedBackref, plainBackref, backrefOf}}
-use Rattle.definition.specs.Memory.{{Mem, Out, byte, int}}
-use Rattle.definition.specs.Slots.{{addValue, addSlot, waiter, anyWaits, resolved, keepItem, placeItem}}
-use Rattle.definition.specs.Object.{{addObject, allocate, chunkChanges, mapFirst, flagObject, keepMap, resolves, items, body, object}}
-use Rattle.definition.specs.Reference.{{backrefTo, legacyReference, pendingReference, rawData, byHead, reference, refAt}}
-use Rattle.definition.specs.Closing.{{addSlots, entryItems, entry, entries, padding, closing}}
-use Rattle.definition.specs.Call.{{Rooms, Call, walk, called, graph, tableOf, Answer, answerOf}}
+{uses}
+use Rattle.definition.specs.Memory.{{Mem, Out}}
+use Rattle.definition.specs.Call.{{Rooms, Call, tableOf, Answer, answerOf}}
 
 abbrev pub numbersOf : Answer → List ℕ
 numbersOf a = a .number ∷ a .objects ∷ a .slots ∷ a .values ∷ a .addresses ∷ a .end ∷ a .place ∷ []
@@ -209,9 +223,43 @@ case v p r t o s n d answer =
 
 abbrev pub given : Case → List (List ℕ)
 given c = shown (c .rooms) (graph (c .call) (c .rooms))
+
+-- without values and slots, where the Rust does not give a value that the closing section drops
+abbrev pub numbersOfPart : Answer → List ℕ
+numbersOfPart a = a .number ∷ a .objects ∷ a .slots ∷ a .addresses ∷ a .end ∷ a .place ∷ []
+
+abbrev pub shownPart : Rooms → Out (Unit {{0}}) → List (List ℕ)
+shownPart rooms out =
+    numbersOfPart (answerOf out) ∷
+    tableOf (λ m. m .objects) (rooms .objects) out ∷
+    tableOf (λ m. m .addresses) (rooms .addresses) out ∷
+    []
+
+abbrev pub givenPart : Case → List (List ℕ)
+givenPart c = shownPart (c .rooms) (graph (c .call) (c .rooms))
 """
 
-UNFOLDING = """unfolding peekAt littleEndian rawAt intLength intAt allWithin usable order firstOf headOf alignmentOf closingOf written filled maxFillToAlign fillToAlign spacesOf nextChunk advanceOf allocateOf addressed resolveOf ordinalFrom entered hotAt packedBackref plainBackref backrefOf byte int addValue addSlot waiter anyWaits resolved keepItem placeItem addObject allocate chunkChanges mapFirst flagObject keepMap resolves items body object backrefTo legacyReference pendingReference rawData byHead reference refAt addSlots entryItems entry entries padding closing walk called graph"""
+CRATES = ['stream', 'sheet', 'tables', 'alloc', 'backref', 'definition']
+# what the walk does not use
+UNUSED = ['Smi', 'View', 'Usable', 'Assigning', 'Cases', 'Generated']
+
+
+def unfolded(crates):
+    """The definitions that are unfolded only where it is asked for: the lines that take them in, and their names."""
+    uses, names = [], []
+    for crate in CRATES:
+        folder = os.path.join(crates, crate, 'specs')
+        for file in sorted(os.listdir(folder)):
+            part = file.removesuffix('.antt')
+            if part in UNUSED or not file.endswith('.antt'):
+                continue
+            with open(os.path.join(folder, file), encoding='utf-8') as text:
+                found = re.findall(r'^unfoldable pub (\S+) :', text.read(), re.M)
+            if found:
+                own = '·specs' if crate == 'definition' else ''
+                uses.append(f'use Rattle.{crate}{own}.specs.{part}.{{{", ".join(found)}}}')
+                names += found
+    return '\n'.join(uses), ' '.join(names)
 
 
 def listed(items):
@@ -228,25 +276,31 @@ def shown(case, sheets):
     return f'    case {sheets[tuple(case.sheet)]} {listed(case.payload)} {listed(case.reservations)} {listed(case.trusted)} {rooms}\n    {answer}'
 
 
-def module(cases, seed, group):
-    sheets, text = {}, [HEADER.format(seed=seed)]
+def module(cases, seed, group, crates):
+    uses, names = unfolded(crates)
+    sheets, text = {}, [HEADER.format(seed=seed, uses=uses)]
     for case in cases:
         if tuple(case.sheet) not in sheets:
             sheets[tuple(case.sheet)] = f'sheet{len(sheets)}'
             name = sheets[tuple(case.sheet)]
             text.append(f'-- {case.name}\nabbrev pub {name} : List ℕ\n{name} = {listed(case.sheet)}\n')
-    for start in range(0, len(cases), group):
-        name = f'cases{start}'
-        rows = [f'    -- {start + k}: {case.family}, {case.name}\n{shown(case, sheets)} ∷' for k, case in enumerate(cases[start:start + group])]
-        text.append(f'abbrev pub {name} : List Case\n{name} =\n' + '\n'.join(rows) + '\n    []\n')
-        text.append(f'pub {name}-hold : map given {name} ≡ map (λ (c : Case). c .answer) {name}\n{UNFOLDING}\n{name}-hold = refl\n')
+    for whole, kind, given in ((True, 'cases', 'given'), (False, 'parts', 'givenPart')):
+        chosen = [(number, case) for number, case in enumerate(cases) if case.whole == whole]
+        for start in range(0, len(chosen), group):
+            some = chosen[start:start + group]
+            name = f'{kind}{some[0][0]}'
+            rows = [f'    -- {number}: {case.family}, {case.name}\n{shown(case, sheets)} ∷' for number, case in some]
+            text.append(f'abbrev pub {name} : List Case\n{name} =\n' + '\n'.join(rows) + '\n    []\n')
+            text.append(f'pub {name}-hold : map {given} {name} ≡ map (λ (c : Case). c .answer) {name}\n'
+                        f'unfolding {names}\n{name}-hold = refl\n')
     return '\n'.join(text)
 
 
 def summary(cases, untold):
     families = collections.Counter(case.family for case in cases)
     outcomes = collections.Counter(case.answer[0][0] for case in cases)
-    print(f'{len(cases)} cases, {untold} left out because the oracle cannot tell', file=sys.stderr)
+    partly = sum(not case.whole for case in cases)
+    print(f'{len(cases)} cases, {partly} of them without values and slots; {untold} left out because the oracle cannot tell', file=sys.stderr)
     print('families:', ', '.join(f'{name} {n}' for name, n in sorted(families.items())), file=sys.stderr)
     print('accepted:', outcomes.pop(0, 0), 'refused:', ', '.join(f'{k} by {n}' for n, k in sorted(outcomes.items())), file=sys.stderr)
 
@@ -258,6 +312,7 @@ def main():
     options.add_argument('--group', type=int, default=GROUP, help='cases in one declaration')
     options.add_argument('--only', type=int, nargs='*', help='numbers of the cases to write')
     options.add_argument('--oracle', default='tools/oracle/target/release/oracle')
+    options.add_argument('--crates', default='crates', help='the folder of the crates, for the names of their definitions')
     options.add_argument('file')
     given = options.parse_args()
     maker = Maker(given.seed, given.oracle)
@@ -269,7 +324,7 @@ def main():
     summary(maker.cases, maker.untold)
     cases = [maker.cases[k] for k in given.only] if given.only else maker.cases
     with open(given.file, 'w', encoding='utf-8') as file:
-        file.write(module(cases, given.seed, given.group))
+        file.write(module(cases, given.seed, given.group, given.crates))
 
 
 if __name__ == '__main__':

@@ -1,0 +1,40 @@
+use borrow.Author.Needs.{needs}
+use Rattle.readers.proofs.simple.back_ref.Statement.{statement}
+use Rattle.readers.proofs.simple.back_ref.Tie as tie
+use Rattle.readers.proofs.simple.back_ref.Reads as reads
+use Rattle.readers.proofs.simple.back_ref.Lts as lts
+use Rattle.backref.proofs.hot_ring.add.Reads as add-reads
+use Rattle.readers.proofs.ints.read_int.Reads as read-int-reads
+
+-- src/simple.rt:38:11
+read-int-requires : tie.Need-read-int-requires
+read-int-requires c κs = search needs
+
+-- src/simple.rt:39:24
+enum-known-n : tie.Need-enum-known-n
+enum-known-n c = search needs
+
+-- src/simple.rt:40:19
+enum-known-i : tie.Need-enum-known-i
+enum-known-i c = search needs
+
+-- src/simple.rt:43:17
+add-requires : tie.Need-add-requires
+add-requires c κs = search needs
+
+-- src/simple.rt:35:1
+returns : tie.Need-returns
+returns c = ?
+
+-- src/simple.rt:35:1
+returns-2 : tie.Need-returns-2
+returns-2 c = ?
+
+-- src/simple.rt:35:1
+returns-3 : tie.Need-returns-3
+returns-3 c = ?
+
+pub back-ref-spec : {M : Type 1} → statement M
+back-ref-spec =
+    tie.close
+    (tie.spec read-int-requires enum-known-n enum-known-i add-requires returns returns-2 returns-3)

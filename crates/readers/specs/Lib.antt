@@ -1,0 +1,5 @@
+pub mod Views
+pub mod Simple
+pub mod Prefix
+pub mod Index
+pub mod Head
