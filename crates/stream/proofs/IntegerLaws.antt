@@ -45,17 +45,17 @@ module _ (p : List ℕ) (at : ℕ) where
       rw r (lt-of-lt-of-le (le-below p at n bs) (pow-mono {j = 32} (omega (arith, count-small))))
 
 -- an integer that is not cut has one to four bytes, all in the payload
-pub record Within (p : List ℕ) (at n : ℕ) : Type 0 where
+pub record IntWithin (p : List ℕ) (at n : ℕ) : Type 0 where
   pub ends : at + n ≤ length p
-  pub some : 1 ≤ n
-  pub four : n ≤ 4
+  pub least : 1 ≤ n
+  pub most : n ≤ 4
 
 module _ {value n : ℕ} where
   whole : (cut : Bool) {i : Int} → pickInt cut Cut i ≡ Is value n → (cut ≡ false) × (i ≡ Is value n)
   whole true e = absurd (let z : _≡_ {A = ℕ} 0 1 = cc in omega arith)
   whole false e = (refl, e)
 
-  pub int-within : (p : List ℕ) (at : ℕ) → intAt p at ≡ Is value n → Within p at n
+  pub int-within : (p : List ℕ) (at : ℕ) → intAt p at ≡ Is value n → IntWithin p at n
   unfolding intLength intAt
   int-within p at e =
       let begun = whole (leb (length p) at) e in
@@ -63,6 +63,6 @@ module _ {value n : ℕ} where
       let count : intLength p at ≡ n = cc (ended .1) in
       record {
         ends = omega (arith, leb-false (length p) at (begun .0), ltb-false (length p - at) (intLength p at) (ended .0));
-        some = omega arith;
-        four = omega arith;
+        least = omega arith;
+        most = omega arith;
       }

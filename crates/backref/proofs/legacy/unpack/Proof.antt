@@ -24,7 +24,7 @@ page-size-bits-requires-2 : tie.Need-page-size-bits-requires-2
 page-size-bits-requires-2 c κs = search needs
 
 sub-power-2 : tie.Need-sub-power-2
-sub-power-2 c = page-low _ (c .before .before .before .before .pre .0) (c .page-size-bits2 .ensures .0)
+sub-power-2 c = omega (arith, page-low _ (c .before .before .before .before .pre .0) (c .page-size-bits2 .ensures .0))
 
 power-requires-2 : tie.Need-power-requires-2
 power-requires-2 c κs = omega (arith, page-high _ (c .before .before .before .before .pre .0) (c .page-size-bits2 .ensures .0))
