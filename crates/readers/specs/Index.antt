@@ -1,9 +1,10 @@
 -- The index from pending numbers to waiting slots, in lent scratch. Assumes nothing: these are definitions.
 use mathlib.Core.Path.{_≡_}
 use mathlib.Core.List.{List}
-use Prim.Native.Nat.{ℕ, _<_}
+use mathlib.Core.Bool.{true}
+use Prim.Native.Nat.{ℕ, suc, _<_}
 use lib.ListN.{length, getD}
-use Rattle.definition.specs.Slots.{waiter}
+use Rattle.definition.specs.Slots.{waitsFor, waiter}
 use Rattle.readers.specs.declared.state.Step.{Step}
 use Rattle.readers.specs.declared.state.Step.the-variants.{Got, Refused as StepRefused}
 use Rattle.readers.specs.declared.state.Count.{Count}
@@ -14,6 +15,11 @@ use Rattle.readers.specs.declared.state.Went.the-variants.{On, Refused a
 -- for each number that it has room for: the slot that waits under it, counted from 1, or 0
 abbrev pub Indexed : List ℕ → ℕ → List ℕ → Type 0
 Indexed slots count scratch = (n : ℕ) → n < length scratch → getD scratch n 0 ≡ waiter slots n count
+
+-- at most one slot waits under a number, and where the count of waiting slots is 0 none waits
+pub record Single (slots : List ℕ) (count waiting : ℕ) : Type 0 where
+  pub one : (n i : ℕ) → i < count → waitsFor slots n i ≡ true → suc i ≡ waiter slots n count
+  pub none : waiting ≡ 0 → (n : ℕ) → waiter slots n count ≡ 0
 
 -- with a value the index is right
 abbrev pub StepIndexed : Step → List ℕ → List ℕ → Type 0

@@ -3,3 +3,5 @@ pub mod Simple
 pub mod Prefix
 pub mod Index
 pub mod Head
+pub mod Item
+pub mod Map

@@ -1,1 +1,116 @@
-//
+// Pending forward references: the index in scratch, the search, and the resolves after an object's map.
+use crate::ints::read_int;
+use crate::state::Count;
+use crate::state::State;
+use crate::state::Went;
+use sheet::names::K_RESOLVE_PENDING_FORWARD_REF;
+use sheet::tests::is_tag;
+use stream::bytes::peek;
+use tables::records::fill_slot;
+ghost use mathlib.Core.Path.{_≡_};
+ghost use mathlib.Core.List.{List};
+ghost use Prim.Native.Nat.{ℕ, _+_, _-_, _*_, _^_, _<_, _≤_};
+ghost use lib.ListN.{length, getD, set};
+ghost use Rattle.tables.specs.Records.{room};
+ghost use Rattle.definition.specs.Slots.{waitsFor, waiter, resolved};
+ghost use Rattle.definition.specs.Object.{resolves as resolvesFrom};
+ghost use Rattle.readers.specs.Views.{Lent, input, mem, seenWent, slotsIs};
+ghost use Rattle.readers.specs.Index.{Indexed, Single, WentIndexed};
+
+// x at place i of scratch, where scratch has that place.
+pub fn note(scratch: &mut [u64], i: u64, x: u64)
+    ensures { λ _. ⌜ now (scratch .exit) ≡ set (now (scratch .entry)) i x ⌝ }
+{
+    if i < scratch.len() as u64 {
+        let k = i as usize;
+        scratch[k] = x;
+    }
+}
+
+// Slot k waits under a number.
+fn waits_for(slots: &[u64], number: u64, k: usize) -> bool
+    requires { ⌜ k < room 6 (now slots) ⌝ }
+    ensures { λ r. ⌜ r ≡ waitsFor (now (slots .entry)) number k ⌝ }
+{
+    (slots[k * 6 + 5] == 1) & (slots[k * 6 + 3] == number)
+}
+
+// The newest of n slots that waits under a number, counted from 1, or 0: a search.
+fn find_waiter(slots: &[u64], number: u64, n: usize) -> u64
+    requires { ⌜ n ≤ room 6 (now slots) ⌝ }
+    ensures { λ r. ⌜ r ≡ waiter (now (slots .entry)) number n ⌝ }
+{
+    let mut i = n;
+    while 0 < i {
+        if waits_for(slots, number, i - 1) {
+            return i as u64;
+        }
+        i -= 1;
+    }
+    0
+}
+
+// The same, by the index where it has room; and with no search where no slot waits.
+fn lookup(slots: &[u64], scratch: &[u64], s: State, number: u64) -> u64
+    requires { ⌜ (s .slots ≤ room 6 (now slots)) × Indexed (now slots) (s .slots) (now scratch) × Single (now slots) (s .slots) (s .waiting) ⌝ }
+    ensures { λ r. ⌜ r ≡ waiter (now (slots .entry)) number (s .slots) ⌝ }
+{
+    if number < scratch.len() as u64 {
+        let k = number as usize;
+        return scratch[k];
+    }
+    if s.waiting == 0 {
+        return 0;
+    }
+    find_waiter(slots, number, s.slots)
+}
+
+// A resolve of a number, after the map of object o.
+fn resolve(slots: &mut [u64], scratch: &mut [u64], s: State, number: u64, o: u64) -> State
+    requires { ⌜ (s .slots ≤ room 6 (now slots)) × Indexed (now slots) (s .slots) (now scratch) × Single (now slots) (s .slots) (s .waiting) ⌝ }
+    ensures { λ r. ⌜ ((l : Lent) → mem r (slotsIs (now (slots .exit)) l) ≡ resolved number o (mem s (slotsIs (now (slots .entry)) l))) ⌝ }
+    ensures index { λ r. ⌜ Indexed (now (slots .exit)) (r .slots) (now (scratch .exit)) × Single (now (slots .exit)) (r .slots) (r .waiting) ⌝ }
+{
+    let k = lookup(slots, scratch, s, number);
+    let mut t = s;
+    if k != 0 {
+        fill_slot(slots, (k - 1) as usize, o);
+        note(scratch, number, 0);
+        t.waiting = s.waiting - 1;
+    }
+    if t.waiting == 0 {
+        t.pending = 0;
+    }
+    t
+}
+
+// Resolves as long as they stand at the cursor.
+pub fn resolves(
+    sheet: &[u16],
+    p: &[u8],
+    slots: &mut [u64],
+    scratch: &mut [u64],
+    s: State,
+    o: u64,
+) -> Went
+    requires { ⌜ (s .at ≤ length (now p)) × (s .slots ≤ room 6 (now slots)) × Indexed (now slots) (s .slots) (now scratch) × Single (now slots) (s .slots) (s .waiting) ⌝ }
+    ensures { λ r. ⌜ ((tr : List ℕ) (sp : ℕ) (l : Lent) → seenWent r (slotsIs (now (slots .exit)) l) ≡ resolvesFrom (input (now (sheet .entry)) (now (p .entry)) sp tr) o (length (now (p .entry)) - s .at) (mem s (slotsIs (now (slots .entry)) l))) ⌝ }
+    ensures index { λ r. ⌜ WentIndexed r (now (slots .exit)) (now (scratch .exit)) ⌝ }
+{
+    let mut cur = s;
+    loop {
+        let at = cur.at;
+        if !is_tag(sheet, K_RESOLVE_PENDING_FORWARD_REF, peek(p, at)) {
+            return Went::On(cur);
+        }
+        cur.at = at + 1;
+        match read_int(p, cur) {
+            Count::Refused(n, q, t) => {
+                return Went::Refused(n, q, t);
+            }
+            Count::Is(number, t) => {
+                cur = resolve(slots, scratch, t, number, o);
+            }
+        }
+    }
+}
