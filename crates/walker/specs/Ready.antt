@@ -1,0 +1,39 @@
+-- What holds at the start of each of the readers that call each other, and the parts of an object that they read. Assumes nothing: these are
+-- definitions.
+use mathlib.Core.List.{List}
+use Prim.Native.Nat.{ℕ, _+_, _-_}
+use lib.ListN.{length}
+use Rattle.sheet.specs.Heads.{Heads}
+use Rattle.tables.specs.declared.values.SlotValue.{SlotValue}
+use Rattle.definition.specs.Memory.{Input, word, Mem, Reader, _>>=_, _>>_}
+use Rattle.definition.specs.Slots.{placeItem}
+use Rattle.definition.specs.Object.{readMap, keepMap, resolves, items, closed}
+use Rattle.laws.specs.Sound.{Proper, Sound, Counted}
+use Rattle.readers.specs.Views.{Lent}
+use Rattle.readers.specs.Index.{Indexed}
+
+abbrev pub lent : List ℕ → List ℕ → List ℕ → List ℕ → List ℕ → List ℕ → List ℕ → Lent
+lent objects slots values addresses hot cur used =
+    record { objects = objects; slots = slots; values = values; addresses = addresses; hot = hot; cur = cur; used = used }
+
+-- the input is one that the walk takes, the 256 heads are the sheet's, what the reader has is in order, and the index is right
+pub record Ready (x : Input) (heads : List ℕ) (m : Mem) (scratch : List ℕ) : Type 0 where
+  pub proper : Proper x
+  pub decoded : Heads (x .sheet) heads
+  pub sound : Sound x m
+  pub counted : Counted m
+  pub index : Indexed (m .slots .rows) (m .slots .count) scratch
+
+-- the map of object o with what follows it, and its resolves
+abbrev pub mapped : Input → Reader SlotValue → ℕ → ℕ → ℕ → Reader (Unit {0})
+mapped x r space size o =
+    readMap x r space size o >>= keepMap x o >> (λ m. resolves x o (length (x .payload) - m .at) m)
+
+-- an item, of whose object `done` bytes have been read
+abbrev pub slotIn : Input → Reader SlotValue → ℕ → ℕ → Reader ℕ
+slotIn x r o done = r >>= placeItem x o done
+
+-- the items after the map, which fill the object
+abbrev pub filledFrom : Input → Reader SlotValue → ℕ → ℕ → ℕ → Reader SlotValue
+filledFrom x r o tag size =
+    (λ m. items x r o size (length (x .payload) - m .at + 1) (word x) m) >>= closed o tag size

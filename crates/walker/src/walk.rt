@@ -1,0 +1,268 @@
+// A reference, its object and the items of that object. The depth d of a reference is at most 64 (else refusal 6).
+// Lent to each: the sheet v, its 256 heads h, the trusted list tr, the payload p, the tables of objects, slots, values and addresses ot, st,
+// vt, dt, the hot ring hr, the chunk counters c and u (chunk, next free offset) of k spaces, and the
+// scratch sc.
+use readers::head::open_object;
+use readers::item::place_item;
+use readers::map::after_map;
+use readers::map::keep_map;
+use readers::pending::resolves;
+use readers::prefix::Prefix;
+use readers::prefix::begin;
+use readers::prefix::hold;
+use readers::simple::simple_ref;
+use readers::state::Count;
+use readers::state::State;
+use readers::state::Step;
+use readers::state::Went;
+use sheet::names::K_DEFERRED;
+use sheet::tests::is_tag;
+use sheet::usable::word_bytes;
+use stream::bytes::byte;
+use stream::bytes::peek;
+use tables::values::Ref;
+use tables::values::SlotValue;
+ghost use mathlib.Core.Path.{_≡_};
+ghost use Prim.Native.Nat.{_+_, _-_, _*_, _^_, _<_, _≤_};
+ghost use lib.ListN.{length};
+ghost use Rattle.tables.specs.Records.{room};
+ghost use Rattle.definition.specs.Object.{object};
+ghost use Rattle.definition.specs.Reference.{refAt};
+ghost use Rattle.readers.specs.Views.{input, mem, seen, seenCount, seenWent};
+ghost use Rattle.readers.specs.Index.{StepIndexed, CountIndexed, WentIndexed};
+ghost use Rattle.walker.specs.Ready.{lent, Ready, mapped, slotIn, filledFrom};
+
+// A reference at depth d.
+pub fn parse_ref(
+    v: &[u16],
+    h: &[u16; 512],
+    tr: &[u8],
+    p: &[u8],
+    ot: &mut [u64],
+    st: &mut [u64],
+    vt: &mut [u64],
+    dt: &mut [u64],
+    hr: &mut [u64; 25],
+    c: &mut [u32; 256],
+    u: &mut [u32; 256],
+    sc: &mut [u64],
+    k: u64,
+    s: State,
+    d: usize,
+) -> Step
+    requires { ⌜ Ready (input (now v) (now p) k (now tr)) (now h) (mem s (lent (now ot) (now st) (now vt) (now dt) (now hr) (now c) (now u))) (now sc) ⌝ }
+    requires { ⌜ d ≤ 65 ⌝ }
+    ensures { λ r. ⌜ seen r (lent (now (ot .exit)) (now (st .exit)) (now (vt .exit)) (now (dt .exit)) (now (hr .exit)) (now (c .exit)) (now (u .exit))) ≡ refAt (input (now (v .entry)) (now (p .entry)) k (now (tr .entry))) (65 - d) (mem s (lent (now (ot .entry)) (now (st .entry)) (now (vt .entry)) (now (dt .entry)) (now (hr .entry)) (now (c .entry)) (now (u .entry)))) ⌝ }
+    ensures index { λ r. ⌜ StepIndexed r (now (st .exit)) (now (sc .exit)) ⌝ }
+{
+    let at = s.at;
+    if 64 < d {
+        return Step::Refused(6, at, s);
+    }
+    let mut t = s;
+    if p.len() <= at {
+        t.at = p.len();
+        return Step::Refused(4, p.len(), t);
+    }
+    let b = byte(p, at) as usize;
+    let kind = h[b] as u64;
+    let a = h[256 + b] as u64;
+    t.at = at + 1;
+    if kind == 1 {
+        return parse_object(v, h, tr, p, ot, st, vt, dt, hr, c, u, sc, k, t, d, at, a);
+    }
+    match begin(p, c, u, k, t, kind, a) {
+        Prefix::Other => simple_ref(v, p, dt, hr, t, at, kind, a),
+        Prefix::Refused(n, q, y) => Step::Refused(n, q, y),
+        Prefix::Value(held, i, y) => hold(vt, y, held, SlotValue::Ref(Ref::Root(i))),
+        Prefix::Inner(held, y) => {
+            let inner = parse_ref(v, h, tr, p, ot, st, vt, dt, hr, c, u, sc, k, y, d + 1);
+            match inner {
+                Step::Refused(n, q, w) => Step::Refused(n, q, w),
+                Step::Got(x, w) => hold(vt, w, held, x),
+            }
+        }
+    }
+}
+
+// An object at depth d in space a, whose head stands at `at`; the cursor stands after it.
+pub fn parse_object(
+    v: &[u16],
+    h: &[u16; 512],
+    tr: &[u8],
+    p: &[u8],
+    ot: &mut [u64],
+    st: &mut [u64],
+    vt: &mut [u64],
+    dt: &mut [u64],
+    hr: &mut [u64; 25],
+    c: &mut [u32; 256],
+    u: &mut [u32; 256],
+    sc: &mut [u64],
+    k: u64,
+    s: State,
+    d: usize,
+    at: usize,
+    a: u64,
+) -> Step
+    requires { ⌜ Ready (input (now v) (now p) k (now tr)) (now h) (mem s (lent (now ot) (now st) (now vt) (now dt) (now hr) (now c) (now u))) (now sc) ⌝ }
+    requires { ⌜ (d ≤ 64) × (a < 256) ⌝ }
+    ensures { λ r. ⌜ seen r (lent (now (ot .exit)) (now (st .exit)) (now (vt .exit)) (now (dt .exit)) (now (hr .exit)) (now (c .exit)) (now (u .exit))) ≡ object (input (now (v .entry)) (now (p .entry)) k (now (tr .entry))) (refAt (input (now (v .entry)) (now (p .entry)) k (now (tr .entry))) (64 - d)) a at (mem s (lent (now (ot .entry)) (now (st .entry)) (now (vt .entry)) (now (dt .entry)) (now (hr .entry)) (now (c .entry)) (now (u .entry)))) ⌝ }
+    ensures index { λ r. ⌜ StepIndexed r (now (st .exit)) (now (sc .exit)) ⌝ }
+{
+    let o = s.objects;
+    match open_object(v, p, ot, s, at, a) {
+        Count::Refused(m, q, t) => Step::Refused(m, q, t),
+        Count::Is(words, t) => {
+            let n = words * word_bytes(v);
+            let map = parse_map(v, h, tr, p, ot, st, vt, dt, hr, c, u, sc, k, t, d, a, n, o);
+            match map {
+                Went::Refused(m, q, y) => Step::Refused(m, q, y),
+                Went::On(y) => parse_items(
+                    v,
+                    h,
+                    tr,
+                    p,
+                    ot,
+                    st,
+                    vt,
+                    dt,
+                    hr,
+                    c,
+                    u,
+                    sc,
+                    k,
+                    y,
+                    d,
+                    at,
+                    n,
+                    o,
+                ),
+            }
+        }
+    }
+}
+
+// The map of object o of n bytes in space a, what follows it, and its resolves.
+pub fn parse_map(
+    v: &[u16],
+    h: &[u16; 512],
+    tr: &[u8],
+    p: &[u8],
+    ot: &mut [u64],
+    st: &mut [u64],
+    vt: &mut [u64],
+    dt: &mut [u64],
+    hr: &mut [u64; 25],
+    c: &mut [u32; 256],
+    u: &mut [u32; 256],
+    sc: &mut [u64],
+    k: u64,
+    s: State,
+    d: usize,
+    a: u64,
+    n: u64,
+    o: usize,
+) -> Went
+    requires { ⌜ Ready (input (now v) (now p) k (now tr)) (now h) (mem s (lent (now ot) (now st) (now vt) (now dt) (now hr) (now c) (now u))) (now sc) ⌝ }
+    requires { ⌜ (d ≤ 64) × (a < 256) × (n < 2 ^ 33) × (o < s .objects) ⌝ }
+    ensures { λ r. ⌜ seenWent r (lent (now (ot .exit)) (now (st .exit)) (now (vt .exit)) (now (dt .exit)) (now (hr .exit)) (now (c .exit)) (now (u .exit))) ≡ mapped (input (now (v .entry)) (now (p .entry)) k (now (tr .entry))) (refAt (input (now (v .entry)) (now (p .entry)) k (now (tr .entry))) (64 - d)) a n o (mem s (lent (now (ot .entry)) (now (st .entry)) (now (vt .entry)) (now (dt .entry)) (now (hr .entry)) (now (c .entry)) (now (u .entry)))) ⌝ }
+    ensures index { λ r. ⌜ WentIndexed r (now (st .exit)) (now (sc .exit)) ⌝ }
+{
+    let before = s.alignment;
+    match parse_ref(v, h, tr, p, ot, st, vt, dt, hr, c, u, sc, k, s, d + 1) {
+        Step::Refused(m, q, t) => Went::Refused(m, q, t),
+        Step::Got(x, t) => match after_map(v, p, dt, c, u, k, t, before, a, n, o as u64) {
+            Went::Refused(m, q, y) => Went::Refused(m, q, y),
+            Went::On(y) => match keep_map(tr, ot, st, y, o, x) {
+                Went::Refused(m, q, w) => Went::Refused(m, q, w),
+                Went::On(w) => resolves(v, p, st, sc, w, o as u64),
+            },
+        },
+    }
+}
+
+// The items of object o after its map, until they fill its n bytes; its head stands at `at`.
+pub fn parse_items(
+    v: &[u16],
+    h: &[u16; 512],
+    tr: &[u8],
+    p: &[u8],
+    ot: &mut [u64],
+    st: &mut [u64],
+    vt: &mut [u64],
+    dt: &mut [u64],
+    hr: &mut [u64; 25],
+    c: &mut [u32; 256],
+    u: &mut [u32; 256],
+    sc: &mut [u64],
+    k: u64,
+    s: State,
+    d: usize,
+    at: usize,
+    n: u64,
+    o: usize,
+) -> Step
+    requires { ⌜ Ready (input (now v) (now p) k (now tr)) (now h) (mem s (lent (now ot) (now st) (now vt) (now dt) (now hr) (now c) (now u))) (now sc) ⌝ }
+    requires { ⌜ (d ≤ 64) × (n < 2 ^ 33) × (o < s .objects) × (0 < s .slots) ⌝ }
+    ensures { λ r. ⌜ seen r (lent (now (ot .exit)) (now (st .exit)) (now (vt .exit)) (now (dt .exit)) (now (hr .exit)) (now (c .exit)) (now (u .exit))) ≡ filledFrom (input (now (v .entry)) (now (p .entry)) k (now (tr .entry))) (refAt (input (now (v .entry)) (now (p .entry)) k (now (tr .entry))) (64 - d)) o at n (mem s (lent (now (ot .entry)) (now (st .entry)) (now (vt .entry)) (now (dt .entry)) (now (hr .entry)) (now (c .entry)) (now (u .entry)))) ⌝ }
+    ensures index { λ r. ⌜ StepIndexed r (now (st .exit)) (now (sc .exit)) ⌝ }
+{
+    let word = word_bytes(v);
+    let mut done = word;
+    let mut t = s;
+    while done < n {
+        let next = t.at;
+        if is_tag(v, K_DEFERRED, peek(p, next)) {
+            t.at = next + 1;
+            done = n;
+        } else {
+            let item = parse_slot(v, h, tr, p, ot, st, vt, dt, hr, c, u, sc, k, t, d, o, done);
+            match item {
+                Count::Refused(m, q, y) => {
+                    return Step::Refused(m, q, y);
+                }
+                Count::Is(read, y) => {
+                    t = y;
+                    done = read;
+                }
+            }
+        }
+    }
+    if done == n {
+        Step::Got(SlotValue::Ref(Ref::Object(o as u64)), t)
+    } else {
+        Step::Refused(12, at, t)
+    }
+}
+
+// An item of object o, `done` bytes of which have been read: the bytes read then.
+pub fn parse_slot(
+    v: &[u16],
+    h: &[u16; 512],
+    tr: &[u8],
+    p: &[u8],
+    ot: &mut [u64],
+    st: &mut [u64],
+    vt: &mut [u64],
+    dt: &mut [u64],
+    hr: &mut [u64; 25],
+    c: &mut [u32; 256],
+    u: &mut [u32; 256],
+    sc: &mut [u64],
+    k: u64,
+    s: State,
+    d: usize,
+    o: usize,
+    done: u64,
+) -> Count
+    requires { ⌜ Ready (input (now v) (now p) k (now tr)) (now h) (mem s (lent (now ot) (now st) (now vt) (now dt) (now hr) (now c) (now u))) (now sc) ⌝ }
+    requires { ⌜ (d ≤ 64) × (done < 2 ^ 60) × (o < s .objects) × (0 < s .slots) ⌝ }
+    ensures { λ r. ⌜ seenCount r (lent (now (ot .exit)) (now (st .exit)) (now (vt .exit)) (now (dt .exit)) (now (hr .exit)) (now (c .exit)) (now (u .exit))) ≡ slotIn (input (now (v .entry)) (now (p .entry)) k (now (tr .entry))) (refAt (input (now (v .entry)) (now (p .entry)) k (now (tr .entry))) (64 - d)) o done (mem s (lent (now (ot .entry)) (now (st .entry)) (now (vt .entry)) (now (dt .entry)) (now (hr .entry)) (now (c .entry)) (now (u .entry)))) ⌝ }
+    ensures index { λ r. ⌜ CountIndexed r (now (st .exit)) (now (sc .exit)) ⌝ }
+{
+    match parse_ref(v, h, tr, p, ot, st, vt, dt, hr, c, u, sc, k, s, d + 1) {
+        Step::Refused(n, q, t) => Count::Refused(n, q, t),
+        Step::Got(x, t) => place_item(ot, st, vt, sc, t, o, done, x, word_bytes(v)),
+    }
+}
