@@ -110,7 +110,7 @@ class Maker:
 
     def drawn(self):
         rnd = self.rnd
-        name = rnd.choice(sorted(SHEETS) + ['coinciding'] * 4)
+        name = rnd.choice(sorted(SHEETS) + ['legacy4', 'mapFirst4'] + ['coinciding'] * 4)
         sheet = SHEETS[name] if name in SHEETS else coinciding(rnd)
         legacy = 'kSpaceMask' in sheet
         reservations = rnd.choice(RESERVATIONS) if legacy else []
@@ -131,8 +131,8 @@ class Maker:
 
     def fixed(self):
         """Inputs that chance does not give: those noted, the payload's ends, depth (6) and 32 bits (16)."""
-        for name, payload in noted():
-            self.plainly(name, payload, [0] * 5 + [1])
+        for name, count, payload in noted():
+            self.plainly(name, payload, [0] * 5 + [1], count=count)
         for name in sorted(SHEETS):
             for payload in ends_and_depths(SHEETS[name]):
                 self.plainly(name, payload)
@@ -140,9 +140,9 @@ class Maker:
                 self.plainly(name, payload, place=place)
         self.add('legacy', 'legacy8', numbers(SHEETS['legacy8']), [7, 255, 255, 255, 255, 0x45, 0x14], [TOP] * 3, place=6)
 
-    def plainly(self, name, payload, trusted=(), place=None):
-        """A case under one of the sheets, with six reservations in legacy."""
-        reservations = [TOP] * 6 if 'kSpaceMask' in SHEETS[name] else []
+    def plainly(self, name, payload, trusted=(), place=None, count=6):
+        """A case under one of the sheets, in legacy with so many reservations that each end a space."""
+        reservations = [TOP] * count if 'kSpaceMask' in SHEETS[name] else []
         self.add(family_of(name), name, numbers(SHEETS[name]), payload, reservations, trusted, place=place)
 
 

@@ -45,7 +45,7 @@ class Payload:
         """A reference whose width is at most `room` bytes, where that is given."""
         if self.spent() or self.chance(.1):
             return self.root_constant('kRootArrayConstants', depth, room)
-        name = 'kNewObject' if self.chance(.25) else self.rnd.choice(self.heads)
+        name = self.rnd.choice(['kNewObject'] * 5 + ['kHotObject', 'kRootArray', 'kBackref'] + self.rnd.choices(self.heads, k=12))
         return self.WRITERS[name](self, name, depth, room)
 
     def root_constant(self, name, depth, room):
@@ -63,6 +63,8 @@ class Payload:
     def object(self, name, depth, room):
         if depth > 4:
             return self.root_constant('kRootArrayConstants', depth, room)
+        if self.legacy and 'kAlignmentPrefix' in self.sheet and self.chance(.15):
+            return self.alignment('kAlignmentPrefix', depth, room)
         if self.legacy:
             space = self.rnd.choice([0, 0, 1, 2, 4, 5, 3]) % max(1, self.sheet.get('kNumberOfSpaces', 6))
         else:
@@ -100,12 +102,14 @@ class Payload:
 
     def legacy_address(self, space, chunk, offset):
         numbered = self.canonical(space)
+        # in 6.x the bits of the space above the index are not looked at
+        above = 1 << 32 - self.sheet.get('kSpaceTagSize', 3) if self.six and self.chance(.1) else 0
         if numbered:
             count = self.numbered[numbered]
-            self.integer(self.rnd.randrange(count) if count and self.chance(.97) else count)
+            self.integer((self.rnd.randrange(count) if count and self.chance(.97) else count) + above)
         elif self.six:
             bits = max(0, self.sheet.get('kPageSizeBits', 19) - (2 if self.word == 4 else 3))
-            self.integer((chunk << bits | offset // self.word) & (1 << 30) - 1)
+            self.integer((chunk << bits | offset // self.word) & (1 << 29) - 1 | above)
         else:
             self.integer(chunk)
             self.integer(offset)
@@ -113,9 +117,9 @@ class Payload:
     def hot_place(self, name, depth, room):
         first = self.sheet[name]
         full = [b for b in range(first, first + 8) if b & 7 < self.hot]
-        if not full and self.chance(.97):
+        if not full and self.chance(.9):
             return self.root_constant('kRootArrayConstants', depth, room)
-        self.out.append(self.rnd.choice(full or [first]))
+        self.out.append(self.rnd.choice(full or [first]) if self.chance(.98) else first + self.rnd.randrange(8))
         if 'WithSkip' in name:
             self.amount(room)
         return self.word, 'slot'

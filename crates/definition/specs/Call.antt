@@ -14,7 +14,7 @@ use Rattle.definition.specs.Object.{object}
 use Rattle.definition.specs.Reference.{refAt}
 use Rattle.definition.specs.Closing.{closing}
 
--- the four lengths of tables lent
+-- how many numbers each of the four tables lent has; a table's room is that divided by its record's fields
 pub record Rooms : Type 0 where
   pub objects : ℕ
   pub slots : ℕ
@@ -28,11 +28,12 @@ pub record Call : Type 0 where
   pub reservations : List ℕ
   pub trusted : List ℕ
 
+-- what the walk has of it
 abbrev pub inputOf : Call → Input
 inputOf c =
     record { sheet = c .sheet; payload = c .payload; spaces = spacesOf (c .reservations); trusted = c .trusted }
 
--- the empty tables, with somebody or nobody listening
+-- an empty table of so many numbers, and what a call starts with
 abbrev pub empty : ℕ → Table
 empty length = table (replicate length 0) 0
 
@@ -59,7 +60,7 @@ tooLong c = ltb 16777216 (length (c .payload)) || ltb 65536 (length (c .reservat
 unfoldable pub called : Call → Reader (Unit {0})
 called c = choose (usable (c .sheet)) (choose (tooLong c) (refuseAt 2 0) (walk (inputOf c))) (refuseAt 1 0)
 
--- the reading of a call's payload, with somebody who listens
+-- the reading of a call's payload, with its events
 unfoldable pub graph : Call → Rooms → Out (Unit {0})
 graph c rooms = called c (start rooms (told []))
 
@@ -84,7 +85,7 @@ answerOf (got v m) =
     { number = 0; objects = m .objects .count; slots = m .slots .count; values = m .values .count; addresses = m .addresses .count; end = m .at; place = 0 }
 answerOf (no n q m) = record { number = n; objects = 0; slots = 0; values = 0; addresses = 0; end = 0; place = q }
 
--- what a reading tells, the latest first; of a refused payload nothing
+-- the events of a reading, the latest first; of a refused payload none
 abbrev pub toldOf : Log → List Event
 toldOf off = []
 toldOf (told es) = es

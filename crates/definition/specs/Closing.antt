@@ -20,7 +20,7 @@ use Rattle.definition.specs.Slots.{addSlot}
 use Rattle.definition.specs.Object.{peek}
 use Rattle.definition.specs.Reference.{legacyReference, refAt}
 
--- ---- legacy deferred entries (differences D23 to D26): a new-object byte, a back-reference of that space, a size, and slots
+-- ---- legacy deferred entries (differences D23, D24, D25, D26): a new-object byte, a back-reference of that space, a size, and slots
 
 -- a slot of an entry: what a repeat holds, else the value itself
 abbrev pub entryFields : Table → SlotValue → Fields
@@ -58,6 +58,7 @@ entrySlots x v = pickℕ (isSkip v) 0 (max (widthOf (word x) v / word x) 1)
 abbrev pub entryCount : Input → SlotValue → ℕ
 entryCount x v = pickℕ (isSkip v) (widthOf (word x) v) (max (widthOf (word x) v) (word x))
 
+-- the slots of an item
 abbrev pub entryItem : Input → ℕ → ℕ → SlotValue → Reader (Unit {0})
 entryItem x o index v m = addSlots o (entryFields (m .values) v) index (entrySlots x v) m
 
@@ -91,10 +92,12 @@ dropReference x = refAt x 65 >>= (λ v. tell (value (fieldsOf v) dropped))
 abbrev pub endsLegacy : Input → ℕ → Bool
 endsLegacy x n = isLegacy (x .sheet) && not (eqb n 3 || eqb n 16)
 
+-- after an entry: k reads on; a fault ends a legacy section where it left the cursor, and refuses otherwise
 abbrev pub afterEntry : Input → Reader (Unit {0}) → Out (Unit {0}) → Out (Unit {0})
 afterEntry x k (got v m) = k m
 afterEntry x k (no n q m) = choose (endsLegacy x n) (give tt) (refuseAt n q) m
 
+-- one entry, by the byte at the cursor; k reads what follows
 abbrev pub byEntry : Input → Reader (Unit {0}) → Closing → Reader (Unit {0})
 byEntry x k Synchronize m = (tell (synchronize (m .at)) >> byte x >> give tt) m
 byEntry x k (Alignment a) m = (byte x >> change (aligned a) >> k) m

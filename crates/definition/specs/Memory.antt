@@ -1,4 +1,11 @@
 -- What a reader has and gives, and the steps that readers are made of. Assumes nothing: these are definitions.
+--
+-- How to read these files. A reader takes what it has (`Mem`) and gives a value, or a refusal (`Out`). `r >>= f` is r and then f on the value
+-- that r gave; `r >> s` is r and then s; `choose test r s` is r where the test is true, else s; `λ m. ..` is a function of m. `ltb`, `leb`
+-- and `eqb` test <, ≤ and =; `a - b` is 0 where b is greater; `getD l i d` is number i of the list l, or d past its end; `set l i n` is l
+-- with n as number i; `Unit` stands for no value. Where a reader repeats a step, a number that falls bounds the repetitions; it is chosen so
+-- large that it is never used up. `abbrev` and `unfoldable` both define; they differ in when a proof computes with the definition.
+-- Order: Memory, Slots, Object, Reference, Closing, Call, and Cases with the examples.
 use mathlib.Core.Bool.{Bool, true, false}
 use mathlib.Core.List.{List, [], _∷_}
 use Prim.Native.Nat.{ℕ, _+_}
@@ -41,7 +48,7 @@ pub data Event : Type 0 where
   resolve : ℕ → ℕ → Event
   synchronize : ℕ → Event
 
--- nobody listens, or somebody does and was told these, the latest first
+-- events are not recorded, or they are: these so far, the latest first
 pub data Log : Type 0 where
   off : Log
   told : List Event → Log
@@ -59,7 +66,7 @@ abbrev pub table : List ℕ → ℕ → Table
 table rows count = record { rows = rows; count = count }
 
 -- what a reader has: the cursor, the four tables, the hot ring, the next pending number and how many slots wait, the with-skip amount that
--- stands, the pending alignment, the chunk counters, and who listens
+-- stands, the pending alignment, the chunk counters, and the events recorded
 pub record Mem : Type 0 where
   pub at : ℕ
   pub objects : Table
@@ -161,7 +168,7 @@ withAlloc t a c m =
 abbrev pub aligned : ℕ → Mem → Mem
 aligned a m = withAlloc (m .addresses) a (m .alloc) m
 
--- an event is told
+-- an event is recorded, where events are
 abbrev pub noted : Event → Mem → Mem
 noted e m =
     record
@@ -193,12 +200,14 @@ afterInt x Cut m = cut x m
 unfoldable pub int : Input → Reader ℕ
 int x m = afterInt x (intAt (x .payload) (m .at)) m
 
--- a record is appended to a table if there is room for it; else refusal 3
+-- there is room for one more record of so many fields
 abbrev pub hasRoom : ℕ → Table → Bool
 hasRoom fields t = ltb (t .count) (room fields (t .rows))
 
+-- the table with one more record
 abbrev pub added : Table → List ℕ → Table
 added t row = table (written (t .rows) (t .count) row) (t .count + 1)
 
+-- a record of so many fields is appended to table t by the change f, if there is room for it, and its number is given; else refusal 3
 abbrev pub append : ℕ → (Mem → Table) → (Mem → Mem) → Reader ℕ
 append fields t f m = choose (hasRoom fields (t m)) (λ m. got (t m .count) (f m)) (refuse 3) m

@@ -37,6 +37,7 @@ largeByte x space = choose (isSixX (x .sheet) && eqb space (loSpace (x .sheet)))
 
 -- ---- legacy allocation
 
+-- a space goes on in its next chunk, at offset 0
 abbrev pub changeChunk : Input → ℕ → Mem → Mem
 changeChunk x space m = withAlloc (m .addresses) (m .alignment) (nextChunk (m .alloc) (x .spaces) space) m
 
@@ -100,6 +101,7 @@ isTrusted x (Object o) = false
 isTrusted x (RoRef c o) = false
 isTrusted x (Attached i) = false
 
+-- a map that is such a root
 abbrev pub flags : Input → SlotValue → Bool
 flags x (IsRef r) = isTrusted x r
 flags x (Repeat n k) = false
@@ -111,7 +113,7 @@ flags x ClearedWeak = false
 flags x (WeakRef k) = false
 flags x (PendingRef n) = false
 
--- `raw_len` of an object whose map is such a root (difference D44)
+-- `raw_len` of an object with such a map is 1 (difference D44)
 abbrev pub flagged : ℕ → Table → Table
 flagged o t = table (set (t .rows) (o * 4 + 2) 1) (t .count)
 
@@ -143,10 +145,11 @@ items x r o size (suc n) done m =
     (r >>= placeItem x o done >>= items x r o size n))
     m
 
--- an object whose head stands at `tag`, with the cursor after it: its items fill its declared bytes exactly (else refusal 12 at the tag)
+-- the bytes read are the declared ones; else refusal 12 at the object's tag
 abbrev pub closed : ℕ → ℕ → ℕ → ℕ → Reader SlotValue
 closed o tag size done = choose (eqb done size) (give (IsRef (Object o))) (refuseAt 12 tag)
 
+-- what comes after an object's head: map, resolves, items. r reads references, one level deeper
 unfoldable pub body : Input → Reader SlotValue → ℕ → ℕ → ℕ → ℕ → Reader SlotValue
 body x r space tag words o =
     readMap x r space (words * word x) o
@@ -155,6 +158,7 @@ body x r space tag words o =
     >> (λ m. items x r o (words * word x) (length (x .payload) - m .at + 1) (word x) m)
     >>= closed o tag (words * word x)
 
+-- an object whose head byte stands at `tag`, with the cursor after that byte
 unfoldable pub object : Input → Reader SlotValue → ℕ → ℕ → Reader SlotValue
 object x r space tag =
     int x >>= (λ words. largeByte x space >> addObject x tag words >>= body x r space tag words)

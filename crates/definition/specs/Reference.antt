@@ -43,7 +43,7 @@ refersHot r m = got (IsRef r) (withHot (entered (m .hot) (refFields r)) m)
 unfoldable pub backrefTo : ℕ → Reader SlotValue
 backrefTo i m = choose (ltb i (m .objects .count)) (refersHot (Object i)) (refuse 8) m
 
--- a place of the hot ring; empty: refusal 9
+-- a place of the hot ring; empty: refusal 9 (difference D18)
 abbrev pub ofHot : Hot → Reader SlotValue
 ofHot (Is r) = refers r
 ofHot Empty = refuse 9
@@ -61,7 +61,8 @@ unfoldable pub legacyReference : Input → ℕ → Reader SlotValue
 legacyReference x space m =
     ofBackref x (backrefOf (x .sheet) (x .payload) (m .addresses .rows) (m .addresses .count) (m .alignment) space (m .at)) m
 
--- things outside the payload, as read-only references with a first number of their own (differences D41 and D42)
+-- things outside the payload, as read-only references with a first number of their own: 2^32 less 1 for caches, 2 for builtins, 3 for
+-- external and 4 for API references, 5 for off-heap targets (differences D41 and D42)
 abbrev pub outside : Input → ℕ → Reader SlotValue
 outside x k = int x >>= (λ i. refers (RoRef (2 ^ 32 - k) i))
 
@@ -83,7 +84,7 @@ rawBytes x n = max (pickℕ (isLegacy (x .sheet)) n (n * word x)) 1
 
 -- ---- references with others in them; r reads those, one level deeper
 
--- what a weak or a repeat holds becomes a value record
+-- what a weak or a repeat holds, any value, becomes a value record (differences D12 and D15)
 abbrev pub weakOf : SlotValue → Reader SlotValue
 weakOf v = addValue (fieldsOf v) >>= (λ k. give (WeakRef k))
 
@@ -95,6 +96,8 @@ abbrev pub repeatRoot : Input → ℕ → Reader SlotValue
 repeatRoot x n = byte x >>= (λ i. repeatOf n (IsRef (Root i)))
 
 -- ---- by the head's kind and argument; the head stands at `tag`, and the cursor after it
+-- Where the Rust leaves V8 here: pointer prefixes leave no trace (D13), the self pointer is a cleared weak (D14), stream bytes are not passed
+-- over (D38), a dispatch entry is its integer alone (D39), meta maps are refused (D36), and so are tags that only V8 knows (D37, D40)
 
 unfoldable pub byHead : Input → Reader SlotValue → ℕ → ℕ → ℕ → Reader SlotValue
 byHead x r tag kind a =

@@ -46,7 +46,7 @@ waiter st number (suc n) = pickℕ (waitsFor st number n) (suc n) (waiter st num
 abbrev pub renumbered : ℕ → ℕ → ℕ
 renumbered pending waiting = pickℕ (eqb waiting 0) 0 pending
 
--- a slot that waited, counted from 1, becomes this object; 0: an unknown number changes no slot (differences D8 and D10)
+-- the slot that waits, counted from 1, becomes this object; 0, an unknown number, changes no slot (differences D8 and D10)
 abbrev pub fillWaiter : ℕ → ℕ → Mem → Mem
 fillWaiter zero o m = withPending (renumbered (m .pending) (m .waiting)) (m .waiting) m
 fillWaiter (suc k) o m =
@@ -59,7 +59,7 @@ resolved number o m = noted (resolve number o) (fillWaiter (waiter (m .slots .ro
 
 -- ---- items of an object, `done` bytes of which have been read
 
--- only a pending value that is itself the slot waits
+-- only a pending value that is itself the slot waits (difference D11)
 abbrev pub waitsOf : SlotValue → ℕ
 waitsOf (PendingRef n) = 1
 waitsOf (Ref r) = 0

@@ -1,2 +1,11 @@
 pub mod Sound
+pub mod Leaves
+pub mod Waiting
+pub mod Rules
+pub mod Steps
 pub mod Keeps
+pub mod References
+pub mod ClosingKeeps
+pub mod Theorems
+pub mod Numbered
+pub mod Fuel

@@ -1,8 +1,7 @@
 -- What holds of a call's input, and of what a reader has at its start and at its end. Assumes nothing: these are definitions.
 use mathlib.Core.Path.{_≡_}
 use mathlib.Core.Bool.{true}
-use mathlib.Core.List.{List}
-use Prim.Native.Nat.{ℕ, _+_, _*_, _^_, _<_, _≤_}
+use Prim.Native.Nat.{ℕ, _*_, _^_, _<_, _≤_}
 use lib.ListN.{length, getD}
 use Rattle.sheet.specs.Sheet.{usable}
 use Rattle.tables.specs.declared.values.SlotValue.{SlotValue}
@@ -32,6 +31,7 @@ pub record Sound (x : Input) (m : Mem) : Type 0 where
   pub offsets : length (m .alloc .used) ≡ 256
   pub skip-low : m .skip ≤ m .at * 2 ^ 30
   pub pending-low : m .pending ≤ m .at
+  pub waiting-low : m .waiting ≤ m .slots .count
 
 -- and at every index: chunk numbers are no higher than the cursor, and slot counts than the number of slots
 pub record Counted (m : Mem) : Type 0 where
