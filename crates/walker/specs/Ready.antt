@@ -9,6 +9,7 @@ use Rattle.definition.specs.Memory.{Input, word, Mem, Reader, _>>=_, _>>_}
 use Rattle.definition.specs.Slots.{placeItem}
 use Rattle.definition.specs.Object.{readMap, keepMap, resolves, items, closed}
 use Rattle.laws.specs.Sound.{Proper, Sound, Counted}
+use Rattle.laws.specs.Numbered.{Numbered}
 use Rattle.readers.specs.Views.{Lent}
 use Rattle.readers.specs.Index.{Indexed}
 
@@ -22,6 +23,7 @@ pub record Ready (x : Input) (heads : List ℕ) (m : Mem) (scratch : List ℕ) :
   pub decoded : Heads (x .sheet) heads
   pub sound : Sound x m
   pub counted : Counted m
+  pub numbered : Numbered m
   pub index : Indexed (m .slots .rows) (m .slots .count) scratch
 
 -- the map of object o with what follows it, and its resolves
