@@ -21,3 +21,16 @@ pub mod Standing
 pub mod Pending
 pub mod Referred
 pub mod Assured
+pub mod Wider
+pub mod Simulate
+pub mod SimulateSteps
+pub mod SimulateLegacy
+pub mod SimulateReaders
+pub mod SimulateClosing
+pub mod SimulateCall
+pub mod Quiet
+pub mod Rooms
+pub mod Agree
+pub mod Padding
+pub mod Prefix
+pub mod Guarantee
