@@ -1,22 +1,26 @@
 -- Cases a to l of document 01, as one table with one proof. Assumes nothing.
 use mathlib.Core.Path.{_≡_, refl}
-use mathlib.Core.List.{List, [], _∷_, map}
-use Prim.Native.Nat.{ℕ, _*_}
-use lib.ListN.{take}
+use mathlib.Core.List.{List, [], _∷_, map, reverse}
+use Prim.Native.Nat.{ℕ, _*_, _^_}
+use lib.ListN.{take, replicate}
 use Rattle.stream.specs.Bytes.{peekAt, littleEndian, rawAt}
 use Rattle.stream.specs.PutInt.{intLength, intAt}
 use Rattle.sheet.specs.Sheet.{allWithin, usable}
 use Rattle.sheet.specs.Heads.{order, firstOf, headOf}
 use Rattle.sheet.specs.Tests.{alignmentOf, closingOf}
+use Rattle.tables.specs.Values.{triple}
 use Rattle.tables.specs.Records.{written, filled}
-use Rattle.alloc.specs.Allocation.{spacesOf}
+use Rattle.alloc.specs.Fill.{maxFillToAlign, fillToAlign}
+use Rattle.alloc.specs.Allocation.{spacesOf, nextChunk, advanceOf, allocateOf}
+use Rattle.alloc.specs.Resolve.{addressed, resolveOf, ordinalFrom}
 use Rattle.backref.specs.HotRing.{entered, hotAt}
-use Rattle.definition.specs.Memory.{Table, Mem, Out, got, no, byte, int}
+use Rattle.backref.specs.Legacy.{packedBackref, plainBackref, backrefOf}
+use Rattle.definition.specs.Memory.{inMap, inSlot, inValue, dropped, Event, opened, passed, item, value, resolve, synchronize, Table, Mem, Out, got, no, byte, int}
 use Rattle.definition.specs.Slots.{addValue, addSlot, waiter, resolved, keepItem, placeItem}
-use Rattle.definition.specs.Object.{addObject, flagObject, keepMap, resolves, items, body, object}
-use Rattle.definition.specs.Reference.{backrefTo, pendingReference, rawData, byHead, reference, refAt}
-use Rattle.definition.specs.Closing.{entries, padding, closing}
-use Rattle.definition.specs.Call.{Rooms, Call, walk, called, graph}
+use Rattle.definition.specs.Object.{addObject, allocate, chunkChanges, mapFirst, flagObject, keepMap, resolves, items, body, object}
+use Rattle.definition.specs.Reference.{backrefTo, legacyReference, pendingReference, rawData, byHead, reference, refAt}
+use Rattle.definition.specs.Closing.{addSlots, entryItems, entry, entries, padding, closing}
+use Rattle.definition.specs.Call.{Rooms, Call, walk, called, graph, eventsOf}
 
 -- sheet A of document 01, in the order of docs/SHEET.md
 abbrev pub sheetA : List ℕ
@@ -84,3 +88,68 @@ cases =
 pub cases-hold : map (λ (c : Case). shown (graph (callA (c .0)) roomsA)) cases ≡ map (λ (c : Case). c .1) cases
 unfolding peekAt littleEndian rawAt intLength intAt allWithin usable order firstOf headOf alignmentOf closingOf written filled spacesOf entered hotAt byte int addValue addSlot waiter resolved keepItem placeItem addObject flagObject keepMap resolves items body object backrefTo pendingReference rawData byHead reference refAt entries padding closing walk called graph
 cases-hold = refl
+
+-- sheet L8 of the notes, in the manner of V8 7.8, with six reservations of the top bit alone
+abbrev pub sheetL : List ℕ
+sheetL =
+    0 ∷ 8 ∷ 17 ∷ 18 ∷ 20 ∷ 19 ∷ 144 ∷ 64 ∷ 96 ∷ 21 ∷
+    23 ∷ 65535 ∷ 65535 ∷ 65535 ∷ 65535 ∷ 65535 ∷ 65535 ∷ 65535 ∷ 65535 ∷ 65535 ∷
+    65535 ∷ 65535 ∷ 65535 ∷ 65535 ∷ 65535 ∷ 65535 ∷ 65535 ∷ 65535 ∷ 65535 ∷ 65535 ∷
+    28 ∷ 29 ∷ 65535 ∷ 65535 ∷ 65535 ∷ 65535 ∷ 65535 ∷ 27 ∷ 65535 ∷ 128 ∷
+    65535 ∷ 26 ∷ 65535 ∷ 65535 ∷ 65535 ∷ 65535 ∷ 65535 ∷ 22 ∷ 65535 ∷ 65535 ∷
+    65535 ∷ 65535 ∷ 65535 ∷ 65535 ∷ 7 ∷ 65535 ∷ 8 ∷ 1 ∷
+    []
+
+abbrev pub callL : List ℕ → Call
+callL p = record { sheet = sheetL; payload = p; reservations = replicate 6 (2 ^ 31); trusted = [] }
+
+abbrev pub CallCase : Type 0
+CallCase = Call × List (List ℕ)
+
+-- plausible misreadings that the cases above do not rule out
+abbrev pub furtherCases : List CallCase
+furtherCases =
+    -- a new object does not enter the hot ring: 9 at 7
+    ((callA (0x00 ∷ 0x0C ∷ 0x45 ∷ 0x00 ∷ 0x04 ∷ 0x46 ∷ 0x90 ∷ 0x0D ∷ [])), ((9 ∷ 7 ∷ []) ∷ [])) ∷
+    -- in legacy a byte from the spaces up to below kBackref opens no object as a reference: 10 at 3
+    ((callL (0x00 ∷ 0x08 ∷ 0x45 ∷ 0x06 ∷ 0x14 ∷ [])), ((10 ∷ 3 ∷ []) ∷ [])) ∷
+    -- but as first byte it does, in a space without counters
+    ((callL (0x07 ∷ 0x08 ∷ 0x45 ∷ 0x46 ∷ 0x14 ∷ [])), ((0 ∷ 1 ∷ 2 ∷ 0 ∷ 1 ∷ 5 ∷ []) ∷ (16 ∷ 0 ∷ 0 ∷ 2 ∷ []) ∷ (0 ∷ 0 ∷ 2 ∷ 5 ∷ 0 ∷ 0 ∷ 0 ∷ 1 ∷ 2 ∷ 6 ∷ 0 ∷ 0 ∷ []) ∷ ([]) ∷ (7 ∷ 0 ∷ 0 ∷ 0 ∷ 0 ∷ []) ∷ [])) ∷
+    -- a fault in a legacy closing section ends it; kNop bytes are still read from there
+    ((callL (0x00 ∷ 0x04 ∷ 0x45 ∷ 0xFF ∷ 0x13 ∷ 0x13 ∷ 0x14 ∷ 0x13 ∷ [])), ((0 ∷ 1 ∷ 1 ∷ 0 ∷ 1 ∷ 6 ∷ []) ∷ (8 ∷ 0 ∷ 0 ∷ 1 ∷ []) ∷ (0 ∷ 0 ∷ 2 ∷ 5 ∷ 0 ∷ 0 ∷ []) ∷ ([]) ∷ (0 ∷ 0 ∷ 0 ∷ 0 ∷ 1 ∷ []) ∷ [])) ∷
+    []
+
+pub further-hold : map (λ (c : CallCase). shown (graph (c .0) roomsA)) furtherCases ≡ map (λ (c : CallCase). c .1) furtherCases
+unfolding peekAt littleEndian rawAt intLength intAt allWithin usable order firstOf headOf alignmentOf closingOf written filled spacesOf entered hotAt byte int addValue addSlot waiter resolved keepItem placeItem addObject flagObject keepMap resolves items body object backrefTo pendingReference rawData byHead reference refAt entries padding closing walk called graph fillToAlign maxFillToAlign advanceOf allocateOf nextChunk addressed resolveOf ordinalFrom packedBackref plainBackref backrefOf allocate chunkChanges mapFirst legacyReference addSlots entryItems entry
+further-hold = refl
+
+-- what a reading tells: a weak and a pending slot, an object with a resolve and raw data, and a reference that the closing section drops
+abbrev pub toldPayload : List ℕ
+toldPayload = 0x00 ∷ 0x10 ∷ 0x45 ∷ 0x10 ∷ 0x46 ∷ 0x0E ∷ 0x00 ∷ 0x08 ∷ 0x46 ∷ 0x0F ∷ 0x00 ∷ 0x60 ∷ 0xAA ∷ 0xAA ∷ 0xAA ∷ 0xAA ∷ 0xAA ∷ 0xAA ∷ 0xAA ∷ 0xAA ∷ 0x47 ∷ 0x0D ∷ []
+
+abbrev pub toldEvents : List Event
+toldEvents =
+    opened 0 4 ∷
+    value (triple 2 5 0) (inMap 0) ∷
+    item 0 0 8 0 ∷
+    value (triple 2 6 0) (inValue 0) ∷
+    value (triple 12 0 0) (inSlot 1) ∷
+    item 0 8 8 1 ∷
+    value (triple 13 0 0) (inSlot 2) ∷
+    item 0 16 8 2 ∷
+    opened 6 2 ∷
+    value (triple 2 6 0) (inMap 3) ∷
+    item 1 0 8 3 ∷
+    resolve 0 1 ∷
+    passed 12 8 ∷
+    value (triple 5 12 8) (inSlot 4) ∷
+    item 1 8 8 4 ∷
+    value (triple 1 1 0) (inSlot 5) ∷
+    item 0 24 8 5 ∷
+    value (triple 2 7 0) dropped ∷
+    synchronize 21 ∷
+    []
+
+pub told-holds : eventsOf (graph (callA toldPayload) roomsA) ≡ reverse toldEvents
+unfolding peekAt littleEndian rawAt intLength intAt allWithin usable order firstOf headOf alignmentOf closingOf written filled spacesOf entered hotAt byte int addValue addSlot waiter resolved keepItem placeItem addObject flagObject keepMap resolves items body object backrefTo pendingReference rawData byHead reference refAt entries padding closing walk called graph
+told-holds = refl
