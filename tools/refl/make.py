@@ -16,7 +16,7 @@ import tempfile
 
 from noted import payloads as noted
 from payloads import Payload, damaged, drawn
-from sheets import SHEETS, coinciding, numbers, unusable
+from sheets import SHEETS, coinciding, numbers, on_one_byte, unusable
 
 FIELDS = {'o': 4, 's': 6, 'v': 3, 'd': 5}
 TOP = 1 << 31
@@ -138,6 +138,8 @@ class Maker:
                 self.plainly(name, payload)
             for payload, place in thirty_two_bits(SHEETS[name]):
                 self.plainly(name, payload, place=place)
+        for family, sheet, payload in on_one_byte():
+            self.add('order', 'order, ' + family, numbers(sheet), payload, [TOP] * 6 if 'kSpaceMask' in sheet else [])
         self.add('legacy', 'legacy8', numbers(SHEETS['legacy8']), [7, 255, 255, 255, 255, 0x45, 0x14], [TOP] * 3, place=6)
 
     def plainly(self, name, payload, trusted=(), place=None, count=6):

@@ -372,6 +372,7 @@ class Payload:
             self.raw(1)
 
     def write(self):
+        """The payload, and where records are appended; None where the writer cannot be sure of that."""
         span = self.sheet['kBackref'] - self.sheet['kNewObject']
         self.new_object(0, self.rnd.randrange(max(1, span)) if self.chance(.3) else 0)
         self.closing()
@@ -381,7 +382,12 @@ class Payload:
                 payload.append(token)
             else:
                 marks[token].append(len(payload))
-        return payload, marks
+        return payload, None if self.map_first and any(self.joins_map(payload[at:at + 1]) for at in marks['d']) else marks
+
+    def joins_map(self, after):
+        """An alignment or chunk change that an item begins with, directly after a map that comes first, is read as the object's own."""
+        first = self.sheet.get('kAlignmentPrefix', 256)
+        return bool(after) and (first <= after[0] < first + 3 or after[0] == self.sheet.get('kNextChunk'))
 
 
 def damaged(rnd, payload):

@@ -108,6 +108,32 @@ def coinciding(rnd):
     return made
 
 
+# the names that `parse_ref_inner` tests at a reference's head, in its order, without kNewObject
+TESTED = """kBackrefWithSkip kBackref kNextChunk kAlignmentPrefix kHotObject kHotObjectWithSkip kRootArray kRootArrayConstants
+kRootArrayConstantsWithSkip kReadOnlyHeapRef kAttachedReference kBuiltin kExternalReference kApiReference kInternalReference
+kInternalReferenceEncoded kDeoptimizerEntryPlain kDeoptimizerEntryFromCode kOffHeapBackingStore kVariableRawCode
+kEmbedderFieldsData kOffHeapTarget kPartialSnapshotCache kStartupObjectCache kReadOnlyObjectCache kSharedHeapObjectCache
+kRegisterPendingForwardRef kWeakPrefix kIndirectPointerPrefix kProtectedPointerPrefix kInitializeSelfIndirectPointer
+kAllocateJSDispatchEntry kJSDispatchEntry kFixedRawData kVariableRawData kSkip kFixedRepeat kFixedRepeatRoot kVariableRepeat
+kVariableRepeatRoot kNewMetaMap kNewContextlessMetaMap kNewContextfulMetaMap""".split()
+
+
+def on_one_byte():
+    """For each family and each name: a sheet that has this name and all later ones on byte 80, so that the first one tested is obeyed.
+    A name taken off that byte is absent, or elsewhere if the family needs it. The payload has byte 80 as its second item; the byte 40
+    after it is a cleared weak reference as a head, and 16 as an integer."""
+    needed = sheet("""kNewObject 00, kBackref 08, kSynchronize 16, kNop 17, kRootArray 20, kAttachedReference 21, kHotObject C0,
+        kRootArrayConstants D0, kRootArrayConstantsMask 0F, kFixedRawData 48, kClearedWeakReference 40""")
+    families = {'modern': ("", ('kBackref', 'kBackrefWithSkip')), 'legacy': ("kSpaceMask 7", ('kBackrefWithSkip', 'kNewMetaMap')),
+                'mapFirst': ("kSpaceMask 7, kNewMetaMap 18", ('kBackrefWithSkip',)), 'six': ("kSpaceMask 7, kBackrefWithSkip 10", ('kNewMetaMap',))}
+    for family, (more, without) in families.items():
+        names = [name for name in TESTED if name not in without]
+        for k in range(len(names)):
+            made = sheet(more, needed)
+            made.update(dict.fromkeys(names[k:], 0x80))
+            yield family, made, [0, 8, 0x40, 0x80] + [0x40] * 24 + [0x16, 0x17]
+
+
 def unusable(rnd):
     """One of the sheets with one number that makes it unusable, or its length."""
     made = dict(SHEETS[rnd.choice(sorted(SHEETS))])

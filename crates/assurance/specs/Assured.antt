@@ -1,8 +1,7 @@
 -- What is assured of a payload that is accepted under a plain sheet (demand 3). The words are those of Words.antt. Assumes nothing.
-use mathlib.Core.Path.{_≡_, refl, sym, ap}
+use mathlib.Core.Path.{_≡_, ap}
 use mathlib.Core.Logic.{_⊎_, _≢_}
-use mathlib.Core.List.{List}
-use Prim.Native.Nat.{ℕ, _+_, _*_, _/_, _<_, _≤_}
+use Prim.Native.Nat.{ℕ, _*_, _/_, _<_, _≤_}
 use native.Mathlib.Omega.{arith}
 use lib.ListN.{length, getD}
 use Rattle.sheet.specs.Names.{kSynchronize}
@@ -10,9 +9,10 @@ use Rattle.sheet.specs.Sheet.{number, wordBytes}
 use Rattle.tables.specs.declared.values.Fields.{Fields}
 use Rattle.tables.specs.Values.{triple}
 use Rattle.tables.specs.Records.{field}
-use Rattle.definition.specs.Memory.{Kept, inMap, inSlot, inValue, Event, opened, item, value, Table, Mem}
+use Rattle.definition.specs.Memory.{Kept, inMap, inSlot, inValue, Event, opened, passed, item, value, Table, Mem}
 use Rattle.definition.specs.Call.{Rooms, Call, inputOf, empty, eventsOf, toldOf}
-use Rattle.assurance.specs.Words.{Accepted, events, Told, openings, placeOf, wordsOf, RangesBelow, EndsAt, filledOf, itemsIn, EndToEnd, inSlots, inValues, LeftPending, FilledBy, SlotHas, ValueHas, slotsOf}
+use Rattle.assurance.specs.Words.{Accepted, events, Told, openings, placeOf, wordsOf, RangesBelow, EndsAt, filledOf, itemsIn, EndToEnd, ItemOf, inSlots, inValues, LeftPending, FilledBy}
+use Rattle.assurance.specs.Records.{SlotHas, ValueHas, SlotAt, slotsOf, ZeroRest}
 use Rattle.assurance.specs.On.{all-told}
 use Rattle.assurance.specs.Steps.{OpensAt}
 use Rattle.assurance.specs.Listed.{listed}
@@ -20,10 +20,12 @@ use Rattle.assurance.specs.Standing.{Right}
 use Rattle.assurance.specs.Referred.{referred}
 use Rattle.assurance.specs.Pending.{either}
 use Rattle.assurance.specs.Ranges.{ranges}
+use Rattle.assurance.specs.Raws.{IsRange, raw-ranged}
 use Rattle.assurance.specs.Filled.{items-fill}
-use Rattle.assurance.specs.Placed.{SitsAt, slots-placed}
+use Rattle.assurance.specs.Placed.{slots-placed}
+use Rattle.assurance.specs.Widths.{item-of}
 use Rattle.assurance.specs.Kept.{KeptInSlot, KeptInValue, kept-once, slot-value, value-value}
-use Rattle.assurance.specs.Clean.{ZeroRest, clean}
+use Rattle.assurance.specs.Clean.{clean}
 
 -- of the call c, with these tables as it leaves them and the cursor at the finish
 pub record Assured (c : Call) (rooms : Rooms) (objects slots values addresses : Table) (end : ℕ) : Type 0 where
@@ -51,13 +53,16 @@ pub record Assured (c : Call) (rooms : Rooms) (objects slots values addresses : 
   pub final-ends-closing : EndsAt final (events c rooms)
   pub end-after-final : final < end
   pub end-inside : end ≤ length (c .payload)
+  pub raw-is-range : (v : Fields) (t : Kept) → Told (events c rooms) (value v t) → IsRange v → Told (events c rooms) (passed (v .a) (v .b))
   pub ranges-in-order : RangesBelow final (events c rooms)
   -- the items of each object laid end to end fill its declared bytes exactly, each slot index below its declared words
   pub items-end-to-end : EndToEnd (wordBytes (c .sheet)) (events c rooms)
   pub items-fill-object : (o : ℕ) → o < objects .count → filledOf (events c rooms) o ≡ wordsOf (events c rooms) o * wordBytes (c .sheet)
   pub index-below-words : (o s w k : ℕ) → Told (events c rooms) (item o s w k) → (o < objects .count) × (s / wordBytes (c .sheet) < wordsOf (events c rooms) o)
+  -- an item is an object's map, one word from byte 0, or has the width of its value
+  pub item-of-value : (o s w k : ℕ) → Told (events c rooms) (item o s w k) → ItemOf (wordBytes (c .sheet)) (events c rooms) s w k
   -- each slot record is one item's, with its object and index; each object's slot count is the number of its slot records
-  pub item-has-record : (o s w k : ℕ) → Told (events c rooms) (item o s w k) → SitsAt slots k o (s / wordBytes (c .sheet))
+  pub item-has-record : (o s w k : ℕ) → Told (events c rooms) (item o s w k) → SlotAt slots k o (s / wordBytes (c .sheet))
   pub record-has-item : (k : ℕ) → k < slots .count → itemsIn (events c rooms) k ≡ 1
   pub slot-counts : (o : ℕ) → o < objects .count → field 4 (objects .rows) o 3 ≡ slotsOf (slots .rows) o (slots .count)
   -- every slot and value record keeps exactly one value that was read, and no value is kept anywhere else
@@ -107,10 +112,12 @@ assured c rooms m a =
       final-ends-closing = rw e (r .told-last);
       end-after-final = r .before-end;
       end-inside = r .end-inside;
+      raw-is-range = rw e (raw-ranged c rooms m a);
       ranges-in-order = rw e (r .ranges);
       items-end-to-end = rw e (f .laid);
       items-fill-object = rw e (f .full);
       index-below-words = rw e (f .index);
+      item-of-value = rw e (item-of c rooms m a);
       item-has-record = rw e (p .seat);
       record-has-item = rw e (p .one-item);
       slot-counts = p .slot-counts;

@@ -1,16 +1,16 @@
 -- What is not used of a table is zero. Assumes nothing.
-use mathlib.Core.Path.{_≡_, refl, sym, subst, _∙_, ap}
-use mathlib.Core.List.{List, [], _∷_}
-use Prim.Native.Nat.{ℕ, zero, suc, _+_, _-_, _*_, _/_, _%_, _<_, _≤_}
+use mathlib.Core.Path.{_≡_, refl, _∙_}
+use mathlib.Core.List.{List}
+use Prim.Native.Nat.{ℕ, zero, suc, _+_, _*_, _/_, _%_, _<_, _≤_}
 use native.Mathlib.Nat.{le-div-iff-mul-le, div-add-mod', mod-lt}
 use native.Mathlib.Omega.{arith}
 use lib.ListN.{length, getD, set, replicate}
-use Rattle.tables.specs.declared.values.Fields.{Fields}
-use Rattle.tables.specs.Records.{field, objectRow, slotRow, valueRow, written, filled}
+use Rattle.tables.specs.Records.{field, objectRow, slotRow, valueRow, filled}
 use Rattle.tables.proofs.RecordLaws.{written-else, filled-else, set-else}
-use Rattle.definition.specs.Memory.{Input, word, told, Table, table, Mem, added}
-use Rattle.definition.specs.Call.{Rooms, Call, inputOf, empty, start}
+use Rattle.definition.specs.Memory.{Input, word, Table, table, Mem, added}
+use Rattle.definition.specs.Call.{Rooms, Call, inputOf, empty}
 use Rattle.assurance.specs.Words.{Accepted}
+use Rattle.assurance.specs.Records.{ZeroRest}
 use Rattle.assurance.specs.Induct.{graph-has}
 use Rattle.assurance.specs.EventRules.{EventRules, tables-have}
 use Rattle.assurance.specs.Whole.{Any, steady}
@@ -39,7 +39,7 @@ rules x =
       on-open = (λ S ot st vt es q w p l h. (more ot (objectRow (w * word x) q) (h .0), h .1, h .2));
       on-flag = (λ S ot st vt es o l h. (set-rest ot o 2 1 (omega arith) l (h .0), h .1, h .2));
       on-map = (λ S ot st vt es o size v p h. (set-rest ot o 3 _ (omega arith) (p .listed) (h .0), more st (slotRow o 0 v 0) (h .1), h .2));
-      on-item = (λ S ot st vt es o size done w v k p q l h. (set-rest ot o 3 _ (omega arith) (p .listed) (h .0), more st (slotRow o (done / word x) v k) (h .1), h .2));
+      on-item = (λ S ot st vt es o size done w v k p e q l h. (set-rest ot o 3 _ (omega arith) (p .listed) (h .0), more st (slotRow o (done / word x) v k) (h .1), h .2));
       on-unknown = (λ S ot st vt es n o h. h);
       on-fill = (λ S ot st vt es n o k w h. (h .0, fill-rest st k o (w .0) (h .1), h .2));
       on-close = (λ S ot st vt es o size l h. h);
@@ -52,10 +52,6 @@ zeros (suc n) (suc i) = zeros n i
 
 at-start : (w n : ℕ) → Rest w (empty n)
 at-start w n = record { rest = (λ i k l b. zeros n (i * w + k)) }
-
--- from the last record on a table holds zeros
-abbrev pub ZeroRest : ℕ → Table → Type 0
-ZeroRest w t = (i : ℕ) → t .count * w ≤ i → getD (t .rows) i 0 ≡ 0
 
 by-index : (w : ℕ) (t : Table) → 0 < w → Rest w t → ZeroRest w t
 by-index w t pos h i l =

@@ -1,20 +1,20 @@
 -- The rules for a property of the tables and of what was told: only the steps that change those are left. Assumes nothing.
-use mathlib.Core.Path.{_≡_, refl, sym, subst, ap, _∙_}
-use mathlib.Core.Bool.{Bool, true, false, _&&_}
+use mathlib.Core.Path.{_≡_, refl, subst}
+use mathlib.Core.Bool.{Bool, true, false}
 use mathlib.Core.List.{List, [], _∷_}
-use Prim.Native.Nat.{ℕ, zero, suc, _+_, _-_, _*_, _/_, _<_, _≤_}
+use Prim.Native.Nat.{ℕ, zero, suc, _+_, _*_, _/_, _<_, _≤_}
 use native.Mathlib.Omega.{arith}
-use lib.Dec.{eqb}
-use lib.ListN.{length}
+use Rattle.tables.specs.declared.values.Ref.the-variants.{Object, Root, RoRef, Attached}
 use Rattle.tables.specs.declared.values.SlotValue.{SlotValue}
+use Rattle.tables.specs.declared.values.SlotValue.the-variants.{Ref as IsRef, Repeat, RepeatPrev, Skip, StreamBytes, Raw as IsRaw, ClearedWeak, WeakRef, PendingRef}
 use Rattle.tables.specs.declared.values.Fields.{Fields}
-use Rattle.tables.specs.Values.{pickℕ, fieldsOf, widthOf}
-use Rattle.tables.specs.Records.{room, field, objectRow, slotRow, valueRow, filled}
-use Rattle.definition.specs.Memory.{Input, word, inMap, inSlot, inValue, dropped, Event, opened, passed, item, value, resolve, synchronize, Log, note, Table, table, Mem, added}
+use Rattle.tables.specs.Values.{pickℕ, triple, rawKind, fieldsOf, widthOf}
+use Rattle.tables.specs.Records.{room, objectRow, slotRow, valueRow, filled}
+use Rattle.definition.specs.Memory.{Input, word, inMap, inSlot, inValue, dropped, Event, opened, passed, item, value, resolve, synchronize, Table, table, Mem, added}
 use Rattle.definition.specs.Slots.{counted, waitsFor, waiter, waitsOf}
 use Rattle.definition.specs.Object.{flagged}
 use Rattle.definition.specs.Call.{Rooms, Call, inputOf, empty, toldOf}
-use Rattle.assurance.specs.Words.{Accepted}
+use Rattle.assurance.specs.Words.{Accepted, widthOfValue}
 use Rattle.assurance.specs.Steps.{Frame, frame, OpensAt, Base, Rules, resolve-case}
 use Rattle.assurance.specs.Whole.{Any}
 use Rattle.assurance.specs.Induct.{graph-has}
@@ -33,6 +33,25 @@ unfolding waiter
 waiter-is rows number zero k e = let z : _≡_ {A = ℕ} 0 (suc k) = e in absurd (omega arith)
 waiter-is rows number (suc n) k e = waiter-pick rows number n k (waitsFor rows number n) refl (waiter-is rows number n k) e
 
+-- the width of a value, by its fields
+width-of : (ts : ℕ) (v : SlotValue) → widthOf ts v ≡ widthOfValue ts (fieldsOf v)
+width-of ts (IsRef (Object i)) = refl
+width-of ts (IsRef (Root i)) = refl
+width-of ts (IsRef (RoRef c i)) = refl
+width-of ts (IsRef (Attached i)) = refl
+width-of ts (Repeat n k) = refl
+width-of ts (RepeatPrev n) = refl
+width-of ts (Skip n) = refl
+width-of ts (StreamBytes n) = refl
+width-of ts (IsRaw r) = at (r .advances)
+  where
+    at : (b : Bool) → pickℕ b (r .len) 0 ≡ widthOfValue ts (triple (rawKind b) (r .off) (r .len))
+    at true = refl
+    at false = refl
+width-of ts ClearedWeak = refl
+width-of ts (WeakRef k) = refl
+width-of ts (PendingRef n) = refl
+
 -- what is known of an object whose record a slot is counted in, and of the slots' table
 pub record Placing (o : ℕ) (objects slots : Table) : Type 0 where
   pub listed : o < objects .count
@@ -47,7 +66,7 @@ pub record EventRules (x : Input) (P : List Frame → Table → Table → Table 
   pub on-open : (S : List Frame) (ot st vt : Table) (es : List Event) (tag words : ℕ) → OpensAt x tag → ot .count < room 4 (ot .rows) → P S ot st vt es → P (frame (ot .count) (words * word x) 0 ∷ S) (added ot (objectRow (words * word x) tag)) st vt (opened tag words ∷ es)
   pub on-flag : (S : List Frame) (ot st vt : Table) (es : List Event) (o : ℕ) → o < ot .count → P S ot st vt es → P S (flagged o ot) st vt es
   pub on-map : (S : List Frame) (ot st vt : Table) (es : List Event) (o size : ℕ) (v : Fields) → Placing o ot st → P (frame o size 0 ∷ S) ot st vt es → P (frame o size (word x) ∷ S) (counted o ot) (added st (slotRow o 0 v 0)) vt (item o 0 (word x) (st .count) ∷ value v (inMap (st .count)) ∷ es)
-  pub on-item : (S : List Frame) (ot st vt : Table) (es : List Event) (o size done width : ℕ) (v : Fields) (waits : ℕ) → Placing o ot st → 1 ≤ done → done < size → P (frame o size done ∷ S) ot st vt es → P (frame o size (done + width) ∷ S) (counted o ot) (added st (slotRow o (done / word x) v waits)) vt (item o done width (st .count) ∷ value v (inSlot (st .count)) ∷ es)
+  pub on-item : (S : List Frame) (ot st vt : Table) (es : List Event) (o size done width : ℕ) (v : Fields) (waits : ℕ) → Placing o ot st → width ≡ widthOfValue (word x) v → 1 ≤ done → done < size → P (frame o size done ∷ S) ot st vt es → P (frame o size (done + width) ∷ S) (counted o ot) (added st (slotRow o (done / word x) v waits)) vt (item o done width (st .count) ∷ value v (inSlot (st .count)) ∷ es)
   pub on-unknown : (S : List Frame) (ot st vt : Table) (es : List Event) (number o : ℕ) → P S ot st vt es → P S ot st vt (resolve number o ∷ es)
   pub on-fill : (S : List Frame) (ot st vt : Table) (es : List Event) (number o k : ℕ) → Waiter (st .rows) number (st .count) k → P S ot st vt es → P S ot (table (filled (st .rows) k o) (st .count)) vt (resolve number o ∷ es)
   pub on-close : (S : List Frame) (ot st vt : Table) (es : List Event) (o size : ℕ) → o < ot .count → P (frame o size size ∷ S) ot st vt es → P S ot st vt es
@@ -77,7 +96,7 @@ module _ (x : Input) (P : List Frame → Table → Table → Table → List Even
         on-open = (λ S m tag words q h l. on-note _ _ (opened tag words) (m .log) (λ es. rules .on-open S (m .objects) (m .slots) (m .values) es tag words q l) h);
         on-flag = (λ S m o v l h w. (on-map _ _ (m .log) (λ es. rules .on-flag S (m .objects) (m .slots) (m .values) es o l) h, tt));
         on-map = (λ S m o size v b h w l. on-note-two _ _ (value (fieldsOf v) (inMap (m .slots .count))) (item o 0 (word x) (m .slots .count)) (m .log) (λ es. rules .on-map S (m .objects) (m .slots) (m .values) es o size (fieldsOf v) (placing S o size 0 m b l)) h);
-        on-item = (λ S m o size done v b h w p d l. on-note-two _ _ (value (fieldsOf v) (inSlot (m .slots .count))) (item o done (widthOf (word x) v) (m .slots .count)) (m .log) (λ es. rules .on-item S (m .objects) (m .slots) (m .values) es o size done (widthOf (word x) v) (fieldsOf v) (waitsOf v) (placing S o size done m b l) p d) h);
+        on-item = (λ S m o size done v b h w p d l. on-note-two _ _ (value (fieldsOf v) (inSlot (m .slots .count))) (item o done (widthOf (word x) v) (m .slots .count)) (m .log) (λ es. rules .on-item S (m .objects) (m .slots) (m .values) es o size done (widthOf (word x) v) (fieldsOf v) (waitsOf v) (placing S o size done m b l) (width-of (word x) v) p d) h);
         on-resolve =
             (λ S m o size done n b h. resolve-case m n o (Inv (frame o size done ∷ S))
             (λ e. on-note _ _ (resolve n o) (m .log) (λ es. rules .on-unknown (frame o size done ∷ S) (m .objects) (m .slots) (m .values) es n o) h)

@@ -3,14 +3,14 @@ use mathlib.Core.Path.{_≡_, refl, sym, subst, _∙_, ap}
 use mathlib.Core.Logic.{⊎-elim, _⊎_, inl, inr, _≢_}
 use mathlib.Core.Bool.{Bool, true, false}
 use mathlib.Core.List.{List, [], _∷_}
-use Prim.Native.Nat.{ℕ, zero, suc, _+_, _-_, _*_, _/_, _<_, _≤_}
+use Prim.Native.Nat.{ℕ, _+_, _*_, _/_, _<_, _≤_}
 use native.Mathlib.Nat.{zero-add, div-lt-iff-lt-mul}
 use native.Mathlib.Omega.{arith}
 use borrow.Author.Tests.{eq-eqb, ne-eqb, eqb-true, eqb-false}
 use lib.Dec.{eqb}
 use Rattle.tables.specs.declared.values.Fields.{Fields}
 use Rattle.tables.specs.Values.{pickℕ}
-use Rattle.definition.specs.Memory.{Input, word, Kept, inMap, inSlot, inValue, dropped, Event, opened, passed, item, value, resolve, synchronize, Table, Mem}
+use Rattle.definition.specs.Memory.{Input, word, Kept, inMap, inSlot, inValue, dropped, Event, opened, passed, item, value, resolve, synchronize, Mem}
 use Rattle.definition.specs.Call.{Rooms, Call, inputOf, toldOf}
 use Rattle.assurance.specs.Steps.{Frame, frame}
 use Rattle.assurance.specs.PlainSheet.{word-pos}
@@ -157,7 +157,7 @@ rules x pos =
       on-open = (λ S ot st vt es q w p l. open-filling (word x) S (ot .count) q w es);
       on-flag = (λ S ot st vt es o l h. h);
       on-map = (λ S ot st vt es o size v p h. subst (λ (d : ℕ). Filling (word x) (frame o size d ∷ S) (ot .count) (item o 0 (word x) (st .count) ∷ value v (inMap (st .count)) ∷ es)) (zero-add (word x)) (item-filling (word x) S (ot .count) o size 0 (word x) (st .count) v (inMap (st .count)) es (p .listed) (λ e. refl) (inr pos) h));
-      on-item = (λ S ot st vt es o size done w v k p q l h. item-filling (word x) S (ot .count) o size done w (st .count) v (inSlot (st .count)) es (p .listed) (λ e. absurd (omega (arith, no-items es o e, h .stacked .2))) (inl l) h);
+      on-item = (λ S ot st vt es o size done w v k p e q l h. item-filling (word x) S (ot .count) o size done w (st .count) v (inSlot (st .count)) es (p .listed) (λ e. absurd (omega (arith, no-items es o e, h .stacked .2))) (inl l) h);
       on-unknown = (λ S ot st vt es n o. other (word x) S (ot .count) es (resolve n o) refl (λ l. l) refl refl tt);
       on-fill = (λ S ot st vt es n o k w. other (word x) S (ot .count) es (resolve n o) refl (λ l. l) refl refl tt);
       on-close = (λ S ot st vt es o size l h. close-filling (word x) S (ot .count) o size es l h);

@@ -1,7 +1,6 @@
 -- The induction for every clause: what the rules keep from the start on holds at the end of an accepted reading. Assumes nothing.
-use mathlib.Core.Path.{_≡_, refl, sym, subst}
+use mathlib.Core.Path.{refl, sym, subst}
 use mathlib.Core.List.{List, []}
-use Prim.Native.Nat.{ℕ}
 use native.Mathlib.Omega.{arith}
 use Rattle.sheet.specs.Sheet.{usable}
 use Rattle.tables.specs.declared.values.SlotValue.{SlotValue}
@@ -11,7 +10,6 @@ use Rattle.assurance.specs.PlainSheet.{PlainSheet, plain-gives}
 use Rattle.assurance.specs.Words.{Accepted}
 use Rattle.assurance.specs.Gives.{Gives, given, refused, gives-choose}
 use Rattle.assurance.specs.Steps.{Frame, Base, Rules}
-use Rattle.assurance.specs.Objects.{Good}
 use Rattle.assurance.specs.Whole.{End, walk-has}
 
 module _ (c : Call) (rooms : Rooms) (m : Mem) (a : Accepted c rooms m) where

@@ -1,15 +1,15 @@
 -- Every slot and value record keeps one value that was read, and no value is kept in a record that is not listed. Assumes nothing.
-use mathlib.Core.Path.{_≡_, refl, sym, subst, _∙_, ap}
+use mathlib.Core.Path.{_≡_, refl, ap}
 use mathlib.Core.Logic.{_⊎_, inl, inr, ⊎-elim}
 use mathlib.Core.Bool.{Bool, true, false}
-use mathlib.Core.List.{List, [], _∷_, List·Memᴰ, List·Memᴰ·head, List·Memᴰ·tail}
-use Prim.Native.Nat.{ℕ, zero, suc, _+_, _*_, _/_, _<_, _≤_}
+use mathlib.Core.List.{List, [], _∷_, List·Memᴰ·head, List·Memᴰ·tail}
+use Prim.Native.Nat.{ℕ, _+_, _<_, _≤_}
 use native.Mathlib.Omega.{arith}
 use borrow.Author.Tests.{eq-eqb, ne-eqb, eqb-true}
 use lib.Dec.{eqb}
 use Rattle.tables.specs.declared.values.Fields.{Fields}
 use Rattle.tables.specs.Values.{pickℕ}
-use Rattle.definition.specs.Memory.{Input, word, Kept, inMap, inSlot, inValue, dropped, Event, opened, passed, item, value, resolve, synchronize, Table, Mem}
+use Rattle.definition.specs.Memory.{Input, inMap, inSlot, inValue, dropped, Event, opened, passed, item, value, resolve, synchronize, Mem}
 use Rattle.definition.specs.Call.{Rooms, Call, inputOf, toldOf}
 use Rattle.assurance.specs.EventRules.{EventRules, tables-have}
 use Rattle.assurance.specs.Listed.{below}
@@ -44,7 +44,7 @@ rules x =
       on-open = (λ S ot st vt es q w p l h. h);
       on-flag = (λ S ot st vt es o l h. h);
       on-map = (λ S ot st vt es o size v p h. (once-more (inSlots es) (st .count) (h .0), h .1));
-      on-item = (λ S ot st vt es o size done w v k p q l h. (once-more (inSlots es) (st .count) (h .0), h .1));
+      on-item = (λ S ot st vt es o size done w v k p e q l h. (once-more (inSlots es) (st .count) (h .0), h .1));
       on-unknown = (λ S ot st vt es n o h. h);
       on-fill = (λ S ot st vt es n o k w h. h);
       on-close = (λ S ot st vt es o size l h. h);

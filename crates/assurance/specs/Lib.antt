@@ -1,4 +1,5 @@
 pub mod Words
+pub mod Records
 pub mod PlainSheet
 pub mod PlainHeads
 pub mod Gives
@@ -11,9 +12,11 @@ pub mod On
 pub mod EventRules
 pub mod Listed
 pub mod Ranges
+pub mod Raws
 pub mod Filled
 pub mod Placed
 pub mod Clean
+pub mod Widths
 pub mod Kept
 pub mod Waiting
 pub mod Ring

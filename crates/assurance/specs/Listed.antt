@@ -1,12 +1,12 @@
 -- The objects listed are exactly those that the payload opens, in order. Assumes nothing.
 use mathlib.Core.Path.{_≡_, refl, sym, subst, _∙_, ap}
-use mathlib.Core.Logic.{⊎-elim, _≢_}
-use mathlib.Core.List.{List, [], _∷_}
-use Prim.Native.Nat.{ℕ, zero, suc, _+_, _-_, _*_, _/_, _<_, _≤_}
+use mathlib.Core.Logic.{⊎-elim}
+use mathlib.Core.List.{List, _∷_}
+use Prim.Native.Nat.{ℕ, _+_, _*_, _<_, _≤_}
 use native.Mathlib.Nat.{eq-or-lt-of-le}
 use native.Mathlib.Omega.{arith}
 use borrow.Author.Tests.{eq-eqb, ne-eqb}
-use lib.ListN.{length, getD, set}
+use lib.ListN.{set}
 use Rattle.tables.specs.Records.{room, field, objectRow, written}
 use Rattle.tables.proofs.RecordLaws.{written-same, written-else, set-else}
 use Rattle.definition.specs.Memory.{Input, word, Event, opened, passed, item, value, resolve, synchronize, Table, table, Mem, added}
@@ -78,7 +78,7 @@ rules x =
       on-open = (λ S ot st vt es q w p l. open-listed x ot q w es p l);
       on-flag = (λ S ot st vt es o l. set-listed x ot o 2 1 es (omega arith) (omega arith));
       on-map = (λ S ot st vt es o size v p h. set-listed x ot o 3 _ _ (omega arith) (omega arith) (other x ot _ _ tt refl refl refl (other x ot es _ tt refl refl refl h)));
-      on-item = (λ S ot st vt es o size done w v k p q l h. set-listed x ot o 3 _ _ (omega arith) (omega arith) (other x ot _ _ tt refl refl refl (other x ot es _ tt refl refl refl h)));
+      on-item = (λ S ot st vt es o size done w v k p e q l h. set-listed x ot o 3 _ _ (omega arith) (omega arith) (other x ot _ _ tt refl refl refl (other x ot es _ tt refl refl refl h)));
       on-unknown = (λ S ot st vt es n o. other x ot es _ tt refl refl refl);
       on-fill = (λ S ot st vt es n o k w. other x ot es _ tt refl refl refl);
       on-close = (λ S ot st vt es o size l h. h);

@@ -1,7 +1,7 @@
 -- What the rules keep is kept by every reader, under a plain sheet: objects. Assumes nothing.
 use mathlib.Core.Path.{_≡_, refl, subst}
-use mathlib.Core.Bool.{Bool, _&&_}
-use mathlib.Core.List.{List, [], _∷_}
+use mathlib.Core.Bool.{_&&_}
+use mathlib.Core.List.{List, _∷_}
 use Prim.Native.Nat.{ℕ, zero, suc, _+_, _-_, _*_, _/_, _<_, _≤_}
 use native.Mathlib.Omega.{arith}
 use borrow.Author.Tests.{ltb-true, leb-false, eqb-true}
@@ -11,19 +11,17 @@ use Rattle.stream.proofs.ByteLaws.{Bytes}
 use Rattle.sheet.specs.Sheet.{isLegacy, isSixX, isMapFirst, loSpace}
 use Rattle.sheet.specs.Tests.{isResolve, isDeferred}
 use Rattle.sheet.proofs.UsableSheet.{and-left}
-use Rattle.tables.specs.declared.values.Ref.{Ref}
-use Rattle.tables.specs.declared.values.Ref.the-variants.{Object}
 use Rattle.tables.specs.declared.values.SlotValue.{SlotValue}
 use Rattle.tables.specs.declared.values.SlotValue.the-variants.{Ref as IsRef, Repeat, RepeatPrev, Skip, StreamBytes, Raw as IsRaw, ClearedWeak, WeakRef, PendingRef}
 use Rattle.tables.specs.declared.values.Fields.{Fields}
 use Rattle.tables.specs.Values.{fieldsOf, widthOf}
 use Rattle.tables.specs.Records.{room}
-use Rattle.definition.specs.Memory.{Input, word, Kept, inMap, inSlot, Mem, Out, got, no, Reader, _>>=_, _>>_, change, tell, moved, withSkip, noted, item, byte, int, hasRoom}
+use Rattle.definition.specs.Memory.{Input, word, Kept, inMap, inSlot, Mem, Reader, _>>=_, _>>_, change, tell, moved, withSkip, noted, item, byte, int, hasRoom}
 use Rattle.definition.specs.Slots.{addSlot, resolved, keepItem, placeItem, waitsOf}
 use Rattle.definition.specs.Object.{peek, addObject, largeByte, readMap, flags, flagObject, keepMap, resolves, items, closed, body, object}
 use Rattle.assurance.specs.PlainSheet.{PlainSheet, word-pos, not-legacy, not-six-x, not-map-first, not-deferred}
 use Rattle.assurance.specs.Gives.{Gives, gives, refused, gives-then, gives-choose, byte-gives, int-gives}
-use Rattle.assurance.specs.Steps.{Frame, frame, OpensAt, Base, Rules, opening, keeping, keepingItem, base-same, base-open, base-flag, base-keep, base-resolve, base-close}
+use Rattle.assurance.specs.Steps.{Frame, frame, OpensAt, Base, Rules, keeping, base-same, base-open, base-flag, base-keep, base-resolve, base-close}
 
 -- a value that becomes a slot: under a plain sheet all are
 abbrev pub MakesSlot : SlotValue → Type 0

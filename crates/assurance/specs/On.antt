@@ -1,5 +1,5 @@
 -- What holds of what a listener was told. Assumes nothing.
-use mathlib.Core.Path.{_≡_, refl, sym, subst}
+use mathlib.Core.Path.{sym, subst}
 use mathlib.Core.Logic.{⊎-elim}
 use mathlib.Core.List.{List, [], _∷_, List·Memᴰ, List·Memᴰ·not-nil, List·Memᴰ·cases-cons}
 use Rattle.definition.specs.Memory.{Event, Log, off, told, note}
@@ -25,6 +25,10 @@ on-map P Q (told es) f h = f es h
 pub on-told : (P : List Event → Type 0) (l : Log) → On P l → P (toldOf l)
 on-told P off h = absurd h
 on-told P (told es) h = h
+
+pub on-both : (P Q : List Event → Type 0) (l : Log) → On P l → On Q l → On (λ es. (P es) × (Q es)) l
+on-both P Q off g h = h
+on-both P Q (told es) g h = (g, h)
 
 -- of every event
 unfoldable pub All : (Event → Type 0) → List Event → Type 0

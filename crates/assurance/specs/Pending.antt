@@ -1,15 +1,15 @@
 -- Every pending value that a slot keeps is left pending, or a resolve fills it. Assumes nothing.
-use mathlib.Core.Path.{_≡_, refl, sym}
-use mathlib.Core.Logic.{_⊎_, inl, inr, ⊎-elim, _≢_}
+use mathlib.Core.Path.{_≡_, refl}
+use mathlib.Core.Logic.{_⊎_, inl, inr, ⊎-elim}
 use mathlib.Core.Bool.{Bool, true, false}
-use mathlib.Core.List.{List, [], _∷_, List·Memᴰ, List·Memᴰ·not-nil, List·Memᴰ·cases-cons}
+use mathlib.Core.List.{List, [], _∷_, List·Memᴰ·not-nil, List·Memᴰ·cases-cons}
 use Prim.Native.Nat.{ℕ}
 use native.Mathlib.Omega.{arith}
 use borrow.Author.Tests.{eqb-true, eqb-false}
 use lib.Dec.{eqb}
 use Rattle.tables.specs.declared.values.Fields.{Fields}
 use Rattle.tables.specs.Values.{triple}
-use Rattle.definition.specs.Memory.{Kept, inMap, inSlot, inValue, dropped, Event, opened, passed, item, value, resolve, synchronize}
+use Rattle.definition.specs.Memory.{inMap, inSlot, inValue, dropped, Event, opened, passed, item, value, resolve, synchronize}
 use Rattle.assurance.specs.Words.{Told, LeftPending, FilledBy}
 
 abbrev pub Either : List Event → ℕ → ℕ → Type 0

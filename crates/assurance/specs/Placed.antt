@@ -1,16 +1,15 @@
 -- Each slot record is that of one item, with its object and its index, and each object's slot count is the number of its slot records.
 -- Assumes nothing.
-use mathlib.Core.Path.{_≡_, refl, sym, subst, _∙_, ap}
-use mathlib.Core.Logic.{_≢_}
+use mathlib.Core.Path.{_≡_, refl, sym, _∙_, ap}
 use mathlib.Core.Bool.{Bool, true, false}
-use mathlib.Core.List.{List, [], _∷_}
-use Prim.Native.Nat.{ℕ, zero, suc, _+_, _-_, _*_, _/_, _<_, _≤_}
+use mathlib.Core.List.{List, _∷_}
+use Prim.Native.Nat.{ℕ, zero, suc, _+_, _*_, _/_, _<_, _≤_}
 use native.Mathlib.Nat.{zero-div}
 use native.Mathlib.Numerals.{add-one}
 use native.Mathlib.Omega.{arith}
 use borrow.Author.Tests.{eq-eqb, ne-eqb, eqb-true, eqb-false}
 use lib.Dec.{eqb}
-use lib.ListN.{length, getD, set}
+use lib.ListN.{set}
 use Rattle.tables.specs.declared.values.Fields.{Fields}
 use Rattle.tables.specs.Values.{pickℕ}
 use Rattle.tables.specs.Records.{room, field, objectRow, slotRow, written, filled}
@@ -21,16 +20,11 @@ use Rattle.definition.specs.Call.{Rooms, Call, inputOf, toldOf}
 use Rattle.assurance.specs.On.{All, all-map, all-told}
 use Rattle.assurance.specs.EventRules.{Placing, EventRules, tables-have}
 use Rattle.assurance.specs.Listed.{below}
-use Rattle.assurance.specs.Words.{Accepted, Told, itemsIn, slotsOf}
-
--- slot record k has this object and index
-pub record SitsAt (t : Table) (k o index : ℕ) : Type 0 where
-  pub listed : k < t .count
-  pub object : field 6 (t .rows) k 0 ≡ o
-  pub place : field 6 (t .rows) k 1 ≡ index
+use Rattle.assurance.specs.Words.{Accepted, Told, itemsIn}
+use Rattle.assurance.specs.Records.{SlotAt, slotsOf}
 
 abbrev Sits : ℕ → Table → Event → Type 0
-Sits ts t (item o s w k) = SitsAt t k o (s / ts)
+Sits ts t (item o s w k) = SlotAt t k o (s / ts)
 Sits ts t (opened q w) = Unit {0}
 Sits ts t (passed a n) = Unit {0}
 Sits ts t (value v k) = Unit {0}
@@ -148,14 +142,14 @@ rules x =
       on-open = (λ S ot st vt es q w p l h. (other (word x) st es (opened q w) tt refl (h .0), open-owned ot st (w * word x) q l (h .1)));
       on-flag = (λ S ot st vt es o l h. (h .0, flag-owned ot st o (h .1)));
       on-map = (λ S ot st vt es o size v p h. (item-seated (word x) st es o 0 0 (word x) v 0 (inMap (st .count)) (sym (zero-div (word x))) (p .roomy) (h .0), slot-owned ot st o 0 v 0 p (h .1)));
-      on-item = (λ S ot st vt es o size done w v k p q l h. (item-seated (word x) st es o (done / word x) done w v k (inSlot (st .count)) refl (p .roomy) (h .0), slot-owned ot st o (done / word x) v k p (h .1)));
+      on-item = (λ S ot st vt es o size done w v k p e q l h. (item-seated (word x) st es o (done / word x) done w v k (inSlot (st .count)) refl (p .roomy) (h .0), slot-owned ot st o (done / word x) v k p (h .1)));
       on-unknown = (λ S ot st vt es n o h. (other (word x) st es (resolve n o) tt refl (h .0), h .1));
       on-fill = (λ S ot st vt es n o k w h. (fill-seated (word x) st es n o k (h .0), fill-owned ot st k o (h .1)));
       on-close = (λ S ot st vt es o size l h. h);
     }
 
 pub record Placed (word : ℕ) (ot st : Table) (es : List Event) : Type 0 where
-  pub seat : (o s w k : ℕ) → Told es (item o s w k) → SitsAt st k o (s / word)
+  pub seat : (o s w k : ℕ) → Told es (item o s w k) → SlotAt st k o (s / word)
   pub one-item : (k : ℕ) → k < st .count → itemsIn es k ≡ 1
   pub slot-counts : (o : ℕ) → o < ot .count → field 4 (ot .rows) o 3 ≡ slotsOf (st .rows) o (st .count)
 

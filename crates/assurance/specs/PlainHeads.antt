@@ -7,7 +7,7 @@ use Prim.Native.Nat.{ℕ, _+_, _-_, _<_, _≤_}
 use native.Mathlib.Omega.{arith}
 use borrow.Author.Tests.{eqb-true, eq-eqb, not-true, leb-true, ltb-true, le-leb, lt-ltb}
 use lib.Bits.{and-le-r}
-use lib.Dec.{eqb, leb, ltb}
+use lib.Dec.{eqb, leb}
 use Rattle.sheet.specs.Names.{kNewObject, kBackref, kHotObjectWithSkip, kRootArrayConstantsWithSkip, kSkip}
 use Rattle.sheet.specs.Sheet.{number, present, rootMask}
 use Rattle.sheet.specs.Kinds.{newObject, legacyBackref, legacyBackrefWithSkip, nextChunk, alignment, hot, hotWithSkip, rootConstantWithSkip, builtin, external, api, internal, deoptimizer, streamBytes, embedderFields, offHeapTarget, fixedRaw, skip, repeatPrevious, variableRepeatPrevious}

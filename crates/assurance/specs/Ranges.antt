@@ -1,13 +1,12 @@
 -- The raw ranges, in the order read, lie one after the other, and before the kSynchronize that ends the closing section. Assumes nothing.
-use mathlib.Core.Path.{_≡_, refl, sym, subst, _∙_, ap}
+use mathlib.Core.Path.{_≡_, refl}
 use mathlib.Core.List.{List, [], _∷_}
-use Prim.Native.Nat.{ℕ, _+_, _<_, _≤_}
+use Prim.Native.Nat.{ℕ, _<_, _≤_}
 use native.Mathlib.Omega.{arith}
 use lib.ListN.{length, getD}
 use Rattle.stream.proofs.ByteLaws.{Bytes}
 use Rattle.sheet.specs.Names.{kSynchronize}
 use Rattle.sheet.specs.Sheet.{number}
-use Rattle.tables.specs.declared.values.SlotValue.{SlotValue}
 use Rattle.tables.specs.Values.{fieldsOf, widthOf}
 use Rattle.definition.specs.Memory.{Input, word, inMap, inSlot, inValue, dropped, Event, opened, passed, item, value, resolve, synchronize, Log, off, told, note, Mem}
 use Rattle.definition.specs.Call.{Rooms, Call, inputOf, toldOf}

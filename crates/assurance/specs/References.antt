@@ -1,30 +1,29 @@
 -- What the rules keep is kept by every reader, under a plain sheet: references. Assumes nothing.
-use mathlib.Core.Path.{_≡_, refl, sym, subst, _∙_}
+use mathlib.Core.Path.{_≡_, refl}
 use mathlib.Core.Bool.{Bool, true, false}
-use mathlib.Core.List.{List, [], _∷_}
-use Prim.Native.Nat.{ℕ, zero, suc, _+_, _*_, _-_, _^_, _<_, _≤_, max}
+use mathlib.Core.List.{List}
+use Prim.Native.Nat.{ℕ, zero, suc, _+_, _*_, _-_, _^_, _<_, _≤_}
 use native.Mathlib.Omega.{arith}
 use borrow.Author.Tests.{ltb-true, eqb-true}
 use lib.Dec.{ltb, eqb}
-use lib.ListN.{length, getD}
+use lib.ListN.{length}
 use Rattle.stream.specs.declared.bytes.Range.{Range}
 use Rattle.stream.specs.declared.bytes.Range.the-variants.{To as RangeTo, Past}
 use Rattle.stream.specs.Bytes.{rawAt}
 use Rattle.stream.proofs.ByteLaws.{Bytes}
-use Rattle.sheet.specs.Sheet.{pickℕ, isLegacy, rawAdvances}
+use Rattle.sheet.specs.Sheet.{rawAdvances}
 use Rattle.sheet.specs.Kinds.{newObject, backref, legacyBackref, legacyBackrefWithSkip, nextChunk, alignment, hot, hotWithSkip, rootArray, rootConstant, rootConstantWithSkip, readOnly, attached, builtin, external, api, internal, deoptimizer, streamBytes, embedderFields, offHeapTarget, cache, registerPending, clearedWeak, weakPrefix, pointerPrefix, dispatchEntry, fixedRaw, variableRaw, skip, fixedRepeat, fixedRepeatRoot, repeatPrevious, variableRepeat, variableRepeatPrevious, variableRepeatRoot, metaMap}
 use Rattle.sheet.specs.Heads.{head, headOf}
 use Rattle.sheet.specs.Tests.{opens}
 use Rattle.tables.specs.declared.values.Ref.{Ref}
-use Rattle.tables.specs.declared.values.Ref.the-variants.{Object, Root, RoRef, Attached}
+use Rattle.tables.specs.declared.values.Ref.the-variants.{Object, Root}
 use Rattle.tables.specs.declared.values.SlotValue.{SlotValue}
-use Rattle.tables.specs.declared.values.SlotValue.the-variants.{Ref as IsRef, Repeat, Raw as IsRaw, ClearedWeak, WeakRef, PendingRef}
+use Rattle.tables.specs.declared.values.SlotValue.the-variants.{Ref as IsRef, Repeat, WeakRef}
 use Rattle.tables.specs.Values.{fieldsOf}
-use Rattle.tables.specs.Records.{room}
 use Rattle.backref.specs.declared.hot_ring.Hot.{Hot}
 use Rattle.backref.specs.declared.hot_ring.Hot.the-variants.{Is, Empty}
 use Rattle.backref.specs.HotRing.{hotAt}
-use Rattle.definition.specs.Memory.{Input, word, Mem, Out, got, no, Reader, _>>=_, _>>_, choose, here, byte, int, moved, hasRoom}
+use Rattle.definition.specs.Memory.{Input, word, Mem, Reader, choose, byte, int, moved, hasRoom}
 use Rattle.definition.specs.Slots.{addValue}
 use Rattle.definition.specs.Reference.{refersHot, backrefTo, ofHot, hotPlace, outside, pendingReference, afterRaw, rawData, rawBytes, weakOf, repeatOf, repeatRoot, byHead, reference, refAt}
 use Rattle.laws.specs.Leaves.{RawEnds, raw-ends}

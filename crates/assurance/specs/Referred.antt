@@ -1,26 +1,24 @@
 -- Every object that the payload refers to is listed, and each value stands where it is kept. Assumes nothing.
-use mathlib.Core.Path.{_≡_, refl, sym, subst, _∙_, ap}
+use mathlib.Core.Path.{_≡_, refl}
 use mathlib.Core.Logic.{_≢_}
 use mathlib.Core.Bool.{Bool, true, false}
-use mathlib.Core.List.{List, [], _∷_}
-use Prim.Native.Nat.{ℕ, zero, suc, _+_, _-_, _*_, _/_, _<_, _≤_}
+use mathlib.Core.List.{List, _∷_}
+use Prim.Native.Nat.{ℕ, _+_, _-_, _/_, _<_, _≤_}
 use native.Mathlib.Omega.{arith}
-use Rattle.tables.specs.declared.values.Ref.{Ref}
 use Rattle.tables.specs.declared.values.Ref.the-variants.{Object, Root, RoRef, Attached}
 use Rattle.tables.specs.declared.values.SlotValue.{SlotValue}
 use Rattle.tables.specs.declared.values.SlotValue.the-variants.{Ref as IsRef, Repeat, RepeatPrev, Skip, StreamBytes, Raw as IsRaw, ClearedWeak, WeakRef, PendingRef}
-use Rattle.tables.specs.declared.values.Raw.{Raw}
 use Rattle.tables.specs.declared.values.Fields.{Fields}
 use Rattle.tables.specs.Values.{rawKind, refFields, fieldsOf, widthOf}
-use Rattle.tables.specs.Records.{room, field}
-use Rattle.definition.specs.Memory.{Input, word, inMap, inSlot, inValue, dropped, Event, opened, passed, item, value, resolve, synchronize, Log, note, Table, Mem}
-use Rattle.definition.specs.Slots.{waiter, resolved, waitsOf, renumbered}
+use Rattle.tables.specs.Records.{room}
+use Rattle.definition.specs.Memory.{Input, word, inMap, inSlot, inValue, dropped, opened, passed, item, value, resolve, synchronize, Table, Mem}
+use Rattle.definition.specs.Slots.{resolved, waitsOf}
 use Rattle.definition.specs.Call.{Rooms, Call, inputOf, toldOf}
 use Rattle.assurance.specs.Steps.{Frame, frame, Base, Rules, keepingMap, keepingItem, resolve-case}
 use Rattle.assurance.specs.Induct.{graph-has}
 use Rattle.assurance.specs.On.{On, on-note, on-note-two, on-told, All}
 use Rattle.assurance.specs.EventRules.{waiter-is}
-use Rattle.assurance.specs.Waiting.{WaitsAt, Waits, Fresh, waitsIn, renumber, slot-waits, fill-waits, found}
+use Rattle.assurance.specs.Waiting.{Waits, Fresh, waitsIn, renumber, slot-waits, fill-waits, found}
 use Rattle.assurance.specs.Ring.{Ring, ring-enter, ring-up, ring-start, hot-case}
 use Rattle.assurance.specs.Standing.{Refers, Standing, told-standing, open-standing, value-standing, map-standing, item-standing, unknown-standing, fill-standing}
 use Rattle.assurance.specs.Words.{Accepted, LeftPending, FilledBy}

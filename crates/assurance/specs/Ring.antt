@@ -1,24 +1,23 @@
 -- Each object that a place of the hot ring stands for is below the object count. Assumes nothing.
 use mathlib.Core.Path.{_≡_, refl, sym, subst, _∙_, ap}
-use mathlib.Core.Logic.{⊎-elim, _≢_}
+use mathlib.Core.Logic.{_≢_}
 use mathlib.Core.Bool.{Bool, true, false}
-use mathlib.Core.List.{List, [], _∷_}
-use Prim.Native.Nat.{ℕ, zero, suc, _+_, _*_, _/_, _%_, _<_, _≤_}
+use mathlib.Core.List.{List}
+use Prim.Native.Nat.{ℕ, _+_, _*_, _%_, _<_, _≤_}
 use native.Mathlib.Nat.{add-zero}
 use native.Mathlib.Omega.{arith}
 use borrow.Author.Tests.{eqb-true, eqb-false}
 use lib.Dec.{eqb}
 use lib.ListN.{length, getD, set, length-set, length-replicate, getD-replicate}
-use lib.Seq.{sets, length-sets}
+use lib.Seq.{length-sets}
 use Rattle.tables.specs.declared.values.Ref.{Ref}
-use Rattle.tables.specs.declared.values.Ref.the-variants.{Object, Root, RoRef, Attached}
+use Rattle.tables.specs.declared.values.Ref.the-variants.{Object, Root, RoRef}
 use Rattle.tables.specs.declared.values.Fields.{Fields}
-use Rattle.tables.specs.Values.{refFields}
 use Rattle.tables.specs.Records.{field, valueRow, written}
-use Rattle.tables.proofs.RecordLaws.{written-length, written-same, written-else, set-else}
+use Rattle.tables.proofs.RecordLaws.{written-same, written-else, set-else}
 use Rattle.backref.specs.declared.hot_ring.Hot.{Hot}
 use Rattle.backref.specs.declared.hot_ring.Hot.the-variants.{Is, Empty}
-use Rattle.backref.specs.HotRing.{emptyRing, nextPlace, entered, pickHot, hotEntry, hotAt}
+use Rattle.backref.specs.HotRing.{emptyRing, nextPlace, entered, pickHot, hotAt}
 
 pub record Ring (hot : List ℕ) (objects : ℕ) : Type 0 where
   pub size : length hot ≡ 25

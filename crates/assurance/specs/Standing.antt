@@ -1,20 +1,21 @@
 -- Each value that was read stands where it is kept, and refers to an object or a value that is listed; a pending slot stands as it was left or
 -- filled. What each change of the tables leaves of that. Assumes nothing.
-use mathlib.Core.Path.{_≡_, refl, sym, subst, _∙_, ap}
-use mathlib.Core.Logic.{⊎-elim, _⊎_, inl, inr, _≢_}
+use mathlib.Core.Path.{_≡_, sym, subst, _∙_, ap}
+use mathlib.Core.Logic.{⊎-elim, _≢_}
 use mathlib.Core.List.{List, [], _∷_}
-use Prim.Native.Nat.{ℕ, zero, suc, _+_, _*_, _<_, _≤_}
+use Prim.Native.Nat.{ℕ, _+_, _<_, _≤_}
 use native.Mathlib.Omega.{arith}
-use lib.ListN.{length, getD}
+use lib.ListN.{getD}
 use Rattle.tables.specs.declared.values.Fields.{Fields}
 use Rattle.tables.specs.Values.{triple}
-use Rattle.tables.specs.Records.{room, field, slotRow, valueRow, written, filled}
+use Rattle.tables.specs.Records.{room, field, slotRow, valueRow, filled}
 use Rattle.tables.proofs.RecordLaws.{written-same, written-else, filled-same}
 use Rattle.definition.specs.Memory.{Kept, inMap, inSlot, inValue, dropped, Event, opened, passed, item, value, resolve, synchronize, Table, table, added}
-use Rattle.definition.specs.Slots.{waiter, waitsFor}
+use Rattle.definition.specs.Slots.{waiter}
 use Rattle.assurance.specs.On.{All, all-map}
 use Rattle.assurance.specs.Waiting.{WaitsAt, Waits, filled-other, unknown}
-use Rattle.assurance.specs.Words.{LeftPending, FilledBy, SlotHas, ValueHas}
+use Rattle.assurance.specs.Words.{LeftPending, FilledBy}
+use Rattle.assurance.specs.Records.{SlotHas, ValueHas}
 
 -- a value's object is below the count of objects, and its value record below the count of values; a pending value is its number alone
 pub record Refers (objects values : ℕ) (v : Fields) : Type 0 where
@@ -46,7 +47,7 @@ pub record Standing (objects : ℕ) (st vt : Table) (es : List Event) : Type 0 w
 -- ---- records that stay
 
 slot-stays : (t u : Table) (k : ℕ) (v : Fields) (waits : ℕ) → t .count ≤ u .count → ((j : ℕ) → j < 6 → field 6 (u .rows) k j ≡ field 6 (t .rows) k j) → SlotHas t k v waits → SlotHas u k v waits
-slot-stays t u k v waits l f h = record { listed = omega (arith, h .listed); kind = f 2 (omega arith) ∙ h .kind; a = f 3 (omega arith) ∙ h .a; b = f 4 (omega arith) ∙ h .b; waits-so = f 5 (omega arith) ∙ h .waits-so }
+slot-stays t u k v waits l f h = record { listed = omega (arith, h .listed); kind = f 2 (omega arith) ∙ h .kind; a = f 3 (omega arith) ∙ h .a; b = f 4 (omega arith) ∙ h .b; waits-is = f 5 (omega arith) ∙ h .waits-is }
 
 value-stays : (t u : Table) (k : ℕ) (v : Fields) → t .count ≤ u .count → ((j : ℕ) → j < 3 → field 3 (u .rows) k j ≡ field 3 (t .rows) k j) → ValueHas t k v → ValueHas u k v
 value-stays t u k v l f h = record { listed = omega (arith, h .listed); kind = f 0 (omega arith) ∙ h .kind; a = f 1 (omega arith) ∙ h .a; b = f 2 (omega arith) ∙ h .b }
@@ -107,7 +108,7 @@ module _ (objects : ℕ) (st vt : Table) (es : List Event) (o index start w : �
         kind = written-same (st .rows) (slotRow o index v waits) (st .count) 2 (omega arith) l;
         a = written-same (st .rows) (slotRow o index v waits) (st .count) 3 (omega arith) l;
         b = written-same (st .rows) (slotRow o index v waits) (st .count) 4 (omega arith) l;
-        waits-so = written-same (st .rows) (slotRow o index v waits) (st .count) 5 (omega arith) l;
+        waits-is = written-same (st .rows) (slotRow o index v waits) (st .count) 5 (omega arith) l;
       }
 
   old-slot : (k : ℕ) (f : Fields) (n : ℕ) → SlotHas st k f n → SlotHas more k f n
@@ -143,7 +144,7 @@ unknown-standing objects st vt es n o e h =
     record {
       right = (tt, h .right);
       left = (λ k j i. h .left k j (i .1));
-      resolved = (λ k j p. ⊎-elim (λ (i : (n ≡ j) × (o ≡ p) × (LeftPending es k j)). let s = h .left k j (i .2) in absurd (unknown (st .rows) n (st .count) k e (s .listed) (s .waits-so) (s .a ∙ sym (i .0)))) (h .resolved k j p));
+      resolved = (λ k j p. ⊎-elim (λ (i : (n ≡ j) × (o ≡ p) × (LeftPending es k j)). let s = h .left k j (i .2) in absurd (unknown (st .rows) n (st .count) k e (s .listed) (s .waits-is) (s .a ∙ sym (i .0)))) (h .resolved k j p));
     }
 
 -- a resolve of a number under which slot i waits
@@ -156,12 +157,12 @@ module _ (objects pending waiting : ℕ) (st vt : Table) (es : List Event) (n o 
 
   -- a slot that does not wait is another
   still-slot : (k : ℕ) (v : Fields) → SlotHas st k v 0 → SlotHas after k v 0
-  still-slot k v s = other-slot k v 0 (λ e. let z : _≡_ {A = ℕ} 0 1 = sym (s .waits-so) ∙ (subst (WaitsAt (st .rows)) (sym e) w) in omega arith) s
+  still-slot k v s = other-slot k v 0 (λ e. let z : _≡_ {A = ℕ} 0 1 = sym (s .waits-is) ∙ (subst (WaitsAt (st .rows)) (sym e) w) in omega arith) s
 
   filled-slot : SlotHas after i (triple 1 o 0) 0
   filled-slot =
       let f : (j : ℕ) → j < 4 → field 6 (filled (st .rows) i o) i (2 + j) ≡ getD (1 ∷ o ∷ 0 ∷ 0 ∷ []) j 0 = λ j b. filled-same (st .rows) i o j b (omega arith) in
-      record { listed = l; kind = f 0 (omega arith); a = f 1 (omega arith); b = f 2 (omega arith); waits-so = f 3 (omega arith) }
+      record { listed = l; kind = f 0 (omega arith); a = f 1 (omega arith); b = f 2 (omega arith); waits-is = f 3 (omega arith) }
 
   pub fill-standing : Standing objects after vt (resolve n o ∷ es)
   unfolding All LeftPending FilledBy
@@ -172,7 +173,7 @@ module _ (objects pending waiting : ℕ) (st vt : Table) (es : List Event) (n o 
         resolved =
             (λ k j p. ⊎-elim
             (λ (q : (n ≡ j) × (o ≡ p) × (LeftPending es k j)). let s = h .left k j (q .2) in
-            let same : i ≡ k = g .distinct i k l (s .listed) w (s .waits-so) (number ∙ q .0 ∙ sym (s .a)) in
+            let same : i ≡ k = g .distinct i k l (s .listed) w (s .waits-is) (number ∙ q .0 ∙ sym (s .a)) in
             (subst (λ (x : ℕ). SlotHas after x (triple 1 p 0) 0) same (subst (λ (x : ℕ). SlotHas after i (triple 1 x 0) 0) (q .1) filled-slot), subst (λ (x : ℕ). x < objects) (q .1) low))
             (λ f. let z = h .resolved k j p f in (still-slot k (triple 1 p 0) (z .0), z .1)));
       }

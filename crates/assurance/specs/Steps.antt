@@ -1,24 +1,23 @@
 -- The steps that a walk under a plain sheet is made of, what holds before each, and the rules by which a property is kept at each.
 -- Assumes nothing.
-use mathlib.Core.Path.{_≡_, refl, sym, ap, _∙_}
+use mathlib.Core.Path.{_≡_, refl, _∙_}
 use mathlib.Core.Bool.{Bool, true}
 use mathlib.Core.List.{List, [], _∷_}
-use Prim.Native.Nat.{ℕ, zero, suc, _+_, _-_, _*_, _/_, _<_, _≤_}
+use Prim.Native.Nat.{ℕ, zero, suc, _+_, _*_, _/_, _<_, _≤_}
 use native.Mathlib.Omega.{arith}
-use lib.ListN.{length, getD, set, length-set}
+use lib.ListN.{length, getD, length-set}
 use Rattle.sheet.specs.Tests.{opens}
 use Rattle.tables.specs.declared.values.Ref.{Ref}
 use Rattle.tables.specs.declared.values.Ref.the-variants.{Object, Root, RoRef, Attached}
 use Rattle.tables.specs.declared.values.SlotValue.{SlotValue}
-use Rattle.tables.specs.declared.values.SlotValue.the-variants.{Ref as IsRef, Repeat, RepeatPrev, Skip, StreamBytes, Raw as IsRaw, ClearedWeak, WeakRef, PendingRef}
+use Rattle.tables.specs.declared.values.SlotValue.the-variants.{Ref as IsRef, Repeat, Raw as IsRaw, ClearedWeak, WeakRef, PendingRef}
 use Rattle.tables.specs.declared.values.Fields.{Fields}
 use Rattle.tables.specs.Values.{refFields, fieldsOf, widthOf}
-use Rattle.tables.specs.Records.{room, field, objectRow, slotRow, valueRow, written, filled}
+use Rattle.tables.specs.Records.{room, objectRow, slotRow, valueRow}
 use Rattle.tables.proofs.RecordLaws.{written-length, filled-length}
-use Rattle.backref.specs.declared.hot_ring.Hot.{Hot}
-use Rattle.backref.specs.declared.hot_ring.Hot.the-variants.{Is, Empty}
+use Rattle.backref.specs.declared.hot_ring.Hot.the-variants.{Is}
 use Rattle.backref.specs.HotRing.{entered, hotAt}
-use Rattle.definition.specs.Memory.{Input, word, Kept, inMap, inSlot, inValue, dropped, Event, opened, passed, item, value, resolve, synchronize, Mem, moved, withObjects, withSlots, withValues, withHot, withPending, withSkip, aligned, noted, added}
+use Rattle.definition.specs.Memory.{Input, word, Kept, inMap, inSlot, inValue, dropped, opened, passed, item, value, resolve, synchronize, Mem, moved, withObjects, withSlots, withValues, withHot, withPending, aligned, noted, added}
 use Rattle.definition.specs.Slots.{counted, waiter, fillWaiter, resolved, waitsOf}
 use Rattle.definition.specs.Object.{flagged}
 

@@ -1,30 +1,28 @@
 -- What the rules keep holds of every accepted payload, under a plain sheet. Assumes nothing.
 use mathlib.Core.Path.{_≡_, refl, sym, subst, _∙_}
-use mathlib.Core.Bool.{Bool, true, false, not, _&&_, _||_}
-use mathlib.Core.List.{List, [], _∷_}
-use Prim.Native.Nat.{ℕ, zero, suc, _+_, _-_, _*_, _<_, _≤_}
+use mathlib.Core.Bool.{true}
+use mathlib.Core.List.{List, []}
+use Prim.Native.Nat.{ℕ, zero, suc, _+_, _-_, _<_, _≤_}
 use native.Mathlib.Omega.{arith}
-use borrow.Author.Tests.{ltb-true, leb-false, eqb-true}
-use lib.Dec.{ltb, leb, eqb}
+use borrow.Author.Tests.{leb-false, eqb-true}
+use lib.Dec.{leb}
 use lib.ListN.{length, getD}
 use Rattle.stream.proofs.ByteLaws.{Bytes, peek-byte}
-use Rattle.sheet.specs.Names.{kNewObject, kAlignmentPrefix, kSynchronize}
-use Rattle.sheet.specs.Sheet.{number, isLegacy, usable, plain}
-use Rattle.sheet.specs.Tests.{opens, inSpan, isEntry, isNop, pickClosing, closingOf}
-use Rattle.sheet.specs.declared.tests.Closing.{Closing}
-use Rattle.sheet.specs.declared.tests.Closing.the-variants.{Synchronize, Alignment, Deferred, Reference}
+use Rattle.sheet.specs.Names.{kSynchronize}
+use Rattle.sheet.specs.Sheet.{number, isLegacy}
+use Rattle.sheet.specs.Tests.{opens, isNop}
 use Rattle.sheet.proofs.UsableSheet.{and-left}
 use Rattle.tables.specs.declared.values.SlotValue.{SlotValue}
 use Rattle.tables.specs.Values.{fieldsOf}
-use Rattle.definition.specs.Memory.{Input, told, Event, value, dropped, synchronize, Table, Mem, Out, got, no, Reader, _>>=_, _>>_, choose, give, change, tell, refuseAt, moved, aligned, noted, byte}
+use Rattle.definition.specs.Memory.{Input, value, dropped, synchronize, Table, Mem, Out, got, no, Reader, _>>=_, _>>_, choose, change, tell, refuseAt, moved, aligned, noted, byte}
 use Rattle.definition.specs.Object.{peek, object}
 use Rattle.definition.specs.Reference.{refAt}
 use Rattle.definition.specs.Closing.{dropReference, endsLegacy, afterEntry, byEntry, entries, padding, closing}
-use Rattle.definition.specs.Call.{Rooms, Call, inputOf, start, topSpace, walk, tooLong, called, graph}
+use Rattle.definition.specs.Call.{topSpace, walk}
 use Rattle.assurance.specs.PlainSheet.{PlainSheet, not-legacy, closing-case}
 use Rattle.assurance.specs.Gives.{Gives, gives, given, refused, gives-then, gives-choose, gives-map, gives-both, byte-gives}
 use Rattle.assurance.specs.Steps.{Frame, OpensAt, Base, Rules, resolve-case, base-same}
-use Rattle.assurance.specs.Objects.{Good, Has, good-move, byte-has, object-has}
+use Rattle.assurance.specs.Objects.{Good, Has, good-move, object-has}
 use Rattle.assurance.specs.References.{reference-has, ref-has}
 
 -- nothing is asked of what is given

@@ -1,17 +1,16 @@
 -- The words of demand 3 (document 01), over the events of a reading. The events are the definition's, told as the payload is read. The latest
 -- stands first: what follows an event in the list was told before it. Assumes nothing: these are definitions.
 use mathlib.Core.Path.{_≡_}
-use mathlib.Core.Bool.{Bool, true, false}
+use mathlib.Core.Bool.{true}
 use mathlib.Core.Logic.{_⊎_, _≢_}
 use mathlib.Core.List.{List, [], _∷_, List·Memᴰ}
-use Prim.Native.Nat.{ℕ, zero, suc, _+_, _*_, _<_, _≤_}
+use Prim.Native.Nat.{ℕ, _+_, _*_, _<_, _≤_}
 use lib.Dec.{eqb}
-use lib.ListN.{length, getD}
+use lib.ListN.{getD}
 use Rattle.sheet.specs.Sheet.{plain}
 use Rattle.tables.specs.declared.values.Fields.{Fields}
 use Rattle.tables.specs.Values.{pickℕ, triple}
-use Rattle.tables.specs.Records.{field}
-use Rattle.definition.specs.Memory.{Kept, inMap, inSlot, inValue, dropped, Event, opened, passed, item, value, resolve, synchronize, Table, Mem, Out, got}
+use Rattle.definition.specs.Memory.{inMap, inSlot, inValue, dropped, Event, opened, passed, item, value, resolve, synchronize, Mem, got}
 use Rattle.definition.specs.Call.{Rooms, Call, graph, eventsOf}
 
 -- a payload of bytes that is *accepted* under a plain sheet: the call gets no number; it ends with m
@@ -123,6 +122,21 @@ EndToEnd word (value v t ∷ es) = EndToEnd word es
 EndToEnd word (resolve n o ∷ es) = EndToEnd word es
 EndToEnd word (synchronize q ∷ es) = EndToEnd word es
 
+-- width of an item whose value has these fields: raw its length, or 0 if it does not advance; repeats count times a word; skip its bytes;
+-- stream bytes 0; all else one word
+abbrev pub widthOfValue : ℕ → Fields → ℕ
+widthOfValue word v =
+    pickℕ (eqb (v .kind) 5) (v .b)
+    (pickℕ (eqb (v .kind) 6) 0
+    (pickℕ (eqb (v .kind) 7) (v .a * word)
+    (pickℕ (eqb (v .kind) 8) (v .a * word)
+    (pickℕ (eqb (v .kind) 9) (v .a)
+    (pickℕ (eqb (v .kind) 10) 0 word)))))
+
+-- an item is an object's map, one word from byte 0, or has the width of its value; its slot record keeps that value
+abbrev pub ItemOf : ℕ → List Event → ℕ → ℕ → ℕ → Type 0
+ItemOf word es s w k = ((v : Fields) × (Told es (value v (inMap k))) × (s ≡ 0) × (w ≡ word)) ⊎ ((v : Fields) × (Told es (value v (inSlot k))) × (w ≡ widthOfValue word v))
+
 -- ---- values, and where they are kept
 
 -- how many values were read that slot record k keeps, as an object's map or as another slot
@@ -173,23 +187,3 @@ FilledBy (item x s w j ∷ es) k n o = FilledBy es k n o
 FilledBy (value v t ∷ es) k n o = FilledBy es k n o
 FilledBy (resolve j x ∷ es) k n o = ((j ≡ n) × (x ≡ o) × (LeftPending es k n)) ⊎ (FilledBy es k n o)
 FilledBy (synchronize q ∷ es) k n o = FilledBy es k n o
-
--- ---- records: slot record k has this value and waits or not; value record k has this value
-
-pub record SlotHas (t : Table) (k : ℕ) (v : Fields) (waits : ℕ) : Type 0 where
-  pub listed : k < t .count
-  pub kind : field 6 (t .rows) k 2 ≡ v .kind
-  pub a : field 6 (t .rows) k 3 ≡ v .a
-  pub b : field 6 (t .rows) k 4 ≡ v .b
-  pub waits-so : field 6 (t .rows) k 5 ≡ waits
-
-pub record ValueHas (t : Table) (k : ℕ) (v : Fields) : Type 0 where
-  pub listed : k < t .count
-  pub kind : field 3 (t .rows) k 0 ≡ v .kind
-  pub a : field 3 (t .rows) k 1 ≡ v .a
-  pub b : field 3 (t .rows) k 2 ≡ v .b
-
--- how many of the first n slot records are object o's
-unfoldable pub slotsOf : List ℕ → ℕ → ℕ → ℕ
-slotsOf rows o zero = 0
-slotsOf rows o (suc n) = pickℕ (eqb o (field 6 rows n 0)) (slotsOf rows o n + 1) (slotsOf rows o n)
