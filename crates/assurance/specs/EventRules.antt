@@ -1,4 +1,4 @@
--- The rules for a property of the tables and of what was told: only the steps that change those are left. Assumes nothing.
+-- The rules for a property of the tables and of the recorded events: only the steps that change those are left. Assumes nothing.
 use mathlib.Core.Path.{_≡_, refl, subst}
 use mathlib.Core.Bool.{Bool, true, false}
 use mathlib.Core.List.{List, [], _∷_}

@@ -1,11 +1,11 @@
--- What holds of what a listener was told. Assumes nothing.
+-- What holds of the events recorded so far. Assumes nothing.
 use mathlib.Core.Path.{sym, subst}
 use mathlib.Core.Logic.{⊎-elim}
 use mathlib.Core.List.{List, [], _∷_, List·Memᴰ, List·Memᴰ·not-nil, List·Memᴰ·cases-cons}
 use Rattle.definition.specs.Memory.{Event, Log, off, told, note}
 use Rattle.definition.specs.Call.{toldOf}
 
--- somebody listens, and P holds of what was told
+-- events are recorded, and P holds of them
 abbrev pub On : (List Event → Type 0) → Log → Type 0
 On P off = ⊥
 On P (told es) = P es

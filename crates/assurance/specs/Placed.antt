@@ -31,7 +31,7 @@ Sits ts t (value v k) = Unit {0}
 Sits ts t (resolve n o) = Unit {0}
 Sits ts t (synchronize q) = Unit {0}
 
--- of the slots' table and what was told; and of both tables
+-- of the slots' table and the events; and of both tables
 record Seated (ts : ℕ) (t : Table) (es : List Event) : Type 0 where
   each : All (Sits ts t) es
   one : (k : ℕ) → k < t .count → itemsIn es k ≡ 1

@@ -1,18 +1,18 @@
 -- What the rules keep is kept by every reader, under a plain sheet: references. Assumes nothing.
 use mathlib.Core.Path.{_≡_, refl}
-use mathlib.Core.Bool.{Bool, true, false}
+use mathlib.Core.Bool.{Bool, true}
 use mathlib.Core.List.{List}
 use Prim.Native.Nat.{ℕ, zero, suc, _+_, _*_, _-_, _^_, _<_, _≤_}
 use native.Mathlib.Omega.{arith}
-use borrow.Author.Tests.{ltb-true, eqb-true}
-use lib.Dec.{ltb, eqb}
+use borrow.Author.Tests.{ltb-true}
+use lib.Dec.{ltb}
 use lib.ListN.{length}
 use Rattle.stream.specs.declared.bytes.Range.{Range}
 use Rattle.stream.specs.declared.bytes.Range.the-variants.{To as RangeTo, Past}
 use Rattle.stream.specs.Bytes.{rawAt}
 use Rattle.stream.proofs.ByteLaws.{Bytes}
 use Rattle.sheet.specs.Sheet.{rawAdvances}
-use Rattle.sheet.specs.Kinds.{newObject, backref, legacyBackref, legacyBackrefWithSkip, nextChunk, alignment, hot, hotWithSkip, rootArray, rootConstant, rootConstantWithSkip, readOnly, attached, builtin, external, api, internal, deoptimizer, streamBytes, embedderFields, offHeapTarget, cache, registerPending, clearedWeak, weakPrefix, pointerPrefix, dispatchEntry, fixedRaw, variableRaw, skip, fixedRepeat, fixedRepeatRoot, repeatPrevious, variableRepeat, variableRepeatPrevious, variableRepeatRoot, metaMap}
+use Rattle.sheet.specs.Kinds.{hot}
 use Rattle.sheet.specs.Heads.{head, headOf}
 use Rattle.sheet.specs.Tests.{opens}
 use Rattle.tables.specs.declared.values.Ref.{Ref}
@@ -23,12 +23,13 @@ use Rattle.tables.specs.Values.{fieldsOf}
 use Rattle.backref.specs.declared.hot_ring.Hot.{Hot}
 use Rattle.backref.specs.declared.hot_ring.Hot.the-variants.{Is, Empty}
 use Rattle.backref.specs.HotRing.{hotAt}
-use Rattle.definition.specs.Memory.{Input, word, Mem, Reader, choose, byte, int, moved, hasRoom}
+use Rattle.definition.specs.Memory.{_>>=_, Input, word, Mem, Reader, byte, int, moved, hasRoom}
 use Rattle.definition.specs.Slots.{addValue}
 use Rattle.definition.specs.Reference.{refersHot, backrefTo, ofHot, hotPlace, outside, pendingReference, afterRaw, rawData, rawBytes, weakOf, repeatOf, repeatRoot, byHead, reference, refAt}
 use Rattle.laws.specs.Leaves.{RawEnds, raw-ends}
 use Rattle.assurance.specs.PlainSheet.{PlainSheet, words-pos}
-use Rattle.assurance.specs.PlainHeads.{PlainHead, notPlain, no-kind, head-plain}
+use Rattle.assurance.specs.PlainHeads.{PlainHead, head-plain}
+use Rattle.assurance.specs.ByKind.{by-kind}
 use Rattle.assurance.specs.Gives.{Gives, gives, refused, gives-then, gives-choose, byte-gives}
 use Rattle.assurance.specs.Steps.{Frame, OpensAt, Rules, entering, numbering, passing, valuing, base-same}
 use Rattle.assurance.specs.Objects.{Good, Has, good-move, byte-has, int-has, object-has}
@@ -104,61 +105,48 @@ module _ (x : Input) (bytes : Bytes (x .payload)) (plainly : PlainSheet (x .shee
   -- ---- by the head's kind
 
   module _ (r : Reader SlotValue) (has : (S : List Frame) (m : Mem) → G S m → Gives (H S) (r m)) (S : List Frame) where
-    -- a kind that may be met, and one that a plain sheet does not have
-    meet : (k kind : ℕ) (f g : Reader SlotValue) (m : Mem) → (eqb kind k ≡ true → Gives (H S) (f m)) → Gives (H S) (g m) → Gives (H S) (choose (eqb kind k) f g m)
-    meet k kind f g m y n = gives-choose (H S) (eqb kind k) f g m y (λ t. n)
+    -- of what a head may say
+    abbrev Reads : Reader SlotValue → Type 0
+    Reads f = (m : Mem) → G S m → Gives (H S) (f m)
 
-    pass : (k kind : ℕ) (f g : Reader SlotValue) (m : Mem) → notPlain kind ≡ false → notPlain k ≡ true → Gives (H S) (g m) → Gives (H S) (choose (eqb kind k) f g m)
-    pass k kind f g m p q n = gives-choose (H S) (eqb kind k) f g m (λ t. absurd (no-kind kind k t q p)) (λ t. n)
+    with-number : (f : ℕ → Reader SlotValue) → ((n : ℕ) → Reads (f n)) → Reads (int x >>= f)
+    with-number f k m g = gives-then (λ n. G S) (H S) (int x m) f (number-has S m g) (λ n m h. k n m h)
 
-    head-has : (b tag kind a : ℕ) (m : Mem) → PlainHead (x .sheet) b (head kind a) → (opens (x .sheet) b ≡ true → OpensAt x tag) → G S m → Gives (H S) (byHead x r tag kind a m)
-    unfolding byHead
-    head-has b tag kind a m p o g =
-        meet newObject kind _ _ m (λ t. object-has x bytes plainly I W rules r has S a tag m (o (p .new-object (eqb-true _ _ t))) g)
-        (meet backref kind _ _ m (λ t. gives-then (λ n. G S) (H S) (int x m) _ (number-has S m g) (λ i m h. back-has S i m h))
-        (pass legacyBackref kind _ _ m (p .kind) refl
-        (pass legacyBackrefWithSkip kind _ _ m (p .kind) refl
-        (pass nextChunk kind _ _ m (p .kind) refl
-        (pass alignment kind _ _ m (p .kind) refl
-        (meet hot kind _ _ m (λ t. hot-has S a m (p .place (eqb-true _ _ t)) g)
-        (pass hotWithSkip kind _ _ m (p .kind) refl
-        (meet rootArray kind _ _ m (λ t. gives-then (λ n. G S) (H S) (int x m) _ (number-has S m g) (λ i m h. enter-has S (Root i) m h (rules .on-root S m i (h .1))))
-        (meet rootConstant kind _ _ m (λ t. gives (H S) _ _ (g, rules .on-root S m a (g .1), tt))
-        (pass rootConstantWithSkip kind _ _ m (p .kind) refl
-        (meet readOnly kind _ _ m (λ t. gives-then (λ n. G S) (H S) (int x m) _ (number-has S m g) (λ c m h. gives-then (λ n. G S) (H S) (int x m) _ (number-has S m h) (λ o m h. gives (H S) _ _ (h, rules .on-read-only S m c o (h .1), tt))))
-        (meet attached kind _ _ m (λ t. gives-then (λ n. G S) (H S) (int x m) _ (number-has S m g) (λ i m h. gives (H S) _ _ (h, rules .on-attached S m i (h .1), tt)))
-        (pass builtin kind _ _ m (p .kind) refl
-        (pass external kind _ _ m (p .kind) refl
-        (pass api kind _ _ m (p .kind) refl
-        (pass internal kind _ _ m (p .kind) refl
-        (pass deoptimizer kind _ _ m (p .kind) refl
-        (pass streamBytes kind _ _ m (p .kind) refl
-        (pass embedderFields kind _ _ m (p .kind) refl
-        (pass offHeapTarget kind _ _ m (p .kind) refl
-        (meet cache kind _ _ m (λ t. outside-has S 1 m g)
-        (meet registerPending kind _ _ m (λ t. pending-has S m g)
-        (meet clearedWeak kind _ _ m (λ t. gives (H S) _ _ (g, rules .on-cleared S m (g .1), tt))
-        (meet weakPrefix kind _ _ m (λ t. gives-then (H S) (H S) (r m) _ (has S m g) (λ v m h. weak-has S v m (h .0) (h .1)))
-        (meet pointerPrefix kind _ _ m (λ t. has S m g)
-        (meet dispatchEntry kind _ _ m (λ t. gives-then (λ n. G S) (H S) (int x m) _ (number-has S m g) (λ i m h. gives (H S) _ _ (h, rules .on-cleared S m (h .1), tt)))
-        (meet fixedRaw kind _ _ m (λ t. raw-has S (a * word x) true m (words-pos (x .sheet) plainly a (p .raw (eqb-true _ _ t))) g)
-        (meet variableRaw kind _ _ m (λ t. gives-then (λ n. G S) (H S) (int x m) _ (number-has S m g) (λ n m h. raw-has S (rawBytes x n) (rawAdvances (x .sheet)) m (omega arith) h))
-        (pass skip kind _ _ m (p .kind) refl
-        (meet fixedRepeat kind _ _ m (λ t. gives-then (H S) (H S) (r m) _ (has S m g) (λ v m h. repeat-has S a v m (h .0) (h .1)))
-        (meet fixedRepeatRoot kind _ _ m (λ t. repeat-root-has S a m g)
-        (pass repeatPrevious kind _ _ m (p .kind) refl
-        (meet variableRepeat kind _ _ m (λ t. gives-then (λ n. G S) (H S) (int x m) _ (number-has S m g) (λ n m h. gives-then (H S) (H S) (r m) _ (has S m h) (λ v m h. repeat-has S (n + 18) v m (h .0) (h .1))))
-        (pass variableRepeatPrevious kind _ _ m (p .kind) refl
-        (meet variableRepeatRoot kind _ _ m (λ t. gives-then (λ n. G S) (H S) (int x m) _ (number-has S m g) (λ n m h. repeat-root-has S (n + 18) m h))
-        (meet metaMap kind _ _ m (λ t. refused (H S) _ _ _)
-        (refused (H S) _ _ _)))))))))))))))))))))))))))))))))))))
+    with-reference : (f : SlotValue → Reader SlotValue) → ((v : SlotValue) (m : Mem) → G S m → W m v → Gives (H S) (f v m)) → Reads (r >>= f)
+    with-reference f k m g = gives-then (H S) (H S) (r m) f (has S m g) (λ v m h. k v m (h .0) (h .1))
+
+    head-has : (b tag kind a : ℕ) → PlainHead (x .sheet) b (head kind a) → (opens (x .sheet) b ≡ true → OpensAt x tag) → Reads (byHead x r tag kind a)
+    head-has b tag kind a p o =
+        by-kind x r tag kind a Reads (p .kind)
+        (record {
+          new-object = (λ e m g. object-has x bytes plainly I W rules r has S a tag m (o (p .new-object e)) g);
+          back-reference = with-number _ (back-has S);
+          hot-place = (λ e m g. hot-has S a m (p .place e) g);
+          root-array = with-number _ (λ i m h. enter-has S (Root i) m h (rules .on-root S m i (h .1)));
+          root-constant = (λ m g. gives (H S) _ _ (g, rules .on-root S m a (g .1), tt));
+          read-only-heap = with-number _ (λ c. with-number _ (λ o m h. gives (H S) _ _ (h, rules .on-read-only S m c o (h .1), tt)));
+          attached-reference = with-number _ (λ i m h. gives (H S) _ _ (h, rules .on-attached S m i (h .1), tt));
+          object-cache = outside-has S 1;
+          pending = pending-has S;
+          cleared = (λ m g. gives (H S) _ _ (g, rules .on-cleared S m (g .1), tt));
+          weak = with-reference _ (weak-has S);
+          pointer = has S;
+          dispatch = with-number _ (λ i m h. gives (H S) _ _ (h, rules .on-cleared S m (h .1), tt));
+          fixed-raw = (λ e m g. raw-has S (a * word x) true m (words-pos (x .sheet) plainly a (p .raw e)) g);
+          variable-raw = with-number _ (λ n m h. raw-has S (rawBytes x n) (rawAdvances (x .sheet)) m (omega arith) h);
+          fixed-repeat = with-reference _ (repeat-has S a);
+          fixed-repeat-root = repeat-root-has S a;
+          variable-repeat = with-number _ (λ n. with-reference _ (repeat-has S (n + 18)));
+          variable-repeat-root = with-number _ (λ n. repeat-root-has S (n + 18));
+          refusal = (λ n m g. refused (H S) _ _ _);
+        })
 
     pub reference-has : (m : Mem) → (m .at < length (x .payload) → G S (moved (m .at + 1) m)) → Gives (H S) (reference x r m)
     unfolding reference
     reference-has m g =
         let Q : ℕ → Mem → Type 0 = λ b m′. (G S m′) × (opens (x .sheet) b ≡ true → OpensAt x (m .at)) in
         gives-then Q (H S) (byte x m) _ (byte-gives x Q m (λ l. (g l, λ e. (l, e))))
-        (λ b m′ h. head-has b (m .at) (headOf (x .sheet) b .kind) (headOf (x .sheet) b .argument) m′ (head-plain (x .sheet) plainly b) (h .1) (h .0))
+        (λ b m′ h. head-has b (m .at) (headOf (x .sheet) b .kind) (headOf (x .sheet) b .argument) (head-plain (x .sheet) plainly b) (h .1) m′ (h .0))
 
   -- THE THEOREM
   pub ref-has : (k : ℕ) (S : List Frame) (m : Mem) → G S m → Gives (H S) (refAt x k m)

@@ -62,7 +62,7 @@ numbering m = withPending (m .pending + 1) (m .waiting) m
 abbrev pub valuing : Fields → Mem → Mem
 valuing v m = noted (value v (inValue (m .values .count))) (withValues (added (m .values) (valueRow v)) m)
 
--- a value is kept in a slot record, which is then told as an item
+-- a value is kept in a slot record, which is then recorded as an item
 abbrev pub keeping : (ℕ → Kept) → ℕ → ℕ → ℕ → ℕ → Fields → ℕ → Mem → Mem
 keeping k o index start width v waits m =
     noted (item o start width (m .slots .count))

@@ -1,5 +1,5 @@
--- The words of demand 3 (document 01), over the events of a reading. The events are the definition's, told as the payload is read. The latest
--- stands first: what follows an event in the list was told before it. Assumes nothing: these are definitions.
+-- The words of demand 3 (document 01), over the events of a reading. The events are the definition's, recorded as the payload is read. The latest
+-- stands first: what follows an event in the list was recorded before it. Assumes nothing: these are definitions.
 use mathlib.Core.Path.{_≡_}
 use mathlib.Core.Bool.{true}
 use mathlib.Core.Logic.{_⊎_, _≢_}
@@ -19,7 +19,7 @@ pub record Accepted (c : Call) (rooms : Rooms) (m : Mem) : Type 0 where
   pub bytes : (i : ℕ) → getD (c .payload) i 0 < 256
   pub accepted : graph c rooms ≡ got tt m
 
--- what happens in the reading of a payload, and that an event is among it
+-- the events of the reading of a payload, and that one is among them
 abbrev pub events : Call → Rooms → List Event
 events c rooms = eventsOf (graph c rooms)
 

@@ -1,5 +1,4 @@
 -- Slots and items, as the code adds them. Assumes nothing: these are definitions.
-use mathlib.Core.Path.{_≡_}
 use Prim.Native.Nat.{ℕ}
 use Rattle.tables.specs.declared.values.SlotValue.{SlotValue}
 use Rattle.tables.specs.Values.{fieldsOf}

@@ -8,15 +8,13 @@ use tables::records::set_slot_count;
 use tables::values::SlotValue;
 use tables::values::width;
 ghost use mathlib.Core.Path.{_≡_};
-ghost use mathlib.Core.List.{List};
-ghost use Prim.Native.Nat.{ℕ, _+_, _*_, _^_, _<_, _≤_};
-ghost use lib.ListN.{length};
+ghost use Prim.Native.Nat.{_+_, _^_, _<_, _≤_};
 ghost use Rattle.tables.specs.Records.{room, field};
 ghost use Rattle.tables.specs.Values.{widthOf};
 ghost use Rattle.definition.specs.Memory.{Input, word as wordOf};
 ghost use Rattle.definition.specs.Slots.{waitsOf, repeatPrevious, keepItem, placeItem};
-ghost use Rattle.readers.specs.Views.{Lent, input, mem, seenCount, objectsIs, slotsIs, valuesIs};
-ghost use Rattle.readers.specs.Index.{Indexed, CountIndexed};
+ghost use Rattle.readers.specs.Views.{Lent, mem, seenCount, objectsIs, slotsIs, valuesIs};
+ghost use Rattle.readers.specs.Index.{Indexed, Single, Fresh, CountIndexed};
 ghost use Rattle.readers.specs.Item.{slotOf};
 
 // A slot record of object o, if there is room, and the object's slot count with it: whether there was room, as 0 or refusal 3.
@@ -74,7 +72,7 @@ fn keep_item(
     word: u64,
 ) -> Count
     requires { ⌜ (o < room 4 (now objects)) × (field 4 (now objects) o 3 < 2 ^ 63) × (s .waiting < 2 ^ 63) × (word ≤ 8) × (0 < word) × (done + s .skip + widthOf word v < 2 ^ 64) ⌝ }
-    requires { ⌜ Indexed (now slots) (s .slots) (now scratch) ⌝ }
+    requires { ⌜ Indexed (now slots) (s .slots) (now scratch) × Single (now slots) (s .slots) (s .waiting) × Fresh (now slots) (s .slots) v ⌝ }
     ensures { λ r. ⌜ ((x : Input) (l : Lent) → wordOf x ≡ word → seenCount r (objectsIs (now (objects .exit)) (slotsIs (now (slots .exit)) l)) ≡ keepItem x o done v (mem s (objectsIs (now (objects .entry)) (slotsIs (now (slots .entry)) l)))) ⌝ }
     ensures index { λ r. ⌜ CountIndexed r (now (slots .exit)) (now (scratch .exit)) ⌝ }
 {
@@ -118,7 +116,8 @@ pub fn place_item(
     word: u64,
 ) -> Count
     requires { ⌜ (o < room 4 (now objects)) × (field 4 (now objects) o 3 < 2 ^ 63) × (s .waiting < 2 ^ 63) × (word ≤ 8) × (0 < word) × (done + s .skip + widthOf word v < 2 ^ 64) ⌝ }
-    requires { ⌜ (0 < s .slots) × (s .slots ≤ room 6 (now slots)) × Indexed (now slots) (s .slots) (now scratch) ⌝ }
+    requires { ⌜ (0 < s .slots) × (s .slots ≤ room 6 (now slots)) ⌝ }
+    requires { ⌜ Indexed (now slots) (s .slots) (now scratch) × Single (now slots) (s .slots) (s .waiting) × Fresh (now slots) (s .slots) v ⌝ }
     ensures { λ r. ⌜ ((x : Input) (l : Lent) → wordOf x ≡ word → seenCount r (objectsIs (now (objects .exit)) (slotsIs (now (slots .exit)) (valuesIs (now (values .exit)) l))) ≡ placeItem x o done v (mem s (objectsIs (now (objects .entry)) (slotsIs (now (slots .entry)) (valuesIs (now (values .entry)) l))))) ⌝ }
     ensures index { λ r. ⌜ CountIndexed r (now (slots .exit)) (now (scratch .exit)) ⌝ }
 {

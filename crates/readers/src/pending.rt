@@ -8,11 +8,13 @@ use sheet::tests::is_tag;
 use stream::bytes::peek;
 use tables::records::fill_slot;
 ghost use mathlib.Core.Path.{_≡_};
+ghost use mathlib.Core.Bool.{true};
 ghost use mathlib.Core.List.{List};
-ghost use Prim.Native.Nat.{ℕ, _+_, _-_, _*_, _^_, _<_, _≤_};
-ghost use lib.ListN.{length, getD, set};
+ghost use Prim.Native.Nat.{ℕ, _-_, _<_, _≤_};
+ghost use lib.ListN.{length, set};
+ghost use Rattle.sheet.specs.Sheet.{usable};
 ghost use Rattle.tables.specs.Records.{room};
-ghost use Rattle.definition.specs.Slots.{waitsFor, waiter, resolved};
+ghost use Rattle.definition.specs.Slots.{waitsFor, waiter, renumbered, resolved};
 ghost use Rattle.definition.specs.Object.{resolves as resolvesFrom};
 ghost use Rattle.readers.specs.Views.{Lent, input, mem, seenWent, slotsIs};
 ghost use Rattle.readers.specs.Index.{Indexed, Single, WentIndexed};
@@ -65,6 +67,13 @@ fn lookup(slots: &[u64], scratch: &[u64], s: State, number: u64) -> u64
     find_waiter(slots, number, s.slots)
 }
 
+// The next pending number: where no slot waits, numbering returns to 0.
+fn renumber(pending: u64, waiting: u64) -> u64
+    ensures { λ r. ⌜ r ≡ renumbered pending waiting ⌝ }
+{
+    if waiting == 0 { 0 } else { pending }
+}
+
 // A resolve of a number, after the map of object o.
 fn resolve(slots: &mut [u64], scratch: &mut [u64], s: State, number: u64, o: u64) -> State
     requires { ⌜ (s .slots ≤ room 6 (now slots)) × Indexed (now slots) (s .slots) (now scratch) × Single (now slots) (s .slots) (s .waiting) ⌝ }
@@ -73,14 +82,14 @@ fn resolve(slots: &mut [u64], scratch: &mut [u64], s: State, number: u64, o: u64
 {
     let k = lookup(slots, scratch, s, number);
     let mut t = s;
-    if k != 0 {
-        fill_slot(slots, (k - 1) as usize, o);
-        note(scratch, number, 0);
-        t.waiting = s.waiting - 1;
+    if k == 0 {
+        t.pending = renumber(s.pending, s.waiting);
+        return t;
     }
-    if t.waiting == 0 {
-        t.pending = 0;
-    }
+    fill_slot(slots, (k - 1) as usize, o);
+    note(scratch, number, 0);
+    t.waiting = s.waiting - 1;
+    t.pending = renumber(s.pending, s.waiting - 1);
     t
 }
 
@@ -93,6 +102,7 @@ pub fn resolves(
     s: State,
     o: u64,
 ) -> Went
+    requires { ⌜ usable (now sheet) ≡ true ⌝ }
     requires { ⌜ (s .at ≤ length (now p)) × (s .slots ≤ room 6 (now slots)) × Indexed (now slots) (s .slots) (now scratch) × Single (now slots) (s .slots) (s .waiting) ⌝ }
     ensures { λ r. ⌜ ((tr : List ℕ) (sp : ℕ) (l : Lent) → seenWent r (slotsIs (now (slots .exit)) l) ≡ resolvesFrom (input (now (sheet .entry)) (now (p .entry)) sp tr) o (length (now (p .entry)) - s .at) (mem s (slotsIs (now (slots .entry)) l))) ⌝ }
     ensures index { λ r. ⌜ WentIndexed r (now (slots .exit)) (now (scratch .exit)) ⌝ }

@@ -18,11 +18,10 @@ use stream::bytes::raw;
 use tables::values::Raw;
 use tables::values::Ref;
 use tables::values::SlotValue;
-ghost use mathlib.Core.Bool.{Bool, true};
+ghost use mathlib.Core.Bool.{true};
 ghost use mathlib.Core.Path.{_≡_};
 ghost use mathlib.Core.List.{List};
 ghost use Prim.Native.Nat.{ℕ, _^_, _<_, _≤_};
-ghost use lib.ListN.{length};
 ghost use Rattle.sheet.specs.Sheet.{usable};
 ghost use Rattle.tables.specs.declared.values.SlotValue.{SlotValue};
 ghost use Rattle.tables.specs.Records.{room};
@@ -137,7 +136,6 @@ fn raw_data(p: &[u8], s: State, n: u64, advances: bool) -> Step
 
 // kVariableRawData: a length in words, in legacy in bytes; a length of 0 reads one byte.
 fn variable_raw(sheet: &[u16], p: &[u8], s: State) -> Step
-    requires { ⌜ usable (now sheet) ≡ true ⌝ }
     ensures { λ r. ⌜ ((tr : List ℕ) (sp : ℕ) (l : Lent) → seen r l ≡ readRaw (input (now (sheet .entry)) (now (p .entry)) sp tr) (mem s l)) ⌝ }
 {
     match read_int(p, s) {

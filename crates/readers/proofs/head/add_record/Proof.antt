@@ -1,42 +1,35 @@
+use native.Mathlib.Omega.{arith}
+use borrow.Author.Tests.{not-true, not-false}
+use Rattle.readers.specs.Views.{input}
+use Rattle.readers.proofs.ViewLaws.{put-below}
+use Rattle.readers.proofs.HeadLaws.{bytes-small, record-full, record-put}
 use borrow.Author.Needs.{needs}
 use Rattle.readers.proofs.head.add_record.Statement.{statement}
 use Rattle.readers.proofs.head.add_record.Tie as tie
-use Rattle.readers.proofs.head.add_record.Reads as reads
-use Rattle.readers.proofs.head.add_record.Lts as lts
-use Rattle.sheet.proofs.usable.word_bytes.Reads as word-bytes-reads
-use Rattle.tables.proofs.records.add_object.Reads as add-object-reads
 
--- src/head.rt:56:40
 word-bytes-requires : tie.Need-word-bytes-requires
 word-bytes-requires c κs = search needs
 
--- src/head.rt:56:32
 mul-add-object : tie.Need-mul-add-object
-mul-add-object c = ?
+mul-add-object c = omega (arith, bytes-small _ (c .before .before .before .before .pre .0) (c .word-bytes .ensures .0) (c .before .before .before .before .pre .1))
 
--- src/head.rt:56:9
 add-object-requires : tie.Need-add-object-requires
 add-object-requires c κs = search needs
 
--- src/head.rt:57:9
 same-length : tie.Need-same-length
 same-length c = search needs
 
--- src/head.rt:57:9
 returns : tie.Need-returns
-returns c = ?
+returns c = (λ p tr sp l. record-full (input (c .before .before .before .before .before .before .before .before .args .sheet .now) p sp tr) _ _ _ l (c .before .before .before .before .word-bytes .ensures .0) (c .before .before .before .add-object .ensures) (not-true _ (c .if1 .taken)), tt)
 
--- src/head.rt:60:17
 add-t : tie.Need-add-t
-add-t c = ?
+add-t c = omega (arith, put-below (c .before .before .before .add-object .ensures) (not-false _ (c .if1 .left)))
 
--- src/head.rt:49:1
 same-length-2 : tie.Need-same-length-2
 same-length-2 c = search needs
 
--- src/head.rt:49:1
 returns-2 : tie.Need-returns-2
-returns-2 c = ?
+returns-2 c = (λ p tr sp l. record-put (input (c .before .before .before .before .before .before .before .before .args .sheet .now) p sp tr) _ _ _ l (c .before .before .before .before .word-bytes .ensures .0) (c .before .before .before .add-object .ensures) (not-false _ (c .if1 .left)), c .before .before .before .before .before .before .before .before .pre .1)
 
 pub add-record-spec : {M : Type 1} → statement M
 add-record-spec =

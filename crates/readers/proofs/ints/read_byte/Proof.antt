@@ -1,25 +1,19 @@
+use Rattle.readers.proofs.IntLaws.{byte-is, byte-cut}
 use borrow.Author.Needs.{needs}
 use Rattle.readers.proofs.ints.read_byte.Statement.{statement}
 use Rattle.readers.proofs.ints.read_byte.Tie as tie
-use Rattle.readers.proofs.ints.read_byte.Reads as reads
-use Rattle.readers.proofs.ints.read_byte.Lts as lts
-use Rattle.stream.proofs.bytes.byte.Reads as byte-reads
 
--- src/ints.rt:22:16
 add-t : tie.Need-add-t
 add-t c = search needs
 
--- src/ints.rt:23:19
 byte-requires : tie.Need-byte-requires
 byte-requires c κs = search needs
 
--- src/ints.rt:15:1
 returns : tie.Need-returns
-returns c = ?
+returns c = ((λ v tr sp l. byte-is _ _ (c .before .if1 .taken) (c .byte .ensures .0)), c .byte .ensures .1)
 
--- src/ints.rt:15:1
 returns-2 : tie.Need-returns-2
-returns-2 c = ?
+returns-2 c = ((λ v tr sp l. byte-cut _ _ (c .if1 .left)), tt)
 
 pub read-byte-spec : {M : Type 1} → statement M
 read-byte-spec = tie.close (tie.spec add-t byte-requires returns returns-2)

@@ -1,33 +1,28 @@
+use Prim.Native.Nat.{_^_}
+use native.Mathlib.Omega.{arith}
+use Rattle.readers.proofs.ViewLaws.{count-is, count-no, count-below, then-no}
+use Rattle.readers.proofs.IntLaws.{skip-is}
 use borrow.Author.Needs.{needs}
 use Rattle.readers.proofs.ints.read_skip.Statement.{statement}
 use Rattle.readers.proofs.ints.read_skip.Tie as tie
-use Rattle.readers.proofs.ints.read_skip.Reads as reads
-use Rattle.readers.proofs.ints.read_skip.Lts as lts
-use Rattle.readers.proofs.ints.read_int.Reads as read-int-reads
 
--- src/ints.rt:53:11
 read-int-requires : tie.Need-read-int-requires
 read-int-requires c κs = search needs
 
--- src/ints.rt:54:19
 enum-known-n : tie.Need-enum-known-n
 enum-known-n c = search needs
 
--- src/ints.rt:56:22
 add-u : tie.Need-add-u
-add-u c = ?
+add-u c = omega (arith, count-below (2 ^ 30) (c .before .before .n .given .1) (c .before .before .before .before .read-int .ensures .1))
 
--- src/ints.rt:59:24
 enum-known-n-2 : tie.Need-enum-known-n-2
 enum-known-n-2 c = search needs
 
--- src/ints.rt:49:1
 returns : tie.Need-returns
-returns c = ?
+returns c v tr sp l = skip-is _ _ _ _ (count-is l (c .before .before .n .given .1) (c .before .before .before .before .read-int .ensures .0 v tr sp l))
 
--- src/ints.rt:49:1
 returns-2 : tie.Need-returns-2
-returns-2 c = ?
+returns-2 c v tr sp l = then-no _ (count-no _ (c .before .n2 .given .1) (c .before .before .before .read-int .ensures .0 v tr sp l))
 
 pub read-skip-spec : {M : Type 1} → statement M
 read-skip-spec =

@@ -1,96 +1,98 @@
 use borrow.Author.Needs.{needs}
+use mathlib.Core.Path.{sym, _∙_}
+use native.Mathlib.Omega.{arith}
+use Prim.Native.Nat.{_+_, _/_}
+use Rattle.readers.proofs.ItemLaws.{tag-waits, keep-no, keep-is, kept-room, kept-plain, kept-waits}
 use Rattle.readers.proofs.item.keep_item.Statement.{statement}
 use Rattle.readers.proofs.item.keep_item.Tie as tie
-use Rattle.readers.proofs.item.keep_item.Reads as reads
-use Rattle.readers.proofs.item.keep_item.Lts as lts
-use Rattle.readers.proofs.item.push_slot.Reads as push-slot-reads
-use Rattle.readers.proofs.item.waits_of.Reads as waits-of-reads
-use Rattle.readers.proofs.pending.note.Reads as note-reads
-use Rattle.tables.proofs.values.width.Reads as width-reads
 
--- src/item.rt:81:17
 add-start : tie.Need-add-start
 add-start c = search needs
 
--- src/item.rt:82:23
 width-requires : tie.Need-width-requires
 width-requires c κs = search needs
 
--- src/item.rt:82:15
 add-end : tie.Need-add-end
 add-end c = search needs
 
--- src/item.rt:83:9
 waits-of-requires : tie.Need-waits-of-requires
 waits-of-requires c κs = search needs
 
--- src/item.rt:84:43
 div-push-slot : tie.Need-div-push-slot
 div-push-slot c = search needs
 
--- src/item.rt:84:11
 push-slot-requires : tie.Need-push-slot-requires
 push-slot-requires c κs = search needs
 
--- src/item.rt:85:24
 enum-known-n : tie.Need-enum-known-n
 enum-known-n c = search needs
 
--- src/item.rt:86:19
 enum-known-k : tie.Need-enum-known-k
 enum-known-k c = search needs
 
--- src/item.rt:87:42
 enum-known-v : tie.Need-enum-known-v
 enum-known-v c = search needs
 
--- src/item.rt:88:39
 add-note : tie.Need-add-note
-add-note c = ?
+add-note c =
+    let a = c .before .before .before .before .before .before .before .before .before .before .before .before .before .before .before .before .before .before .before .before .args in
+    let p = c .before .before .before .before .before .before .before .before .before .before .before .push-slot in
+    let w = c .before .before .before .before .before .before .before .before .before .before .before .before .before .before .waits-of in
+    let h = kept-room (a .s) (a .o) ((a .done + a .s .skip) / a .word) (a .v) (w .result) (a .objects .now) (a .slots .now) (p .last .0) (p .last .1 .0) (p .ensures) (c .before .before .before .before .before .k .given .1) in
+    omega (arith, h, c .before .before .before .before .before .before .before .before .before .before .before .before .before .before .before .before .before .before .before .before .good)
 
--- src/item.rt:88:17
 note-requires : tie.Need-note-requires
 note-requires c κs = search needs
 
--- src/item.rt:66:1
 same-length : tie.Need-same-length
 same-length c = search needs
 
--- src/item.rt:66:1
 same-length-2 : tie.Need-same-length-2
 same-length-2 c = search needs
 
--- src/item.rt:66:1
 returns : tie.Need-returns
-returns c = ?
+returns c =
+    let a = c .before .before .before .before .before .before .before .before .before .before .before .before .before .before .before .before .args in
+    let p = c .before .before .before .before .before .before .before .push-slot in
+    let w = c .before .before .before .before .before .before .before .before .before .before .waits-of in
+    (keep-no (a .s) (a .o) (a .done) (a .word) (a .v) (w .result) (a .objects .now) (a .slots .now) (p .last .0) (p .last .1 .0) (p .ensures) (w .ensures .0) (c .before .n .given .1), tt)
 
--- src/item.rt:66:1
 same-length-3 : tie.Need-same-length-3
 same-length-3 c = search needs
 
--- src/item.rt:66:1
 same-length-4 : tie.Need-same-length-4
 same-length-4 c = search needs
 
--- src/item.rt:66:1
 same-length-5 : tie.Need-same-length-5
 same-length-5 c = search needs
 
--- src/item.rt:66:1
 returns-2 : tie.Need-returns-2
-returns-2 c = ?
+returns-2 c =
+    let a = c .before .before .before .before .before .before .before .before .before .before .before .before .before .before .before .before .before .before .before .before .before .before .before .args in
+    let q = c .before .before .before .before .before .before .before .before .before .before .before .before .before .before .before .before .before .before .before .before .before .before .before .pre .1 in
+    let p = c .before .before .before .before .before .before .before .before .before .before .before .before .before .before .push-slot in
+    let k = c .before .before .before .before .before .before .before .before .k .given .1 in
+    let w = c .before .before .before .before .before .before .before .before .before .before .before .before .before .before .before .before .before .waits-of in (
+      keep-is (a .s) (a .o) (a .done) (a .word) (a .v) (w .result) (a .objects .now) (a .slots .now) (p .last .0) (p .last .1 .0) (p .ensures) (w .ensures .0) k (c .before .before .before .before .before .before .before .before .before .before .before .before .before .before .before .before .before .before .width .ensures),
+      kept-waits (a .s) (a .o) ((a .done + a .s .skip) / a .word) (a .v) (w .result) (a .objects .now) (a .slots .now) (p .last .0) (p .last .1 .0) (p .ensures) k (a .scratch .now) (q .0) (q .1) (c .before .before .before .before .before .v .given .1) (w .ensures .0) (q .2) (c .before .before .note .ensures),
+    )
 
--- src/item.rt:66:1
 same-length-6 : tie.Need-same-length-6
 same-length-6 c = search needs
 
--- src/item.rt:66:1
 same-length-7 : tie.Need-same-length-7
 same-length-7 c = search needs
 
--- src/item.rt:66:1
 returns-3 : tie.Need-returns-3
-returns-3 c = ?
+returns-3 c =
+    let a = c .before .before .before .before .before .before .before .before .before .before .before .before .before .before .before .before .before .args in
+    let q = c .before .before .before .before .before .before .before .before .before .before .before .before .before .before .before .before .before .pre .1 in
+    let p = c .before .before .before .before .before .before .before .before .push-slot in
+    let k = c .before .before .k .given .1 in
+    let w = c .before .before .before .before .before .before .before .before .before .before .before .waits-of in (
+      keep-is (a .s) (a .o) (a .done) (a .word) (a .v) (w .result) (a .objects .now) (a .slots .now) (p .last .0) (p .last .1 .0) (p .ensures) (w .ensures .0) k (c .before .before .before .before .before .before .before .before .before .before .before .before .width .ensures),
+      kept-plain (a .s) (a .o) ((a .done + a .s .skip) / a .word) (a .v) (w .result) (a .objects .now) (a .slots .now) (p .last .0) (p .last .1 .0) (p .ensures) k (a .scratch .now) (q .0) (q .1) (w .ensures .0 ∙ sym (tag-waits (a .v) (c .match2 .keys2))),
+    )
 
 pub keep-item-spec : {M : Type 1} → statement M
 keep-item-spec =

@@ -1,66 +1,51 @@
 use borrow.Author.Needs.{needs}
+use native.Mathlib.Omega.{arith}
+use borrow.Author.Tests.{not-true, not-false}
+use Rattle.readers.proofs.ItemLaws.{push-full, push-room, push-done}
 use Rattle.readers.proofs.item.push_slot.Statement.{statement}
 use Rattle.readers.proofs.item.push_slot.Tie as tie
-use Rattle.readers.proofs.item.push_slot.Reads as reads
-use Rattle.readers.proofs.item.push_slot.Lts as lts
-use Rattle.tables.proofs.records.add_slot.Reads as add-slot-reads
-use Rattle.tables.proofs.records.set_slot_count.Reads as set-slot-count-reads
 
--- src/item.rt:37:9
 add-slot-requires : tie.Need-add-slot-requires
 add-slot-requires c κs = search needs
 
--- src/item.rt:38:9
 same-length : tie.Need-same-length
 same-length c = search needs
 
--- src/item.rt:38:9
 returns : tie.Need-returns
-returns c = ?
+returns c = let a = c .before .before .before .before .before .before .before .args in push-full (a .s) (a .o) (a .index) (a .v) (a .waits) (a .slots .now) (c .before .before .before .add-slot .ensures) (not-true _ (c .if1 .taken)) (a .objects .now)
 
--- src/item.rt:40:25
 mul-count : tie.Need-mul-count
 mul-count c = search needs
 
--- src/item.rt:40:25
 add-count : tie.Need-add-count
 add-count c = search needs
 
--- src/item.rt:40:17
 mul-count-2 : tie.Need-mul-count-2
 mul-count-2 c = search needs
 
--- src/item.rt:40:17
 slice-read-count : tie.Need-slice-read-count
 slice-read-count c = search needs
 
--- src/item.rt:40:17
 add-count-2 : tie.Need-add-count-2
 add-count-2 c = search needs
 
--- src/item.rt:41:5
 set-slot-count-requires : tie.Need-set-slot-count-requires
 set-slot-count-requires c κs = search needs
 
--- src/item.rt:43:15
 add-t : tie.Need-add-t
-add-t c = ?
+add-t c = let a = c .before .before .before .before .before .before .before .before .before .before .before .before .args in let h = push-room (a .s) (a .o) (a .index) (a .v) (a .waits) (a .slots .now) (c .before .before .before .before .before .before .before .before .add-slot .ensures) (not-false _ (c .before .before .before .before .before .if1 .left)) in omega (arith, h, c .before .before .before .before .before .before .before .before .before .before .before .before .good)
 
--- src/item.rt:44:17
 add-t-2 : tie.Need-add-t-2
 add-t-2 c = search needs
 
--- src/item.rt:23:1
 same-length-2 : tie.Need-same-length-2
 same-length-2 c = search needs
 
--- src/item.rt:23:1
 same-length-3 : tie.Need-same-length-3
 same-length-3 c = search needs
 
--- src/item.rt:23:1
 returns-2 : tie.Need-returns-2
-returns-2 c = ?
+returns-2 c = let a = c .before .before .before .before .before .before .before .before .before .before .before .before .before .args in push-done (a .s) (a .o) (a .index) (a .v) (a .waits) (a .slots .now) (c .before .before .before .before .before .before .before .before .before .add-slot .ensures) (not-false _ (c .before .before .before .before .before .before .if1 .left)) (a .objects .now) (c .before .before .before .set-slot-count .ensures)
 
 pub push-slot-spec : {M : Type 1} → statement M
 push-slot-spec =

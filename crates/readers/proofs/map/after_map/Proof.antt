@@ -1,66 +1,61 @@
+use mathlib.Core.Logic.{⊎-elim}
+use native.Mathlib.Omega.{arith}
+use borrow.Author.Tests.{not-true, not-false}
+use Rattle.readers.specs.Views.{input, addressesIs, countersIs}
+use Rattle.readers.proofs.MapLaws.{Prefixed, prefixed-on, prefixed-none, after-none, after-allocated, after-first}
 use borrow.Author.Needs.{needs}
 use Rattle.readers.proofs.map.after_map.Statement.{statement}
 use Rattle.readers.proofs.map.after_map.Tie as tie
-use Rattle.readers.proofs.map.after_map.Reads as reads
-use Rattle.readers.proofs.map.after_map.Lts as lts
-use Rattle.readers.proofs.map.allocate_object.Reads as allocate-object-reads
-use Rattle.readers.proofs.map.chunk_changes.Reads as chunk-changes-reads
-use Rattle.sheet.proofs.tests.alignment.Reads as alignment-reads
-use Rattle.sheet.proofs.usable.legacy.Reads as legacy-reads
-use Rattle.sheet.proofs.usable.map_first.Reads as map-first-reads
-use Rattle.stream.proofs.bytes.peek.Reads as peek-reads
 
--- src/map.rt:118:9
+-- what stands where the two ways meet
+prefixed : (c : tie.Joined3) → Prefixed (c .before .before .before .before .before .before .before .before .before .before .args .sheet .now) (c .before .before .before .before .before .before .before .before .before .before .args .p .now) (c .before .before .before .before .before .before .before .before .before .before .args .before) (c .before .before .before .before .before .before .before .before .before .before .args .s) (c .if3 .t)
+prefixed c =
+    ⊎-elim
+    (λ w. prefixed-on _ _ _ (c .before .before .before .before .before .before .before .before .before .before .args .s) (c .before .before .before .before .before .before .before .before .before .before .pre .0 .3) (c .before .before .peek .ensures) (c .before .alignment .ensures) (c .before .before .before .before .before .before .before .before .before .before .pre .0 .0) (w .0 .taken) (w .1))
+    (λ w. prefixed-none _ _ _ (c .before .before .before .before .before .before .before .before .before .before .args .s) (c .before .before .before .before .before .before .before .before .before .before .pre .0 .3) (c .before .before .peek .ensures) (c .before .alignment .ensures) (w .0 .left) (w .1))
+    (c .if3 .came)
+
 legacy-requires : tie.Need-legacy-requires
 legacy-requires c κs = search needs
 
--- src/map.rt:119:9
 returns : tie.Need-returns
-returns c = ?
+returns c = λ tr l. let a = c .before .before .before .before .before .args in after-none (input (a .sheet .now) (a .p .now) (a .spaces) tr) (a .before) (a .space) (a .bytes) (a .o) _ (c .before .legacy .ensures) (not-true _ (c .if1 .taken))
 
--- src/map.rt:121:9
 map-first-requires : tie.Need-map-first-requires
 map-first-requires c κs = search needs
 
--- src/map.rt:122:9
 allocate-object-requires : tie.Need-allocate-object-requires
 allocate-object-requires c κs = search needs
 
--- src/map.rt:122:9
 same-length : tie.Need-same-length
 same-length c = search needs
 
--- src/map.rt:122:9
 returns-2 : tie.Need-returns-2
-returns-2 c = ?
+returns-2 c = λ tr l. let a = c .before .before .before .before .before .before .before .before .before .before .before .before .before .args in after-allocated (input (a .sheet .now) (a .p .now) (a .spaces) tr) (a .before) (a .space) (a .bytes) (a .o) _ (c .before .before .before .before .before .before .before .map-first .ensures) (c .before .before .before .before .before .before .before .before .before .legacy .ensures) (not-false _ (c .before .before .before .before .before .before .before .before .if1 .left)) (not-true _ (c .before .before .before .before .before .before .if2 .taken)) (c .before .before .allocate-object .ensures (a .p .now) tr l)
 
--- src/map.rt:127:30
 peek-requires : tie.Need-peek-requires
 peek-requires c κs = search needs
 
--- src/map.rt:127:9
 alignment-requires : tie.Need-alignment-requires
 alignment-requires c κs = search needs
 
--- src/map.rt:130:16
 add-t : tie.Need-add-t
 add-t c = search needs
 
--- src/map.rt:132:9
 chunk-changes-requires : tie.Need-chunk-changes-requires
-chunk-changes-requires c κs = ?
+chunk-changes-requires c κs = let t = prefixed (c .before .before) in (c .before .before .before .before .before .before .before .before .before .before .before .before .pre .0 .1, t .within, omega (arith, t .from, c .before .before .before .before .before .before .before .before .before .before .before .before .pre .1), c .before .before .before .before .before .before .before .before .before .before .before .before .pre .0 .4)
 
--- src/map.rt:133:5
 allocate-object-requires-2 : tie.Need-allocate-object-requires-2
 allocate-object-requires-2 c κs = search needs
 
--- src/map.rt:101:1
 same-length-2 : tie.Need-same-length-2
 same-length-2 c = search needs
 
--- src/map.rt:101:1
 returns-3 : tie.Need-returns-3
-returns-3 c = ?
+returns-3 c = λ tr l.
+    let a = c .before .before .before .before .before .before .before .before .before .before .before .before .before .before .before .before .before .before .before .args in
+    let t = prefixed (c .before .before .before .before .before .before .before .before .before) in
+    after-first (input (a .sheet .now) (a .p .now) (a .spaces) tr) (a .before) (a .space) (a .bytes) (a .o) _ (c .before .before .before .before .before .before .before .before .before .before .before .before .before .map-first .ensures) (not-false _ (c .before .before .before .before .before .before .before .before .before .before .before .before .if2 .left)) (t .same (a .spaces) tr (addressesIs (a .addresses .now) (countersIs (a .cur .now) (a .used .now) l))) (c .before .before .before .before .before .before .chunk-changes .ensures tr (addressesIs (a .addresses .now) l)) (c .before .before .allocate-object2 .ensures (a .p .now) tr l)
 
 pub after-map-spec : {M : Type 1} → statement M
 after-map-spec =

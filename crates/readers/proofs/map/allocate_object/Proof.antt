@@ -1,38 +1,31 @@
+use native.Mathlib.Omega.{arith}
+use Rattle.backref.proofs.BackrefLaws.{word-small}
+use Rattle.readers.specs.Views.{input}
+use Rattle.readers.proofs.MapLaws.{allocated-no, allocated-room, allocated}
 use borrow.Author.Needs.{needs}
 use Rattle.readers.proofs.map.allocate_object.Statement.{statement}
 use Rattle.readers.proofs.map.allocate_object.Tie as tie
-use Rattle.readers.proofs.map.allocate_object.Reads as reads
-use Rattle.readers.proofs.map.allocate_object.Lts as lts
-use Rattle.alloc.proofs.legacy_alloc.LegacyAlloc.allocate.Reads as allocate-reads
-use Rattle.sheet.proofs.usable.word_bytes.Reads as word-bytes-reads
 
--- src/map.rt:52:15
 word-bytes-requires : tie.Need-word-bytes-requires
 word-bytes-requires c κs = search needs
 
--- src/map.rt:57:9
 allocate-requires : tie.Need-allocate-requires
-allocate-requires c κs = ?
+allocate-requires c κs = (c .before .before .before .before .before .before .pre .1, word-small _ (c .before .before .before .before .before .before .pre .0) (c .before .word-bytes .ensures .0))
 
--- src/map.rt:59:9
 same-length : tie.Need-same-length
 same-length c = search needs
 
--- src/map.rt:59:9
 returns : tie.Need-returns
-returns c = ?
+returns c = λ p tr l. allocated-no (input (c .before .before .before .before .before .before .before .before .before .before .before .args .sheet .now) p (c .before .before .before .before .before .before .before .before .before .before .before .args .spaces) tr) (c .before .before .before .before .before .before .before .before .before .before .before .args .s) _ _ _ _ _ _ _ (c .before .before .before .before .allocate .ensures) l (c .before .before .before .before .before .before .word-bytes .ensures .0) (c .if1 .taken)
 
--- src/map.rt:67:19
 add-t : tie.Need-add-t
-add-t c = ?
+add-t c = omega (arith, allocated-room (input (c .before .before .before .before .before .before .before .before .before .before .before .before .before .before .args .sheet .now) (c .before .before .before .before .before .before .before .before .before .before .before .before .before .before .args .sheet .now) (c .before .before .before .before .before .before .before .before .before .before .before .before .before .before .args .spaces) (c .before .before .before .before .before .before .before .before .before .before .before .before .before .before .args .sheet .now)) (c .before .before .before .before .before .before .before .before .before .before .before .before .before .before .args .s) _ _ _ _ _ _ _ (c .before .before .before .before .before .before .before .allocate .ensures) (c .before .before .before .if1 .left))
 
--- src/map.rt:31:1
 same-length-2 : tie.Need-same-length-2
 same-length-2 c = search needs
 
--- src/map.rt:31:1
 returns-2 : tie.Need-returns-2
-returns-2 c = ?
+returns-2 c = λ p tr l. allocated (input (c .before .before .before .before .before .before .before .before .before .before .before .before .before .before .args .sheet .now) p (c .before .before .before .before .before .before .before .before .before .before .before .before .before .before .args .spaces) tr) (c .before .before .before .before .before .before .before .before .before .before .before .before .before .before .args .s) _ _ _ _ _ _ _ (c .before .before .before .before .before .before .before .allocate .ensures) l (c .before .before .before .before .before .before .before .before .before .word-bytes .ensures .0) (c .before .before .before .if1 .left)
 
 pub allocate-object-spec : {M : Type 1} → statement M
 allocate-object-spec =

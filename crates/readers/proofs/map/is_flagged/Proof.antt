@@ -1,36 +1,28 @@
+use Rattle.readers.proofs.MapLaws.{flagged-other, flagged-no-root, flagged-root, flagged-past}
 use borrow.Author.Needs.{needs}
 use Rattle.readers.proofs.map.is_flagged.Statement.{statement}
 use Rattle.readers.proofs.map.is_flagged.Tie as tie
-use Rattle.readers.proofs.map.is_flagged.Reads as reads
-use Rattle.readers.proofs.map.is_flagged.Lts as lts
 
--- src/map.rt:140:24
 enum-known-v : tie.Need-enum-known-v
 enum-known-v c = search needs
 
--- src/map.rt:141:9
 returns : tie.Need-returns
-returns c = ?
+returns c = λ sh p sp. flagged-other _ (c .before .args .v) (c .match .keys2)
 
--- src/map.rt:143:19
 enum-known-r : tie.Need-enum-known-r
 enum-known-r c = search needs
 
--- src/map.rt:144:9
 returns-2 : tie.Need-returns-2
-returns-2 c = ?
+returns-2 c = λ sh p sp. flagged-no-root _ (c .before .before .v .given .1) (c .match2 .keys2)
 
--- src/map.rt:148:9
 shared-slice-read-result : tie.Need-shared-slice-read-result
 shared-slice-read-result c = search needs
 
--- src/map.rt:137:1
 returns-3 : tie.Need-returns-3
-returns-3 c = ?
+returns-3 c = λ sh p sp. flagged-root _ (c .before .before .before .before .before .before .v .given .1) (c .before .before .before .r .given .1)
 
--- src/map.rt:137:1
 returns-4 : tie.Need-returns-4
-returns-4 c = ?
+returns-4 c = λ sh p sp. flagged-past _ (c .before .before .before .before .before .v .given .1) (c .before .before .r .given .1) (c .if1 .left)
 
 pub is-flagged-spec : {M : Type 1} → statement M
 is-flagged-spec =

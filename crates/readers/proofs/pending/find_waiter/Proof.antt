@@ -1,46 +1,41 @@
+-- Before a turn the waiter among the first i slots is the one that is asked for.
+use mathlib.Core.Path.{_≡_, refl, sym, _∙_}
+use Prim.Native.Nat.{_≤_}
+use native.Mathlib.Omega.{arith}
+use Rattle.definition.specs.Slots.{waiter}
+use Rattle.readers.proofs.ResolveLaws.{search-hit, search-on, search-none}
 use Rattle.readers.proofs.pending.find_waiter.Statement.{statement}
 use Rattle.readers.proofs.pending.find_waiter.Tie as tie
-use Rattle.readers.proofs.pending.find_waiter.Reads as reads
-use Rattle.readers.proofs.pending.find_waiter.Lts as lts
-use Rattle.readers.proofs.pending.waits_for.Reads as waits-for-reads
 
 abbrev Inv-loop : tie.InvT-loop
-Inv-loop slots number n i₀ i = ?
+Inv-loop slots number n i₀ i = (i ≤ n) × (waiter slots number n ≡ waiter slots number i)
 
 abbrev μ-loop : tie.MeasureT-loop
-μ-loop slots number n i₀ i = ?
+μ-loop slots number n i₀ i = i
 
--- src/pending.rt:44:5
 loop-holds : tie.Need-loop-holds Inv-loop μ-loop
-loop-holds c = ?
+loop-holds c = (omega arith, refl)
 
--- src/pending.rt:45:37
 sub-waits-for : tie.Need-sub-waits-for Inv-loop μ-loop
-sub-waits-for c = ?
+sub-waits-for c = omega arith
 
--- src/pending.rt:45:12
 waits-for-requires : tie.Need-waits-for-requires Inv-loop μ-loop
-waits-for-requires c κs = ?
+waits-for-requires c κs = omega arith
 
--- src/pending.rt:46:13
 returns : tie.Need-returns Inv-loop μ-loop
-returns c = ?
+returns c = search-hit _ _ _ (omega arith) (sym (c .before .waits-for .ensures) ∙ c .if1 .taken) ∙ sym (c .before .before .before .loop .inv .1)
 
--- src/pending.rt:48:9
 sub-i : tie.Need-sub-i Inv-loop μ-loop
-sub-i c = ?
+sub-i c = omega arith
 
--- src/pending.rt:44:5
 loop-less : tie.Need-loop-less Inv-loop μ-loop
-loop-less c = ?
+loop-less c = omega arith
 
--- src/pending.rt:44:5
 loop-again : tie.Need-loop-again Inv-loop μ-loop
-loop-again c = ?
+loop-again c = (omega arith, c .before .before .before .loop .inv .1 ∙ search-on _ _ _ (omega arith) (sym (c .before .waits-for .ensures) ∙ c .if1 .left))
 
--- src/pending.rt:39:1
 returns-2 : tie.Need-returns-2 Inv-loop μ-loop
-returns-2 c = ?
+returns-2 c = search-none _ _ (c .before .loop .i) (omega arith) ∙ sym (c .before .loop .inv .1)
 
 pub find-waiter-spec : {M : Type 1} → statement M
 find-waiter-spec =

@@ -1,68 +1,66 @@
 use borrow.Author.Needs.{needs}
+use Rattle.readers.proofs.ResolveLaws.{resolve-none, resolve-below, resolve-waits, resolve-fill, resolve-index}
 use Rattle.readers.proofs.pending.resolve.Statement.{statement}
 use Rattle.readers.proofs.pending.resolve.Tie as tie
-use Rattle.readers.proofs.pending.resolve.Reads as reads
-use Rattle.readers.proofs.pending.resolve.Lts as lts
-use Rattle.readers.proofs.pending.lookup.Reads as lookup-reads
-use Rattle.readers.proofs.pending.note.Reads as note-reads
-use Rattle.tables.proofs.records.fill_slot.Reads as fill-slot-reads
 
--- src/pending.rt:74:9
 lookup-requires : tie.Need-lookup-requires
 lookup-requires c κs = search needs
 
--- src/pending.rt:77:27
+renumber-requires : tie.Need-renumber-requires
+renumber-requires c κs = search needs
+
+same-length : tie.Need-same-length
+same-length c = search needs
+
+same-length-2 : tie.Need-same-length-2
+same-length-2 c = search needs
+
+returns : tie.Need-returns
+returns c = (resolve-none (c .before .before .before .before .before .before .before .args .s) _ _ _ (c .before .before .lookup .ensures) (c .before .if1 .taken) (c .renumber .ensures), (c .before .before .before .before .before .before .before .pre .1, c .before .before .before .before .before .before .before .pre .2))
+
 sub-fill-slot : tie.Need-sub-fill-slot
 sub-fill-slot c = search needs
 
--- src/pending.rt:77:9
 fill-slot-requires : tie.Need-fill-slot-requires
-fill-slot-requires c κs = ?
+fill-slot-requires c κs = resolve-below (c .before .before .before .before .before .before .before .args .s) _ _ (c .before .before .before .before .before .before .before .args .o) (c .before .before .lookup .ensures) (c .before .if1 .left) (c .before .before .before .before .before .before .before .pre .0)
 
--- src/pending.rt:78:9
 note-requires : tie.Need-note-requires
 note-requires c κs = search needs
 
--- src/pending.rt:79:21
 sub-t : tie.Need-sub-t
-sub-t c = ?
+sub-t c = resolve-waits (c .before .before .before .before .before .before .before .before .before .before .before .before .before .before .before .args .s) _ _ (c .before .before .before .before .before .before .before .before .before .before .before .before .before .before .before .args .o) (c .before .before .before .before .before .before .before .before .before .before .lookup .ensures) (c .before .before .before .before .before .before .before .before .before .if1 .left) (c .before .before .before .before .before .before .before .before .before .before .before .before .before .before .before .pre .2)
 
--- src/pending.rt:69:1
-same-length : tie.Need-same-length
-same-length c = ?
+sub-renumber : tie.Need-sub-renumber
+sub-renumber c = resolve-waits (c .before .before .before .before .before .before .before .before .before .before .before .before .before .before .before .before .args .s) _ _ (c .before .before .before .before .before .before .before .before .before .before .before .before .before .before .before .before .args .o) (c .before .before .before .before .before .before .before .before .before .before .before .lookup .ensures) (c .before .before .before .before .before .before .before .before .before .before .if1 .left) (c .before .before .before .before .before .before .before .before .before .before .before .before .before .before .before .before .pre .2)
 
--- src/pending.rt:69:1
-same-length-2 : tie.Need-same-length-2
-same-length-2 c = ?
+renumber-requires-2 : tie.Need-renumber-requires-2
+renumber-requires-2 c κs = search needs
 
--- src/pending.rt:69:1
-returns : tie.Need-returns
-returns c = ?
-
--- src/pending.rt:69:1
 same-length-3 : tie.Need-same-length-3
-same-length-3 c = ?
+same-length-3 c = search needs
 
--- src/pending.rt:69:1
 same-length-4 : tie.Need-same-length-4
-same-length-4 c = ?
+same-length-4 c = search needs
 
--- src/pending.rt:69:1
 returns-2 : tie.Need-returns-2
-returns-2 c = ?
+returns-2 c =
+    (resolve-fill (c .before .before .before .before .before .before .before .before .before .before .before .before .before .before .before .before .before .args .s) _ _ _ (c .before .before .before .before .before .before .before .before .before .before .before .before .lookup .ensures) (c .before .before .before .before .before .before .before .before .before .before .before .if1 .left) (c .before .before .before .before .before .before .before .before .before .fill-slot .ensures) (c .renumber2 .ensures), resolve-index (c .before .before .before .before .before .before .before .before .before .before .before .before .before .before .before .before .before .args .s) _ _ _ (c .before .before .before .before .before .before .before .before .before .before .before .before .lookup .ensures) (c .before .before .before .before .before .before .before .before .before .before .before .if1 .left) (c .before .before .before .before .before .before .before .before .before .fill-slot .ensures) (c .before .before .before .before .before .before .before .before .before .before .before .before .before .before .before .before .before .args .scratch .now) (c .before .before .before .before .before .before .before .before .before .before .before .before .before .before .before .before .before .pre .0) (c .before .before .before .before .before .before .before .before .before .before .before .before .before .before .before .before .before .pre .1) (c .before .before .before .before .before .before .before .before .before .before .before .before .before .before .before .before .before .pre .2) (c .before .before .before .before .before .note .ensures))
 
 pub resolve-spec : {M : Type 1} → statement M
 resolve-spec =
     tie.close
     (tie.spec
     lookup-requires
+    renumber-requires
+    same-length
+    same-length-2
+    returns
     sub-fill-slot
     fill-slot-requires
     note-requires
     sub-t
-    same-length
-    same-length-2
-    returns
+    sub-renumber
+    renumber-requires-2
     same-length-3
     same-length-4
     returns-2)

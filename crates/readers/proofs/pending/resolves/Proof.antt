@@ -1,81 +1,87 @@
+-- Before a turn, what is left of the resolves gives what all of them give (`Resolving`).
+use borrow.Author.Needs.{needs}
+use native.Mathlib.Omega.{arith}
+use mathlib.Core.Path.{_≡_}
+use mathlib.Core.Bool.{true}
+use Prim.Native.Nat.{_-_, _<_}
+use borrow.Author.Tests.{not-true, not-false}
+use lib.ListN.{length}
+use Rattle.stream.specs.Bytes.{peekAt}
+use Rattle.sheet.specs.Tests.{isResolve}
+use Rattle.readers.proofs.ResolveLaws.{Resolving, resolving-start, resolving-stop, resolving-cut, resolving-asks, resolving-less, resolving-turn, tag-test, tag-within}
 use Rattle.readers.proofs.pending.resolves.Statement.{statement}
 use Rattle.readers.proofs.pending.resolves.Tie as tie
-use Rattle.readers.proofs.pending.resolves.Reads as reads
-use Rattle.readers.proofs.pending.resolves.Lts as lts
-use Rattle.readers.proofs.ints.read_int.Reads as read-int-reads
-use Rattle.readers.proofs.pending.resolve.Reads as resolve-reads
-use Rattle.sheet.proofs.tests.is_tag.Reads as is-tag-reads
-use Rattle.stream.proofs.bytes.peek.Reads as peek-reads
 
 abbrev Inv-loop : tie.InvT-loop
-Inv-loop sheet p slots₀ scratch₀ o cur₀ slots scratch cur = ?
+Inv-loop sheet p slots₀ scratch₀ o cur₀ slots scratch cur = Resolving sheet p o cur₀ slots₀ scratch₀ cur slots scratch
 
 abbrev μ-loop : tie.MeasureT-loop
-μ-loop sheet p slots₀ scratch₀ o cur₀ slots scratch cur = ?
+μ-loop sheet p slots₀ scratch₀ o cur₀ slots scratch cur = length p - cur .at
 
--- src/pending.rt:101:5
 loop-holds : tie.Need-loop-holds Inv-loop μ-loop
-loop-holds c = ?
+loop-holds c = let q = c .before .before .before .before .pre .1 in resolving-start _ _ _ _ _ _ (q .0) (q .1) (q .2) (q .3)
 
--- src/pending.rt:103:58
 peek-requires : tie.Need-peek-requires Inv-loop μ-loop
-peek-requires c κs = ?
+peek-requires c κs = tt
 
--- src/pending.rt:103:13
 is-tag-requires : tie.Need-is-tag-requires Inv-loop μ-loop
-is-tag-requires c κs = ?
+is-tag-requires c κs = tt
 
--- src/pending.rt:104:13
 same-length : tie.Need-same-length Inv-loop μ-loop
-same-length c = ?
+same-length c = c .before .before .before .loop .inv .slots-length
 
--- src/pending.rt:104:13
 same-length-2 : tie.Need-same-length-2 Inv-loop μ-loop
-same-length-2 c = ?
+same-length-2 c = c .before .before .before .loop .inv .scratch-length
 
--- src/pending.rt:104:13
 returns : tie.Need-returns Inv-loop μ-loop
-returns c = ?
+returns c =
+    let b = c .before .before .before .before .before .before .before .before in
+    let k = c .before .before .before .loop in (
+      resolving-stop _ _ _ _ _ _ _ _ _ (k .inv) (tag-test (b .args .sheet .now) (b .args .p .now) (k .cur .at) (c .before .is-tag .ensures) (c .before .before .peek .ensures) (not-true _ (c .if1 .taken))),
+      (k .inv .indexed, k .inv .single),
+    )
 
--- src/pending.rt:106:18
+-- the byte at the cursor is the tag, and so it is one of the payload
+tagged : (c : tie.Else1 Inv-loop μ-loop) →
+    isResolve (c .before .before .before .before .before .before .before .before .args .sheet .now) (peekAt (c .before .before .before .before .before .before .before .before .args .p .now) (c .before .before .before .loop .cur .at)) ≡ true
+tagged c = tag-test (c .before .before .before .before .before .before .before .before .args .sheet .now) (c .before .before .before .before .before .before .before .before .args .p .now) (c .before .before .before .loop .cur .at) (c .before .is-tag .ensures) (c .before .before .peek .ensures) (not-false _ (c .if1 .left))
+
+within : (c : tie.Else1 Inv-loop μ-loop) → c .before .before .before .loop .cur .at < length (c .before .before .before .before .before .before .before .before .args .p .now)
+within c = tag-within (c .before .before .before .before .before .before .before .before .args .sheet .now) (c .before .before .before .before .before .before .before .before .args .p .now) (c .before .before .before .loop .cur .at) (c .before .before .before .before .before .before .before .before .pre .0) (tagged c)
+
 add-cur : tie.Need-add-cur Inv-loop μ-loop
-add-cur c = ?
+add-cur c = omega (arith, within c, c .before .before .before .before .before .before .before .before .good)
 
--- src/pending.rt:107:15
 read-int-requires : tie.Need-read-int-requires Inv-loop μ-loop
-read-int-requires c κs = ?
+read-int-requires c κs = tt
 
--- src/pending.rt:108:28
 enum-known-n : tie.Need-enum-known-n Inv-loop μ-loop
-enum-known-n c = ?
+enum-known-n c = search needs
 
--- src/pending.rt:109:17
 same-length-3 : tie.Need-same-length-3 Inv-loop μ-loop
-same-length-3 c = ?
+same-length-3 c = c .before .before .before .before .before .before .before .loop .inv .slots-length
 
--- src/pending.rt:109:17
 same-length-4 : tie.Need-same-length-4 Inv-loop μ-loop
-same-length-4 c = ?
+same-length-4 c = c .before .before .before .before .before .before .before .loop .inv .scratch-length
 
--- src/pending.rt:109:17
 returns-2 : tie.Need-returns-2 Inv-loop μ-loop
-returns-2 c = ?
+returns-2 c = (resolving-cut _ _ _ _ _ _ _ _ _ (c .before .before .before .before .before .before .before .loop .inv) (within (c .before .before .before .before)) (tagged (c .before .before .before .before)) (c .before .before .before .read-int .ensures .0) (c .before .n .given .1), tt)
 
--- src/pending.rt:111:23
 enum-known-number : tie.Need-enum-known-number Inv-loop μ-loop
-enum-known-number c = ?
+enum-known-number c = search needs
 
--- src/pending.rt:112:17
 resolve-requires : tie.Need-resolve-requires Inv-loop μ-loop
-resolve-requires c κs = ?
+resolve-requires c κs = resolving-asks _ _ _ _ _ _ _ _ _ (c .before .before .before .before .before .before .before .before .before .loop .inv) (c .before .before .before .before .before .read-int .ensures .0) (c .before .before .before .number .given .1)
 
--- src/pending.rt:101:5
 loop-less : tie.Need-loop-less Inv-loop μ-loop
-loop-less c = ?
+loop-less c =
+    let r = c .before .before .before .before .resolve in
+    resolving-less _ _ _ _ _ _ _ _ _ (c .before .before .before .before .before .before .before .before .before .before .before .before .before .before .loop .inv) (within (c .before .before .before .before .before .before .before .before .before .before .before)) (tagged (c .before .before .before .before .before .before .before .before .before .before .before)) (c .before .before .before .before .before .before .before .before .before .before .read-int .ensures .0) (c .before .before .before .before .before .before .before .before .number .given .1) _ _ (r .ensures .0)
 
--- src/pending.rt:101:5
 loop-again : tie.Need-loop-again Inv-loop μ-loop
-loop-again c = ?
+loop-again c =
+    let r = c .before .before .before .before .resolve in
+    resolving-turn _ _ _ _ _ _ _ _ _ (c .before .before .before .before .before .before .before .before .before .before .before .before .before .before .loop .inv) (within (c .before .before .before .before .before .before .before .before .before .before .before)) (tagged (c .before .before .before .before .before .before .before .before .before .before .before)) (c .before .before .before .before .before .before .before .before .before .before .read-int .ensures .0) (c .before .before .before .before .before .before .before .before .number .given .1) _ _ (r .ensures .0) _ (r .kept .0) (r .kept .1 .0) (r .ensures .1)
 
 pub resolves-spec : {M : Type 1} → statement M
 resolves-spec =

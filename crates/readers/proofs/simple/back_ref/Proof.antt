@@ -1,38 +1,29 @@
+use Rattle.readers.proofs.ViewLaws.{count-is, count-no, then-got, then-no}
+use Rattle.readers.proofs.SimpleLaws.{backref-in, backref-past}
 use borrow.Author.Needs.{needs}
 use Rattle.readers.proofs.simple.back_ref.Statement.{statement}
 use Rattle.readers.proofs.simple.back_ref.Tie as tie
-use Rattle.readers.proofs.simple.back_ref.Reads as reads
-use Rattle.readers.proofs.simple.back_ref.Lts as lts
-use Rattle.backref.proofs.hot_ring.add.Reads as add-reads
-use Rattle.readers.proofs.ints.read_int.Reads as read-int-reads
 
--- src/simple.rt:38:11
 read-int-requires : tie.Need-read-int-requires
 read-int-requires c κs = search needs
 
--- src/simple.rt:39:24
 enum-known-n : tie.Need-enum-known-n
 enum-known-n c = search needs
 
--- src/simple.rt:40:19
 enum-known-i : tie.Need-enum-known-i
 enum-known-i c = search needs
 
--- src/simple.rt:43:17
 add-requires : tie.Need-add-requires
 add-requires c κs = search needs
 
--- src/simple.rt:35:1
 returns : tie.Need-returns
-returns c = ?
+returns c v tr sp l = then-no _ (count-no _ (c .before .n .given .1) (c .before .before .before .read-int .ensures .0 v tr sp _))
 
--- src/simple.rt:35:1
 returns-2 : tie.Need-returns-2
-returns-2 c = ?
+returns-2 c v tr sp l = then-got _ (count-is _ (c .before .before .before .before .i .given .1) (c .before .before .before .before .before .before .read-int .ensures .0 v tr sp _)) (backref-in _ _ (c .before .before .if1 .taken) (c .add .ensures))
 
--- src/simple.rt:35:1
 returns-3 : tie.Need-returns-3
-returns-3 c = ?
+returns-3 c v tr sp l = then-got _ (count-is _ (c .before .before .i .given .1) (c .before .before .before .before .read-int .ensures .0 v tr sp _)) (backref-past _ _ (c .if1 .left))
 
 pub back-ref-spec : {M : Type 1} → statement M
 back-ref-spec =

@@ -1,37 +1,28 @@
+use Rattle.readers.proofs.SimpleLaws.{legacy-to, legacy-cut, legacy-unknown}
 use borrow.Author.Needs.{needs}
 use Rattle.readers.proofs.simple.legacy_ref.Statement.{statement}
 use Rattle.readers.proofs.simple.legacy_ref.Tie as tie
-use Rattle.readers.proofs.simple.legacy_ref.Reads as reads
-use Rattle.readers.proofs.simple.legacy_ref.Lts as lts
-use Rattle.backref.proofs.legacy.legacy_backref.Reads as legacy-backref-reads
 
--- src/simple.rt:91:11
 legacy-backref-requires : tie.Need-legacy-backref-requires
 legacy-backref-requires c κs = search needs
 
--- src/simple.rt:101:21
 enum-known-r : tie.Need-enum-known-r
 enum-known-r c = search needs
 
--- src/simple.rt:106:13
 enum-told : tie.Need-enum-told
 enum-told c = search needs
 
--- src/simple.rt:109:26
 enum-known-next : tie.Need-enum-known-next
 enum-known-next c = search needs
 
--- src/simple.rt:78:1
 returns : tie.Need-returns
-returns c = ?
+returns c tr sp l = legacy-to _ _ _ (c .before .before .before .legacy-backref .ensures .0) (c .before .before .before .legacy-backref .ensures .1) (c .before .r .given .1)
 
--- src/simple.rt:78:1
 returns-2 : tie.Need-returns-2
-returns-2 c = ?
+returns-2 c tr sp l = legacy-cut _ _ _ (c .before .before .legacy-backref .ensures .0) (c .before .before .legacy-backref .ensures .1) (c .enum-told .given .1)
 
--- src/simple.rt:78:1
 returns-3 : tie.Need-returns-3
-returns-3 c = ?
+returns-3 c tr sp l = legacy-unknown _ _ _ (c .before .before .before .legacy-backref .ensures .0) (c .before .before .before .legacy-backref .ensures .1) (c .before .next .given .1)
 
 pub legacy-ref-spec : {M : Type 1} → statement M
 legacy-ref-spec =

@@ -1,243 +1,208 @@
+use mathlib.Core.Path.{refl, ap}
+use Prim.Native.Nat.{_*_}
+use native.Mathlib.Omega.{arith}
+use Rattle.definition.specs.Reference.{byHead}
+use Rattle.readers.specs.Views.{addressesIs}
+use Rattle.readers.proofs.SimpleLaws.{raw-same, product-small, by-kind, by-none, internal-grouped, embedder-grouped, target-grouped}
 use borrow.Author.Needs.{needs}
 use Rattle.readers.proofs.simple.simple_ref.Statement.{statement}
 use Rattle.readers.proofs.simple.simple_ref.Tie as tie
-use Rattle.readers.proofs.simple.simple_ref.Reads as reads
-use Rattle.readers.proofs.simple.simple_ref.Lts as lts
-use Rattle.readers.proofs.simple.back_ref.Reads as back-ref-reads
-use Rattle.readers.proofs.simple.hot_ref.Reads as hot-ref-reads
-use Rattle.readers.proofs.simple.legacy_ref.Reads as legacy-ref-reads
-use Rattle.readers.proofs.simple.one_int.Reads as one-int-reads
-use Rattle.readers.proofs.simple.pending_ref.Reads as pending-ref-reads
-use Rattle.readers.proofs.simple.raw_data.Reads as raw-data-reads
-use Rattle.readers.proofs.simple.root_array.Reads as root-array-reads
-use Rattle.readers.proofs.simple.two_ints.Reads as two-ints-reads
-use Rattle.readers.proofs.simple.variable_raw.Reads as variable-raw-reads
-use Rattle.readers.proofs.simple.with_skip.Reads as with-skip-reads
-use Rattle.sheet.proofs.usable.word_bytes.Reads as word-bytes-reads
 
--- src/simple.rt:263:14
 back-ref-requires : tie.Need-back-ref-requires
 back-ref-requires c κs = search needs
 
--- src/simple.rt:264:14
 legacy-ref-requires : tie.Need-legacy-ref-requires
 legacy-ref-requires c κs = search needs
 
--- src/simple.rt:265:14
 with-skip-requires : tie.Need-with-skip-requires
 with-skip-requires c κs = search needs
 
--- src/simple.rt:266:14
 hot-ref-requires : tie.Need-hot-ref-requires
-hot-ref-requires c κs = ?
+hot-ref-requires c κs = c .before .before .before .before .before .pre .1 .place (c .before .match .keys4)
 
--- src/simple.rt:267:14
 with-skip-requires-2 : tie.Need-with-skip-requires-2
-with-skip-requires-2 c κs = ?
+with-skip-requires-2 c κs = (c .before .before .before .before .before .pre .0 .0, c .before .before .before .before .before .pre .0 .1, c .before .before .before .before .before .pre .0 .2, λ _. c .before .before .before .before .before .pre .1 .skip-place (c .before .match .keys5))
 
--- src/simple.rt:268:14
 root-array-requires : tie.Need-root-array-requires
 root-array-requires c κs = search needs
 
--- src/simple.rt:270:15
 with-skip-requires-3 : tie.Need-with-skip-requires-3
 with-skip-requires-3 c κs = search needs
 
--- src/simple.rt:271:15
 two-ints-requires : tie.Need-two-ints-requires
 two-ints-requires c κs = search needs
 
--- src/simple.rt:272:15
 one-int-requires : tie.Need-one-int-requires
 one-int-requires c κs = search needs
 
--- src/simple.rt:273:15
 one-int-requires-2 : tie.Need-one-int-requires-2
 one-int-requires-2 c κs = search needs
 
--- src/simple.rt:274:15
 one-int-requires-3 : tie.Need-one-int-requires-3
 one-int-requires-3 c κs = search needs
 
--- src/simple.rt:275:15
 with-skip-requires-4 : tie.Need-with-skip-requires-4
 with-skip-requires-4 c κs = search needs
 
--- src/simple.rt:276:15
 two-ints-requires-2 : tie.Need-two-ints-requires-2
 two-ints-requires-2 c κs = search needs
 
--- src/simple.rt:277:15
 one-int-requires-4 : tie.Need-one-int-requires-4
 one-int-requires-4 c κs = search needs
 
--- src/simple.rt:278:15
 one-int-requires-5 : tie.Need-one-int-requires-5
 one-int-requires-5 c κs = search needs
 
--- src/simple.rt:279:15
 two-ints-requires-3 : tie.Need-two-ints-requires-3
 two-ints-requires-3 c κs = search needs
 
--- src/simple.rt:280:15
 with-skip-requires-5 : tie.Need-with-skip-requires-5
 with-skip-requires-5 c κs = search needs
 
--- src/simple.rt:281:15
 one-int-requires-6 : tie.Need-one-int-requires-6
 one-int-requires-6 c κs = search needs
 
--- src/simple.rt:282:15
 pending-ref-requires : tie.Need-pending-ref-requires
 pending-ref-requires c κs = search needs
 
--- src/simple.rt:284:15
 one-int-requires-7 : tie.Need-one-int-requires-7
 one-int-requires-7 c κs = search needs
 
--- src/simple.rt:285:34
 word-bytes-requires : tie.Need-word-bytes-requires
 word-bytes-requires c κs = search needs
 
--- src/simple.rt:285:30
 mul-raw-data : tie.Need-mul-raw-data
-mul-raw-data c = ?
+mul-raw-data c = omega (arith, product-small {n = c .before .before .before .before .before .args .a} (omega (arith, c .before .before .before .before .before .pre .1 .small)) (c .word-bytes .ensures .1))
 
--- src/simple.rt:285:15
 raw-data-requires : tie.Need-raw-data-requires
 raw-data-requires c κs = search needs
 
--- src/simple.rt:286:15
 variable-raw-requires : tie.Need-variable-raw-requires
 variable-raw-requires c κs = search needs
 
--- src/simple.rt:287:15
 one-int-requires-8 : tie.Need-one-int-requires-8
 one-int-requires-8 c κs = search needs
 
--- src/simple.rt:288:47
 cast-t24 : tie.Need-cast-t24
 cast-t24 c = search needs
 
--- src/simple.rt:289:15
 one-int-requires-9 : tie.Need-one-int-requires-9
 one-int-requires-9 c κs = search needs
 
--- src/simple.rt:248:1
 returns : tie.Need-returns
-returns c = ?
+unfolding byHead
+returns c tr sp l inner = by-kind _ _ _ _ inner _ (c .before .before .match .keys1) (c .back-ref .ensures _ tr sp (addressesIs (c .before .before .before .before .before .before .args .addresses .now) l))
 
--- src/simple.rt:248:1
 returns-2 : tie.Need-returns-2
-returns-2 c = ?
+unfolding byHead
+returns-2 c tr sp l inner = by-kind _ _ _ _ inner _ (c .before .before .match .keys2) (c .legacy-ref .ensures tr sp l)
 
--- src/simple.rt:248:1
 returns-3 : tie.Need-returns-3
-returns-3 c = ?
+unfolding byHead
+returns-3 c tr sp l inner = by-kind _ _ _ _ inner _ (c .before .before .match .keys3) (c .with-skip .ensures tr sp l)
 
--- src/simple.rt:248:1
 returns-4 : tie.Need-returns-4
-returns-4 c = ?
+unfolding byHead
+returns-4 c tr sp l inner = by-kind _ _ _ _ inner _ (c .before .before .match .keys4) (c .hot-ref .ensures (addressesIs (c .before .before .before .before .before .before .args .addresses .now) l))
 
--- src/simple.rt:248:1
 returns-5 : tie.Need-returns-5
-returns-5 c = ?
+unfolding byHead
+returns-5 c tr sp l inner = by-kind _ _ _ _ inner _ (c .before .before .match .keys5) (c .with-skip2 .ensures tr sp l)
 
--- src/simple.rt:248:1
 returns-6 : tie.Need-returns-6
-returns-6 c = ?
+unfolding byHead
+returns-6 c tr sp l inner = by-kind _ _ _ _ inner _ (c .before .before .match .keys6) (c .root-array .ensures _ tr sp (addressesIs (c .before .before .before .before .before .before .args .addresses .now) l))
 
--- src/simple.rt:248:1
 returns-7 : tie.Need-returns-7
-returns-7 c = ?
+unfolding byHead
+returns-7 c tr sp l inner = by-kind _ _ _ _ inner _ (c .match .keys7) refl
 
--- src/simple.rt:248:1
 returns-8 : tie.Need-returns-8
-returns-8 c = ?
+unfolding byHead
+returns-8 c tr sp l inner = by-kind _ _ _ _ inner _ (c .before .before .match .keys8) (c .with-skip3 .ensures tr sp l)
 
--- src/simple.rt:248:1
 returns-9 : tie.Need-returns-9
-returns-9 c = ?
+unfolding byHead
+returns-9 c tr sp l inner = by-kind _ _ _ _ inner _ (c .before .match .keys9) (c .two-ints .ensures _ tr sp _)
 
--- src/simple.rt:248:1
 returns-10 : tie.Need-returns-10
-returns-10 c = ?
+unfolding byHead
+returns-10 c tr sp l inner = by-kind _ _ _ _ inner _ (c .before .match .keys10) (c .one-int .ensures _ tr sp _)
 
--- src/simple.rt:248:1
 returns-11 : tie.Need-returns-11
-returns-11 c = ?
+unfolding byHead
+returns-11 c tr sp l inner = by-kind _ _ _ _ inner _ (c .before .match .keys11) (c .one-int2 .ensures _ tr sp _)
 
--- src/simple.rt:248:1
 returns-12 : tie.Need-returns-12
-returns-12 c = ?
+unfolding byHead
+returns-12 c tr sp l inner = by-kind _ _ _ _ inner _ (c .before .match .keys12) (c .one-int3 .ensures _ tr sp _)
 
--- src/simple.rt:248:1
 returns-13 : tie.Need-returns-13
-returns-13 c = ?
+unfolding byHead
+returns-13 c tr sp l inner = by-kind _ _ _ _ inner _ (c .before .before .match .keys13) (c .with-skip4 .ensures tr sp l)
 
--- src/simple.rt:248:1
 returns-14 : tie.Need-returns-14
-returns-14 c = ?
+unfolding byHead
+returns-14 c tr sp l inner = by-kind _ _ _ _ inner _ (c .before .match .keys14) (internal-grouped _ _ (c .two-ints2 .ensures _ tr sp _))
 
--- src/simple.rt:248:1
 returns-15 : tie.Need-returns-15
-returns-15 c = ?
+unfolding byHead
+returns-15 c tr sp l inner = by-kind _ _ _ _ inner _ (c .before .match .keys15) (c .one-int4 .ensures _ tr sp _)
 
--- src/simple.rt:248:1
 returns-16 : tie.Need-returns-16
-returns-16 c = ?
+unfolding byHead
+returns-16 c tr sp l inner = by-kind _ _ _ _ inner _ (c .before .match .keys16) (c .one-int5 .ensures _ tr sp _)
 
--- src/simple.rt:248:1
 returns-17 : tie.Need-returns-17
-returns-17 c = ?
+unfolding byHead
+returns-17 c tr sp l inner = by-kind _ _ _ _ inner _ (c .before .match .keys17) (embedder-grouped _ _ (c .two-ints3 .ensures _ tr sp _))
 
--- src/simple.rt:248:1
 returns-18 : tie.Need-returns-18
-returns-18 c = ?
+unfolding byHead
+returns-18 c tr sp l inner = by-kind _ _ _ _ inner _ (c .before .before .match .keys18) (target-grouped _ _ (c .before .before .before .before .before .before .args .a) (c .with-skip5 .ensures tr sp l))
 
--- src/simple.rt:248:1
 returns-19 : tie.Need-returns-19
-returns-19 c = ?
+unfolding byHead
+returns-19 c tr sp l inner = by-kind _ _ _ _ inner _ (c .before .match .keys19) (c .one-int6 .ensures _ tr sp _)
 
--- src/simple.rt:248:1
 returns-20 : tie.Need-returns-20
-returns-20 c = ?
+unfolding byHead
+returns-20 c tr sp l inner = by-kind _ _ _ _ inner _ (c .before .match .keys20) (c .pending-ref .ensures _)
 
--- src/simple.rt:248:1
 returns-21 : tie.Need-returns-21
-returns-21 c = ?
+unfolding byHead
+returns-21 c tr sp l inner = by-kind _ _ _ _ inner _ (c .match .keys21) refl
 
--- src/simple.rt:248:1
 returns-22 : tie.Need-returns-22
-returns-22 c = ?
+unfolding byHead
+returns-22 c tr sp l inner = by-kind _ _ _ _ inner _ (c .before .match .keys22) (c .one-int7 .ensures _ tr sp _)
 
--- src/simple.rt:248:1
 returns-23 : tie.Need-returns-23
-returns-23 c = ?
+unfolding byHead
+returns-23 c tr sp l inner = by-kind _ _ _ _ inner _ (c .before .before .match .keys23) (raw-same _ _ (ap (λ w. c .before .before .before .before .before .before .args .a * w) (c .before .word-bytes .ensures .0)) refl (c .raw-data .ensures _ tr sp _))
 
--- src/simple.rt:248:1
 returns-24 : tie.Need-returns-24
-returns-24 c = ?
+unfolding byHead
+returns-24 c tr sp l inner = by-kind _ _ _ _ inner _ (c .before .match .keys24) (c .variable-raw .ensures tr sp _)
 
--- src/simple.rt:248:1
 returns-25 : tie.Need-returns-25
-returns-25 c = ?
+unfolding byHead
+returns-25 c tr sp l inner = by-kind _ _ _ _ inner _ (c .before .match .keys25) (c .one-int8 .ensures _ tr sp _)
 
--- src/simple.rt:248:1
 returns-26 : tie.Need-returns-26
-returns-26 c = ?
+unfolding byHead
+returns-26 c tr sp l inner = by-kind _ _ _ _ inner _ (c .match .keys26) refl
 
--- src/simple.rt:248:1
 returns-27 : tie.Need-returns-27
-returns-27 c = ?
+unfolding byHead
+returns-27 c tr sp l inner = by-kind _ _ _ _ inner _ (c .before .match .keys27) (c .one-int9 .ensures _ tr sp _)
 
--- src/simple.rt:248:1
 returns-28 : tie.Need-returns-28
-returns-28 c = ?
+unfolding byHead
+returns-28 c tr sp l inner = by-kind _ _ _ _ inner _ (c .match .keys28) refl
 
--- src/simple.rt:248:1
 returns-29 : tie.Need-returns-29
-returns-29 c = ?
+returns-29 c tr sp l inner = by-none _ _ _ _ inner _ (c .before .before .before .before .pre .1) (c .match .rest)
 
 pub simple-ref-spec : {M : Type 1} → statement M
 simple-ref-spec =

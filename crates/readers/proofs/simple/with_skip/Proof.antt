@@ -1,56 +1,45 @@
+use mathlib.Core.Path.{refl}
+use native.Mathlib.Omega.{arith}
+use Rattle.readers.specs.Views.{addressesIs}
+use Rattle.readers.proofs.ViewLaws.{went-on, went-no, then-got, then-no}
+use Rattle.readers.proofs.IntLaws.{skip-addresses}
+use Rattle.readers.proofs.SimpleLaws.{skipped-kind, skipped-rest}
 use borrow.Author.Needs.{needs}
 use Rattle.readers.proofs.simple.with_skip.Statement.{statement}
 use Rattle.readers.proofs.simple.with_skip.Tie as tie
-use Rattle.readers.proofs.simple.with_skip.Reads as reads
-use Rattle.readers.proofs.simple.with_skip.Lts as lts
-use Rattle.readers.proofs.ints.read_skip.Reads as read-skip-reads
-use Rattle.readers.proofs.simple.hot_ref.Reads as hot-ref-reads
-use Rattle.readers.proofs.simple.legacy_ref.Reads as legacy-ref-reads
-use Rattle.readers.proofs.simple.one_int.Reads as one-int-reads
 
--- src/simple.rt:236:11
 read-skip-requires : tie.Need-read-skip-requires
 read-skip-requires c κs = search needs
 
--- src/simple.rt:237:23
 enum-known-n : tie.Need-enum-known-n
 enum-known-n c = search needs
 
--- src/simple.rt:238:18
 enum-known-t : tie.Need-enum-known-t
 enum-known-t c = search needs
 
--- src/simple.rt:239:18
 legacy-ref-requires : tie.Need-legacy-ref-requires
-legacy-ref-requires c κs = ?
+legacy-ref-requires c κs = (omega (arith, skip-addresses (c .before .before .before .before .before .before .before .before .before .args .s) (c .before .before .before .before .before .before .before .before .before .args .p .now) (c .before .before .before .t .given .1) (c .before .before .before .before .before .read-skip .ensures)), c .before .before .before .before .before .before .before .before .before .pre .1)
 
--- src/simple.rt:240:18
 hot-ref-requires : tie.Need-hot-ref-requires
-hot-ref-requires c κs = ?
+hot-ref-requires c κs = c .before .before .before .before .before .before .before .before .before .pre .3 (c .before .match2 .keys2)
 
--- src/simple.rt:242:18
 one-int-requires : tie.Need-one-int-requires
 one-int-requires c κs = search needs
 
--- src/simple.rt:224:1
 returns : tie.Need-returns
-returns c = ?
+returns c tr sp l = then-no _ (went-no _ (c .before .n .given .1) (c .before .before .before .read-skip .ensures _ tr sp _))
 
--- src/simple.rt:224:1
 returns-2 : tie.Need-returns-2
-returns-2 c = ?
+returns-2 c tr sp l = then-got _ (went-on _ (c .before .before .before .before .t .given .1) (c .before .before .before .before .before .before .read-skip .ensures _ tr sp _)) (skipped-kind _ _ _ _ (c .before .before .match2 .keys1) (c .legacy-ref .ensures tr sp l))
 
--- src/simple.rt:224:1
 returns-3 : tie.Need-returns-3
-returns-3 c = ?
+returns-3 c tr sp l = then-got _ (went-on _ (c .before .before .before .before .t .given .1) (c .before .before .before .before .before .before .read-skip .ensures _ tr sp _)) (skipped-kind _ _ _ _ (c .before .before .match2 .keys2) (c .hot-ref .ensures (addressesIs (c .before .before .before .before .before .before .before .before .before .before .args .addresses .now) l)))
 
--- src/simple.rt:224:1
 returns-4 : tie.Need-returns-4
-returns-4 c = ?
+returns-4 c tr sp l = then-got _ (went-on _ (c .before .before .t .given .1) (c .before .before .before .before .read-skip .ensures _ tr sp _)) (skipped-kind _ _ _ _ (c .match2 .keys3) refl)
 
--- src/simple.rt:224:1
 returns-5 : tie.Need-returns-5
-returns-5 c = ?
+returns-5 c tr sp l = then-got _ (went-on _ (c .before .before .before .t .given .1) (c .before .before .before .before .before .read-skip .ensures _ tr sp _)) (skipped-rest _ _ _ _ (c .before .match2 .rest) (c .one-int .ensures _ tr sp _))
 
 pub with-skip-spec : {M : Type 1} → statement M
 with-skip-spec =
