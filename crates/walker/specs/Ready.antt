@@ -11,7 +11,7 @@ use Rattle.definition.specs.Object.{readMap, keepMap, resolves, items, closed}
 use Rattle.laws.specs.Sound.{Proper, Sound, Counted}
 use Rattle.laws.specs.Numbered.{Numbered}
 use Rattle.readers.specs.Views.{Lent}
-use Rattle.readers.specs.Index.{Indexed}
+use Rattle.readers.specs.Index.{Indexed, Single}
 
 abbrev pub lent : List ℕ → List ℕ → List ℕ → List ℕ → List ℕ → List ℕ → List ℕ → Lent
 lent objects slots values addresses hot cur used =
@@ -25,6 +25,7 @@ pub record Ready (x : Input) (heads : List ℕ) (m : Mem) (scratch : List ℕ) :
   pub counted : Counted m
   pub numbered : Numbered m
   pub index : Indexed (m .slots .rows) (m .slots .count) scratch
+  pub single : Single (m .slots .rows) (m .slots .count) (m .waiting)
 
 -- the map of object o with what follows it, and its resolves
 abbrev pub mapped : Input → Reader SlotValue → ℕ → ℕ → ℕ → Reader (Unit {0})
