@@ -14,6 +14,9 @@ import subprocess
 import sys
 import tempfile
 
+# the crates' repository keeps no compiled Python
+sys.dont_write_bytecode = True
+
 from noted import payloads as noted
 from payloads import Payload, damaged, drawn
 from sheets import SHEETS, coinciding, numbers, on_one_byte, unusable
