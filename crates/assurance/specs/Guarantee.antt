@@ -3,9 +3,9 @@
 use mathlib.Core.Path.{_≡_}
 use mathlib.Core.List.{List}
 use Prim.Native.Nat.{ℕ, _+_, _≤_}
-use lib.ListN.{length, take}
-use Rattle.definition.specs.Memory.{Mem, got}
-use Rattle.definition.specs.Call.{Rooms, Call, graph}
+use lib.ListN.{length, take, replicate}
+use Rattle.definition.specs.Memory.{Table, Mem, got, no}
+use Rattle.definition.specs.Call.{Rooms, Call, graph, tableOf}
 use Rattle.assurance.specs.Words.{Accepted, events}
 use Rattle.assurance.specs.Assured.{Assured, assured}
 use Rattle.assurance.specs.Rooms.{events-same}
@@ -29,3 +29,7 @@ guaranteed c rooms m a =
       second = λ p′ short same. second-payload c rooms m a (s .final) (s .final-ends-closing) p′ short same;
       events-of-payload = λ rooms′ m′ e. events-same c rooms rooms′ m m′ (a .accepted) e;
     }
+
+-- a refusal leaves every table zero
+pub refused-zero : (c : Call) (rooms : Rooms) (n q : ℕ) (m : Mem) → graph c rooms ≡ no n q m → (t : Mem → Table) (length : ℕ) → tableOf t length (graph c rooms) ≡ replicate length 0
+refused-zero c rooms n q m e t length = rw e
