@@ -2,6 +2,7 @@ use Prim.Native.Nat.{ℕ, _<_, _≤_, _+_, _-_, _*_, _^_}
 use borrow.Author.Needs.{needs}
 use native.Mathlib.Omega.{arith}
 use mathlib.Core.Path.{_≡_, refl, sym, ap, subst, _∙_}
+use lib.ListN.{length}
 use borrow.Fn.Kinds.{In}
 use borrow.Fn.PlainCycle.{Measures, is, falls, and}
 use Rattle.walker.proofs.walk.parse_items.Reads as parse-items
@@ -31,6 +32,9 @@ use Rattle.sheet.proofs.tests.is_tag.Reads as is-tag-reads
 use Rattle.sheet.proofs.usable.word_bytes.Reads as word-bytes-reads
 use Rattle.stream.proofs.bytes.byte.Reads as byte-reads
 use Rattle.stream.proofs.bytes.peek.Reads as peek-reads
+use Rattle.readers.specs.Views.{input, mem}
+use Rattle.walker.specs.Ready.{lent}
+use Rattle.walker.proofs.ItemsLaws.{Loop}
 
 abbrev pub μ-parse-items : Measures 12 parse-items-kinds.ps ℕ
 μ-parse-items κs a = 4 * (65 - a .1 .1 .1 .1 .1 .1 .1 .1 .1 .1 .1 .1 .1 .1 .0) + 1
@@ -91,8 +95,8 @@ parse-slot-below t =
 
 abbrev pub parse-items-Inv-loop : parse-items-lts.InvT-loop
 parse-items-Inv-loop v h tr p ot₀ st₀ vt₀ dt₀ hr₀ c₀ u₀ sc₀ k d at n o word done₀ t₀ ot st vt dt hr c u sc done t =
-    ?
+    (Loop (input v p k tr) h d o at n (mem t₀ (lent ot₀ st₀ vt₀ dt₀ hr₀ c₀ u₀)) done (mem t (lent ot st vt dt hr c u)) sc) × (length sc ≡ length sc₀)
 
 abbrev pub parse-items-μ-loop : parse-items-lts.MeasureT-loop
 parse-items-μ-loop v h tr p ot₀ st₀ vt₀ dt₀ hr₀ c₀ u₀ sc₀ k d at n o word done₀ t₀ ot st vt dt hr c u sc done t =
-    ?
+    length p - t .at

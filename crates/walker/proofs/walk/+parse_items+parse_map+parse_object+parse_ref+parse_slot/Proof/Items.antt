@@ -1,39 +1,18 @@
-use Prim.Native.Nat.{ℕ, _<_, _≤_, _+_, _-_, _*_, _^_}
+-- The needs of `parse_items`: the laws are in ItemsLaws. Assumes nothing.
+use Prim.Native.Nat.{ℕ}
 use borrow.Author.Needs.{needs}
 use native.Mathlib.Omega.{arith}
-use mathlib.Core.Path.{_≡_, refl, sym, ap, subst, _∙_}
-use borrow.Fn.Kinds.{In}
-use borrow.Fn.PlainCycle.{Measures, is, falls, and}
+use mathlib.Core.Path.{refl, _∙_}
 use Rattle.walker.proofs.walk.parse_items.Reads as parse-items
-use Rattle.walker.proofs.walk.parse_items.Kinds as parse-items-kinds
 use Rattle.walker.proofs.walk.+parse_items+parse_map+parse_object+parse_ref+parse_slot.Lts-parse_items as parse-items-lts
-use Rattle.walker.proofs.walk.parse_map.Reads as parse-map
-use Rattle.walker.proofs.walk.parse_map.Kinds as parse-map-kinds
-use Rattle.walker.proofs.walk.+parse_items+parse_map+parse_object+parse_ref+parse_slot.Lts-parse_map as parse-map-lts
-use Rattle.walker.proofs.walk.parse_object.Reads as parse-object
-use Rattle.walker.proofs.walk.parse_object.Kinds as parse-object-kinds
-use Rattle.walker.proofs.walk.+parse_items+parse_map+parse_object+parse_ref+parse_slot.Lts-parse_object as parse-object-lts
-use Rattle.walker.proofs.walk.parse_ref.Reads as parse-ref
-use Rattle.walker.proofs.walk.parse_ref.Kinds as parse-ref-kinds
-use Rattle.walker.proofs.walk.+parse_items+parse_map+parse_object+parse_ref+parse_slot.Lts-parse_ref as parse-ref-lts
 use Rattle.walker.proofs.walk.parse_slot.Reads as parse-slot
-use Rattle.walker.proofs.walk.parse_slot.Kinds as parse-slot-kinds
-use Rattle.walker.proofs.walk.+parse_items+parse_map+parse_object+parse_ref+parse_slot.Lts-parse_slot as parse-slot-lts
-use Rattle.readers.proofs.head.open_object.Reads as open-object-reads
-use Rattle.readers.proofs.item.place_item.Reads as place-item-reads
-use Rattle.readers.proofs.map.after_map.Reads as after-map-reads
-use Rattle.readers.proofs.map.keep_map.Reads as keep-map-reads
-use Rattle.readers.proofs.pending.resolves.Reads as resolves-reads
-use Rattle.readers.proofs.prefix.begin.Reads as begin-reads
-use Rattle.readers.proofs.prefix.hold.Reads as hold-reads
-use Rattle.readers.proofs.simple.simple_ref.Reads as simple-ref-reads
 use Rattle.sheet.proofs.tests.is_tag.Reads as is-tag-reads
 use Rattle.sheet.proofs.usable.word_bytes.Reads as word-bytes-reads
-use Rattle.stream.proofs.bytes.byte.Reads as byte-reads
 use Rattle.stream.proofs.bytes.peek.Reads as peek-reads
-use Rattle.walker.proofs.walk.+parse_items+parse_map+parse_object+parse_ref+parse_slot.Proof.Common.{μ-parse-items, μ-parse-map, μ-parse-object, μ-parse-ref, μ-parse-slot, parse-items-at, parse-items-below, parse-map-at, parse-map-below, parse-object-at, parse-object-below, parse-ref-at, parse-ref-below, parse-slot-at, parse-slot-below, parse-items-Inv-loop, parse-items-μ-loop}
+use Rattle.readers.proofs.ViewLaws.{count-is, count-no}
+use Rattle.walker.proofs.ItemsLaws.{loop-start, loop-whole, loop-over, deferred-inside, loop-deferred, loop-no, slot-went, loop-turn, deferred-is, deferred-not, count-indexed}
+use Rattle.walker.proofs.walk.+parse_items+parse_map+parse_object+parse_ref+parse_slot.Proof.Common.{parse-items-at, parse-slot-below, parse-items-Inv-loop, parse-items-μ-loop}
 
--- src/walk.rt:211:9
 pub parse-items-word-bytes-requires : (t : ℕ) → parse-items-lts.Need-word-bytes-requires (
   word-bytes-reads.Asked,
   word-bytes-reads.Learnt,
@@ -44,9 +23,8 @@ pub parse-items-word-bytes-requires : (t : ℕ) → parse-items-lts.Need-word-by
   parse-slot-below t,
   parse-slot.Post,
 ) (parse-items-at t) parse-items.Post parse-items-Inv-loop parse-items-μ-loop
-parse-items-word-bytes-requires t c κs = ?
+parse-items-word-bytes-requires t c κs = tt
 
--- src/walk.rt:214:5
 pub parse-items-loop-holds : (t : ℕ) → parse-items-lts.Need-loop-holds (
   word-bytes-reads.Asked,
   word-bytes-reads.Learnt,
@@ -57,9 +35,8 @@ pub parse-items-loop-holds : (t : ℕ) → parse-items-lts.Need-loop-holds (
   parse-slot-below t,
   parse-slot.Post,
 ) (parse-items-at t) parse-items.Post parse-items-Inv-loop parse-items-μ-loop
-parse-items-loop-holds t c = ?
+parse-items-loop-holds t c = let p = c .before .before .before .before .before .before .before .before .before .pre .1 in (loop-start _ _ _ _ _ _ _ _ (p .0) (p .1 .2) (p .1 .3) _ (c .word-bytes .ensures .0), refl)
 
--- src/walk.rt:216:34
 pub parse-items-peek-requires : (t : ℕ) → parse-items-lts.Need-peek-requires (
   word-bytes-reads.Asked,
   word-bytes-reads.Learnt,
@@ -70,9 +47,8 @@ pub parse-items-peek-requires : (t : ℕ) → parse-items-lts.Need-peek-requires
   parse-slot-below t,
   parse-slot.Post,
 ) (parse-items-at t) parse-items.Post parse-items-Inv-loop parse-items-μ-loop
-parse-items-peek-requires t c κs = ?
+parse-items-peek-requires t c κs = tt
 
--- src/walk.rt:216:12
 pub parse-items-is-tag-requires : (t : ℕ) → parse-items-lts.Need-is-tag-requires (
   word-bytes-reads.Asked,
   word-bytes-reads.Learnt,
@@ -83,9 +59,8 @@ pub parse-items-is-tag-requires : (t : ℕ) → parse-items-lts.Need-is-tag-requ
   parse-slot-below t,
   parse-slot.Post,
 ) (parse-items-at t) parse-items.Post parse-items-Inv-loop parse-items-μ-loop
-parse-items-is-tag-requires t c κs = ?
+parse-items-is-tag-requires t c κs = tt
 
--- src/walk.rt:217:20
 pub parse-items-add-t : (t : ℕ) → parse-items-lts.Need-add-t (
   word-bytes-reads.Asked,
   word-bytes-reads.Learnt,
@@ -96,9 +71,8 @@ pub parse-items-add-t : (t : ℕ) → parse-items-lts.Need-add-t (
   parse-slot-below t,
   parse-slot.Post,
 ) (parse-items-at t) parse-items.Post parse-items-Inv-loop parse-items-μ-loop
-parse-items-add-t t c = ?
+parse-items-add-t t c = let w = c .before .before .before .before .loop .inv .0 in omega (arith, w .ready .sound .within, w .ready .proper .short)
 
--- src/walk.rt:214:5
 pub parse-items-loop-less : (t : ℕ) → parse-items-lts.Need-loop-less (
   word-bytes-reads.Asked,
   word-bytes-reads.Learnt,
@@ -109,9 +83,8 @@ pub parse-items-loop-less : (t : ℕ) → parse-items-lts.Need-loop-less (
   parse-slot-below t,
   parse-slot.Post,
 ) (parse-items-at t) parse-items.Post parse-items-Inv-loop parse-items-μ-loop
-parse-items-loop-less t c = ?
+parse-items-loop-less t c = let w = c .before .before .before .before .loop .inv .0 in let b = deferred-inside _ _ _ _ _ _ _ _ w (c .before .before .before .loop-test .taken) (deferred-is (c .before .before .before .before .before .before .before .before .before .before .before .before .before .before .args .v .now) _ _ (c .before .before .peek .ensures) (c .before .is-tag .ensures) (c .if1 .taken)) in omega (arith, b)
 
--- src/walk.rt:214:5
 pub parse-items-loop-again : (t : ℕ) → parse-items-lts.Need-loop-again (
   word-bytes-reads.Asked,
   word-bytes-reads.Learnt,
@@ -122,9 +95,8 @@ pub parse-items-loop-again : (t : ℕ) → parse-items-lts.Need-loop-again (
   parse-slot-below t,
   parse-slot.Post,
 ) (parse-items-at t) parse-items.Post parse-items-Inv-loop parse-items-μ-loop
-parse-items-loop-again t c = ?
+parse-items-loop-again t c = let i = c .before .before .before .before .loop .inv in (loop-deferred _ _ _ _ _ _ _ _ (i .0) (c .before .before .before .loop-test .taken) (deferred-is (c .before .before .before .before .before .before .before .before .before .before .before .before .before .before .args .v .now) _ _ (c .before .before .peek .ensures) (c .before .is-tag .ensures) (c .if1 .taken)), i .1)
 
--- src/walk.rt:220:17
 pub parse-items-parse-slot-requires : (t : ℕ) → parse-items-lts.Need-parse-slot-requires (
   word-bytes-reads.Asked,
   word-bytes-reads.Learnt,
@@ -135,9 +107,8 @@ pub parse-items-parse-slot-requires : (t : ℕ) → parse-items-lts.Need-parse-s
   parse-slot-below t,
   parse-slot.Post,
 ) (parse-items-at t) parse-items.Post parse-items-Inv-loop parse-items-μ-loop
-parse-items-parse-slot-requires t c κs = ?
+parse-items-parse-slot-requires t c κs = let i = c .before .before .before .before .before .before .before .before .before .before .before .before .loop .inv in let p = c .before .before .before .before .before .before .before .before .before .before .before .before .before .before .before .before .before .before .before .before .before .before .pre in (omega (arith, p .0), (i .0 .ready, (p .1 .1 .0, omega (arith, c .before .before .before .before .before .before .before .before .before .before .before .loop-test .taken, p .1 .1 .1), i .0 .below, i .0 .some)))
 
--- src/walk.rt:222:32
 pub parse-items-enum-known-item : (t : ℕ) → parse-items-lts.Need-enum-known-item (
   word-bytes-reads.Asked,
   word-bytes-reads.Learnt,
@@ -148,9 +119,8 @@ pub parse-items-enum-known-item : (t : ℕ) → parse-items-lts.Need-enum-known-
   parse-slot-below t,
   parse-slot.Post,
 ) (parse-items-at t) parse-items.Post parse-items-Inv-loop parse-items-μ-loop
-parse-items-enum-known-item t c = ?
+parse-items-enum-known-item t c = search needs
 
--- src/walk.rt:223:21
 pub parse-items-same-length : (t : ℕ) → parse-items-lts.Need-same-length (
   word-bytes-reads.Asked,
   word-bytes-reads.Learnt,
@@ -161,9 +131,8 @@ pub parse-items-same-length : (t : ℕ) → parse-items-lts.Need-same-length (
   parse-slot-below t,
   parse-slot.Post,
 ) (parse-items-at t) parse-items.Post parse-items-Inv-loop parse-items-μ-loop
-parse-items-same-length t c = ?
+parse-items-same-length t c = c .before .before .before .before .before .before .before .before .before .before .before .before .before .parse-slot .kept .1 .1 .1 .1 .0 ∙ c .before .before .before .before .before .before .before .before .before .before .before .before .before .before .before .before .before .before .before .before .before .before .before .before .before .before .loop .inv .0 .onward .objects-size
 
--- src/walk.rt:223:21
 pub parse-items-same-length-2 : (t : ℕ) → parse-items-lts.Need-same-length-2 (
   word-bytes-reads.Asked,
   word-bytes-reads.Learnt,
@@ -174,9 +143,8 @@ pub parse-items-same-length-2 : (t : ℕ) → parse-items-lts.Need-same-length-2
   parse-slot-below t,
   parse-slot.Post,
 ) (parse-items-at t) parse-items.Post parse-items-Inv-loop parse-items-μ-loop
-parse-items-same-length-2 t c = ?
+parse-items-same-length-2 t c = c .before .before .before .before .before .before .before .before .before .before .before .before .before .parse-slot .kept .1 .1 .1 .1 .1 .0 ∙ c .before .before .before .before .before .before .before .before .before .before .before .before .before .before .before .before .before .before .before .before .before .before .before .before .before .before .loop .inv .0 .onward .slots-size
 
--- src/walk.rt:223:21
 pub parse-items-same-length-3 : (t : ℕ) → parse-items-lts.Need-same-length-3 (
   word-bytes-reads.Asked,
   word-bytes-reads.Learnt,
@@ -187,9 +155,8 @@ pub parse-items-same-length-3 : (t : ℕ) → parse-items-lts.Need-same-length-3
   parse-slot-below t,
   parse-slot.Post,
 ) (parse-items-at t) parse-items.Post parse-items-Inv-loop parse-items-μ-loop
-parse-items-same-length-3 t c = ?
+parse-items-same-length-3 t c = c .before .before .before .before .before .before .before .before .before .before .before .before .before .parse-slot .kept .1 .1 .1 .1 .1 .1 .0 ∙ c .before .before .before .before .before .before .before .before .before .before .before .before .before .before .before .before .before .before .before .before .before .before .before .before .before .before .loop .inv .0 .onward .values-size
 
--- src/walk.rt:223:21
 pub parse-items-same-length-4 : (t : ℕ) → parse-items-lts.Need-same-length-4 (
   word-bytes-reads.Asked,
   word-bytes-reads.Learnt,
@@ -200,9 +167,8 @@ pub parse-items-same-length-4 : (t : ℕ) → parse-items-lts.Need-same-length-4
   parse-slot-below t,
   parse-slot.Post,
 ) (parse-items-at t) parse-items.Post parse-items-Inv-loop parse-items-μ-loop
-parse-items-same-length-4 t c = ?
+parse-items-same-length-4 t c = c .before .before .before .before .before .before .before .before .before .before .before .before .before .parse-slot .kept .1 .1 .1 .1 .1 .1 .1 .0 ∙ c .before .before .before .before .before .before .before .before .before .before .before .before .before .before .before .before .before .before .before .before .before .before .before .before .before .before .loop .inv .0 .onward .addresses-size
 
--- src/walk.rt:223:21
 pub parse-items-same-length-5 : (t : ℕ) → parse-items-lts.Need-same-length-5 (
   word-bytes-reads.Asked,
   word-bytes-reads.Learnt,
@@ -213,9 +179,8 @@ pub parse-items-same-length-5 : (t : ℕ) → parse-items-lts.Need-same-length-5
   parse-slot-below t,
   parse-slot.Post,
 ) (parse-items-at t) parse-items.Post parse-items-Inv-loop parse-items-μ-loop
-parse-items-same-length-5 t c = ?
+parse-items-same-length-5 t c = c .before .before .before .before .before .before .before .before .before .before .before .before .before .parse-slot .kept .1 .1 .1 .1 .1 .1 .1 .1 .1 .1 .1 .0 ∙ c .before .before .before .before .before .before .before .before .before .before .before .before .before .before .before .before .before .before .before .before .before .before .before .before .before .before .loop .inv .1
 
--- src/walk.rt:223:21
 pub parse-items-returns : (t : ℕ) → parse-items-lts.Need-returns (
   word-bytes-reads.Asked,
   word-bytes-reads.Learnt,
@@ -226,9 +191,8 @@ pub parse-items-returns : (t : ℕ) → parse-items-lts.Need-returns (
   parse-slot-below t,
   parse-slot.Post,
 ) (parse-items-at t) parse-items.Post parse-items-Inv-loop parse-items-μ-loop
-parse-items-returns t c = ?
+parse-items-returns t c = (loop-no _ _ _ _ _ _ _ _ (c .before .before .before .before .before .before .before .before .before .before .before .before .before .before .before .before .before .before .before .before .before .before .before .before .before .before .loop .inv .0) (c .before .before .before .before .before .before .before .before .before .before .before .before .before .before .before .before .before .before .before .before .before .before .before .before .before .loop-test .taken) (deferred-not (c .before .before .before .before .before .before .before .before .before .before .before .before .before .before .before .before .before .before .before .before .before .before .before .before .before .before .before .before .before .before .before .before .before .before .before .before .args .v .now) _ _ (c .before .before .before .before .before .before .before .before .before .before .before .before .before .before .before .before .before .before .before .before .before .before .before .before .peek .ensures) (c .before .before .before .before .before .before .before .before .before .before .before .before .before .before .before .before .before .before .before .before .before .before .before .is-tag .ensures) (c .before .before .before .before .before .before .before .before .before .before .before .before .before .before .before .before .before .before .before .before .before .before .if1 .left)) (count-no _ (c .before .item .given .1) (c .before .before .before .before .before .before .before .before .before .before .before .before .before .parse-slot .ensures .0)), tt)
 
--- src/walk.rt:225:27
 pub parse-items-enum-known-item-2 : (t : ℕ) → parse-items-lts.Need-enum-known-item-2 (
   word-bytes-reads.Asked,
   word-bytes-reads.Learnt,
@@ -239,9 +203,8 @@ pub parse-items-enum-known-item-2 : (t : ℕ) → parse-items-lts.Need-enum-know
   parse-slot-below t,
   parse-slot.Post,
 ) (parse-items-at t) parse-items.Post parse-items-Inv-loop parse-items-μ-loop
-parse-items-enum-known-item-2 t c = ?
+parse-items-enum-known-item-2 t c = search needs
 
--- src/walk.rt:214:5
 pub parse-items-loop-less-2 : (t : ℕ) → parse-items-lts.Need-loop-less-2 (
   word-bytes-reads.Asked,
   word-bytes-reads.Learnt,
@@ -252,9 +215,8 @@ pub parse-items-loop-less-2 : (t : ℕ) → parse-items-lts.Need-loop-less-2 (
   parse-slot-below t,
   parse-slot.Post,
 ) (parse-items-at t) parse-items.Post parse-items-Inv-loop parse-items-μ-loop
-parse-items-loop-less-2 t c = ?
+parse-items-loop-less-2 t c = let z = slot-went _ _ _ _ _ _ _ _ (c .before .before .before .before .before .before .before .before .before .before .before .before .before .before .before .before .before .before .before .before .before .before .before .before .before .before .loop .inv .0) (c .before .before .before .before .before .before .before .before .before .before .before .before .before .before .before .before .before .before .before .before .before .before .before .before .before .loop-test .taken) (deferred-not (c .before .before .before .before .before .before .before .before .before .before .before .before .before .before .before .before .before .before .before .before .before .before .before .before .before .before .before .before .before .before .before .before .before .before .before .before .args .v .now) _ _ (c .before .before .before .before .before .before .before .before .before .before .before .before .before .before .before .before .before .before .before .before .before .before .before .before .peek .ensures) (c .before .before .before .before .before .before .before .before .before .before .before .before .before .before .before .before .before .before .before .before .before .before .before .is-tag .ensures) (c .before .before .before .before .before .before .before .before .before .before .before .before .before .before .before .before .before .before .before .before .before .before .if1 .left)) (count-is _ (c .before .item2 .given .1) (c .before .before .before .before .before .before .before .before .before .before .before .before .before .parse-slot .ensures .0)) in omega (arith, z .more .reads, z .kept .sound .within)
 
--- src/walk.rt:214:5
 pub parse-items-loop-again-2 : (t : ℕ) → parse-items-lts.Need-loop-again-2 (
   word-bytes-reads.Asked,
   word-bytes-reads.Learnt,
@@ -265,9 +227,8 @@ pub parse-items-loop-again-2 : (t : ℕ) → parse-items-lts.Need-loop-again-2 (
   parse-slot-below t,
   parse-slot.Post,
 ) (parse-items-at t) parse-items.Post parse-items-Inv-loop parse-items-μ-loop
-parse-items-loop-again-2 t c = ?
+parse-items-loop-again-2 t c = (loop-turn _ _ _ _ _ _ _ _ (c .before .before .before .before .before .before .before .before .before .before .before .before .before .before .before .before .before .before .before .before .before .before .before .before .before .before .loop .inv .0) (c .before .before .before .before .before .before .before .before .before .before .before .before .before .before .before .before .before .before .before .before .before .before .before .before .before .loop-test .taken) (deferred-not (c .before .before .before .before .before .before .before .before .before .before .before .before .before .before .before .before .before .before .before .before .before .before .before .before .before .before .before .before .before .before .before .before .before .before .before .before .args .v .now) _ _ (c .before .before .before .before .before .before .before .before .before .before .before .before .before .before .before .before .before .before .before .before .before .before .before .before .peek .ensures) (c .before .before .before .before .before .before .before .before .before .before .before .before .before .before .before .before .before .before .before .before .before .before .before .is-tag .ensures) (c .before .before .before .before .before .before .before .before .before .before .before .before .before .before .before .before .before .before .before .before .before .before .if1 .left)) (count-is _ (c .before .item2 .given .1) (c .before .before .before .before .before .before .before .before .before .before .before .before .before .parse-slot .ensures .0)) (count-indexed _ _ (c .before .item2 .given .1) (c .before .before .before .before .before .before .before .before .before .before .before .before .before .parse-slot .ensures .1)), c .before .before .before .before .before .before .before .before .before .before .before .before .before .parse-slot .kept .1 .1 .1 .1 .1 .1 .1 .1 .1 .1 .1 .0 ∙ c .before .before .before .before .before .before .before .before .before .before .before .before .before .before .before .before .before .before .before .before .before .before .before .before .before .before .loop .inv .1)
 
--- src/walk.rt:186:1
 pub parse-items-same-length-6 : (t : ℕ) → parse-items-lts.Need-same-length-6 (
   word-bytes-reads.Asked,
   word-bytes-reads.Learnt,
@@ -278,9 +239,8 @@ pub parse-items-same-length-6 : (t : ℕ) → parse-items-lts.Need-same-length-6
   parse-slot-below t,
   parse-slot.Post,
 ) (parse-items-at t) parse-items.Post parse-items-Inv-loop parse-items-μ-loop
-parse-items-same-length-6 t c = ?
+parse-items-same-length-6 t c = c .before .before .loop .inv .0 .onward .objects-size
 
--- src/walk.rt:186:1
 pub parse-items-same-length-7 : (t : ℕ) → parse-items-lts.Need-same-length-7 (
   word-bytes-reads.Asked,
   word-bytes-reads.Learnt,
@@ -291,9 +251,8 @@ pub parse-items-same-length-7 : (t : ℕ) → parse-items-lts.Need-same-length-7
   parse-slot-below t,
   parse-slot.Post,
 ) (parse-items-at t) parse-items.Post parse-items-Inv-loop parse-items-μ-loop
-parse-items-same-length-7 t c = ?
+parse-items-same-length-7 t c = c .before .before .loop .inv .0 .onward .slots-size
 
--- src/walk.rt:186:1
 pub parse-items-same-length-8 : (t : ℕ) → parse-items-lts.Need-same-length-8 (
   word-bytes-reads.Asked,
   word-bytes-reads.Learnt,
@@ -304,9 +263,8 @@ pub parse-items-same-length-8 : (t : ℕ) → parse-items-lts.Need-same-length-8
   parse-slot-below t,
   parse-slot.Post,
 ) (parse-items-at t) parse-items.Post parse-items-Inv-loop parse-items-μ-loop
-parse-items-same-length-8 t c = ?
+parse-items-same-length-8 t c = c .before .before .loop .inv .0 .onward .values-size
 
--- src/walk.rt:186:1
 pub parse-items-same-length-9 : (t : ℕ) → parse-items-lts.Need-same-length-9 (
   word-bytes-reads.Asked,
   word-bytes-reads.Learnt,
@@ -317,9 +275,8 @@ pub parse-items-same-length-9 : (t : ℕ) → parse-items-lts.Need-same-length-9
   parse-slot-below t,
   parse-slot.Post,
 ) (parse-items-at t) parse-items.Post parse-items-Inv-loop parse-items-μ-loop
-parse-items-same-length-9 t c = ?
+parse-items-same-length-9 t c = c .before .before .loop .inv .0 .onward .addresses-size
 
--- src/walk.rt:186:1
 pub parse-items-same-length-10 : (t : ℕ) → parse-items-lts.Need-same-length-10 (
   word-bytes-reads.Asked,
   word-bytes-reads.Learnt,
@@ -330,9 +287,8 @@ pub parse-items-same-length-10 : (t : ℕ) → parse-items-lts.Need-same-length-
   parse-slot-below t,
   parse-slot.Post,
 ) (parse-items-at t) parse-items.Post parse-items-Inv-loop parse-items-μ-loop
-parse-items-same-length-10 t c = ?
+parse-items-same-length-10 t c = c .before .before .loop .inv .1
 
--- src/walk.rt:186:1
 pub parse-items-returns-2 : (t : ℕ) → parse-items-lts.Need-returns-2 (
   word-bytes-reads.Asked,
   word-bytes-reads.Learnt,
@@ -343,9 +299,8 @@ pub parse-items-returns-2 : (t : ℕ) → parse-items-lts.Need-returns-2 (
   parse-slot-below t,
   parse-slot.Post,
 ) (parse-items-at t) parse-items.Post parse-items-Inv-loop parse-items-μ-loop
-parse-items-returns-2 t c = ?
+parse-items-returns-2 t c = let w = c .before .before .loop .inv .0 in (loop-whole _ _ _ _ _ _ _ _ w (c .before .loop-test .left) (c .if2 .taken), (w .ready .index, w .ready .single))
 
--- src/walk.rt:186:1
 pub parse-items-same-length-11 : (t : ℕ) → parse-items-lts.Need-same-length-11 (
   word-bytes-reads.Asked,
   word-bytes-reads.Learnt,
@@ -356,9 +311,8 @@ pub parse-items-same-length-11 : (t : ℕ) → parse-items-lts.Need-same-length-
   parse-slot-below t,
   parse-slot.Post,
 ) (parse-items-at t) parse-items.Post parse-items-Inv-loop parse-items-μ-loop
-parse-items-same-length-11 t c = ?
+parse-items-same-length-11 t c = c .before .before .loop .inv .0 .onward .objects-size
 
--- src/walk.rt:186:1
 pub parse-items-same-length-12 : (t : ℕ) → parse-items-lts.Need-same-length-12 (
   word-bytes-reads.Asked,
   word-bytes-reads.Learnt,
@@ -369,9 +323,8 @@ pub parse-items-same-length-12 : (t : ℕ) → parse-items-lts.Need-same-length-
   parse-slot-below t,
   parse-slot.Post,
 ) (parse-items-at t) parse-items.Post parse-items-Inv-loop parse-items-μ-loop
-parse-items-same-length-12 t c = ?
+parse-items-same-length-12 t c = c .before .before .loop .inv .0 .onward .slots-size
 
--- src/walk.rt:186:1
 pub parse-items-same-length-13 : (t : ℕ) → parse-items-lts.Need-same-length-13 (
   word-bytes-reads.Asked,
   word-bytes-reads.Learnt,
@@ -382,9 +335,8 @@ pub parse-items-same-length-13 : (t : ℕ) → parse-items-lts.Need-same-length-
   parse-slot-below t,
   parse-slot.Post,
 ) (parse-items-at t) parse-items.Post parse-items-Inv-loop parse-items-μ-loop
-parse-items-same-length-13 t c = ?
+parse-items-same-length-13 t c = c .before .before .loop .inv .0 .onward .values-size
 
--- src/walk.rt:186:1
 pub parse-items-same-length-14 : (t : ℕ) → parse-items-lts.Need-same-length-14 (
   word-bytes-reads.Asked,
   word-bytes-reads.Learnt,
@@ -395,9 +347,8 @@ pub parse-items-same-length-14 : (t : ℕ) → parse-items-lts.Need-same-length-
   parse-slot-below t,
   parse-slot.Post,
 ) (parse-items-at t) parse-items.Post parse-items-Inv-loop parse-items-μ-loop
-parse-items-same-length-14 t c = ?
+parse-items-same-length-14 t c = c .before .before .loop .inv .0 .onward .addresses-size
 
--- src/walk.rt:186:1
 pub parse-items-same-length-15 : (t : ℕ) → parse-items-lts.Need-same-length-15 (
   word-bytes-reads.Asked,
   word-bytes-reads.Learnt,
@@ -408,9 +359,8 @@ pub parse-items-same-length-15 : (t : ℕ) → parse-items-lts.Need-same-length-
   parse-slot-below t,
   parse-slot.Post,
 ) (parse-items-at t) parse-items.Post parse-items-Inv-loop parse-items-μ-loop
-parse-items-same-length-15 t c = ?
+parse-items-same-length-15 t c = c .before .before .loop .inv .1
 
--- src/walk.rt:186:1
 pub parse-items-returns-3 : (t : ℕ) → parse-items-lts.Need-returns-3 (
   word-bytes-reads.Asked,
   word-bytes-reads.Learnt,
@@ -421,4 +371,4 @@ pub parse-items-returns-3 : (t : ℕ) → parse-items-lts.Need-returns-3 (
   parse-slot-below t,
   parse-slot.Post,
 ) (parse-items-at t) parse-items.Post parse-items-Inv-loop parse-items-μ-loop
-parse-items-returns-3 t c = ?
+parse-items-returns-3 t c = let w = c .before .before .loop .inv .0 in (loop-over _ _ _ _ _ _ _ _ w (c .before .loop-test .left) (c .if2 .left), tt)

@@ -1,39 +1,19 @@
-use Prim.Native.Nat.{ℕ, _<_, _≤_, _+_, _-_, _*_, _^_}
+use Prim.Native.Nat.{ℕ}
+use mathlib.Core.List.{[]}
 use borrow.Author.Needs.{needs}
 use native.Mathlib.Omega.{arith}
-use mathlib.Core.Path.{_≡_, refl, sym, ap, subst, _∙_}
-use borrow.Fn.Kinds.{In}
-use borrow.Fn.PlainCycle.{Measures, is, falls, and}
-use Rattle.walker.proofs.walk.parse_items.Reads as parse-items
-use Rattle.walker.proofs.walk.parse_items.Kinds as parse-items-kinds
-use Rattle.walker.proofs.walk.+parse_items+parse_map+parse_object+parse_ref+parse_slot.Lts-parse_items as parse-items-lts
+use mathlib.Core.Path.{_∙_}
+use Rattle.walker.specs.Ready.{lent}
+use Rattle.readers.proofs.ViewLaws.{seen-got, seen-no, went-on, went-no}
+use Rattle.walker.proofs.ObjectLaws.{step-index, resolves-asks, after-asks, keep-asks, kept-ready, mapped-no, mapped-bad, mapped-full, mapped-on}
 use Rattle.walker.proofs.walk.parse_map.Reads as parse-map
-use Rattle.walker.proofs.walk.parse_map.Kinds as parse-map-kinds
 use Rattle.walker.proofs.walk.+parse_items+parse_map+parse_object+parse_ref+parse_slot.Lts-parse_map as parse-map-lts
-use Rattle.walker.proofs.walk.parse_object.Reads as parse-object
-use Rattle.walker.proofs.walk.parse_object.Kinds as parse-object-kinds
-use Rattle.walker.proofs.walk.+parse_items+parse_map+parse_object+parse_ref+parse_slot.Lts-parse_object as parse-object-lts
 use Rattle.walker.proofs.walk.parse_ref.Reads as parse-ref
-use Rattle.walker.proofs.walk.parse_ref.Kinds as parse-ref-kinds
-use Rattle.walker.proofs.walk.+parse_items+parse_map+parse_object+parse_ref+parse_slot.Lts-parse_ref as parse-ref-lts
-use Rattle.walker.proofs.walk.parse_slot.Reads as parse-slot
-use Rattle.walker.proofs.walk.parse_slot.Kinds as parse-slot-kinds
-use Rattle.walker.proofs.walk.+parse_items+parse_map+parse_object+parse_ref+parse_slot.Lts-parse_slot as parse-slot-lts
-use Rattle.readers.proofs.head.open_object.Reads as open-object-reads
-use Rattle.readers.proofs.item.place_item.Reads as place-item-reads
 use Rattle.readers.proofs.map.after_map.Reads as after-map-reads
 use Rattle.readers.proofs.map.keep_map.Reads as keep-map-reads
 use Rattle.readers.proofs.pending.resolves.Reads as resolves-reads
-use Rattle.readers.proofs.prefix.begin.Reads as begin-reads
-use Rattle.readers.proofs.prefix.hold.Reads as hold-reads
-use Rattle.readers.proofs.simple.simple_ref.Reads as simple-ref-reads
-use Rattle.sheet.proofs.tests.is_tag.Reads as is-tag-reads
-use Rattle.sheet.proofs.usable.word_bytes.Reads as word-bytes-reads
-use Rattle.stream.proofs.bytes.byte.Reads as byte-reads
-use Rattle.stream.proofs.bytes.peek.Reads as peek-reads
-use Rattle.walker.proofs.walk.+parse_items+parse_map+parse_object+parse_ref+parse_slot.Proof.Common.{μ-parse-items, μ-parse-map, μ-parse-object, μ-parse-ref, μ-parse-slot, parse-items-at, parse-items-below, parse-map-at, parse-map-below, parse-object-at, parse-object-below, parse-ref-at, parse-ref-below, parse-slot-at, parse-slot-below, parse-items-Inv-loop, parse-items-μ-loop}
+use Rattle.walker.proofs.walk.+parse_items+parse_map+parse_object+parse_ref+parse_slot.Proof.Common.{parse-map-at, parse-ref-below}
 
--- src/walk.rt:173:70
 pub parse-map-add-parse-ref : (t : ℕ) → parse-map-lts.Need-add-parse-ref (
   parse-ref-below t,
   parse-ref.Post,
@@ -44,9 +24,8 @@ pub parse-map-add-parse-ref : (t : ℕ) → parse-map-lts.Need-add-parse-ref (
   resolves-reads.Asked,
   resolves-reads.Learnt,
 ) (parse-map-at t) parse-map.Post
-parse-map-add-parse-ref t c = ?
+parse-map-add-parse-ref t c = omega arith
 
--- src/walk.rt:173:11
 pub parse-map-parse-ref-requires : (t : ℕ) → parse-map-lts.Need-parse-ref-requires (
   parse-ref-below t,
   parse-ref.Post,
@@ -57,9 +36,8 @@ pub parse-map-parse-ref-requires : (t : ℕ) → parse-map-lts.Need-parse-ref-re
   resolves-reads.Asked,
   resolves-reads.Learnt,
 ) (parse-map-at t) parse-map.Post
-parse-map-parse-ref-requires t c κs = ?
+parse-map-parse-ref-requires t c κs = (omega (arith, c .before .before .before .before .before .before .before .before .before .before .before .before .before .before .before .before .pre .0, c .before .before .before .before .before .before .before .before .before .before .before .before .before .before .before .before .pre .1 .1), (c .before .before .before .before .before .before .before .before .before .before .before .before .before .before .before .before .pre .1 .0, omega (arith, c .before .before .before .before .before .before .before .before .before .before .before .before .before .before .before .before .pre .1 .1 .0)))
 
--- src/walk.rt:174:23
 pub parse-map-enum-known-m : (t : ℕ) → parse-map-lts.Need-enum-known-m (
   parse-ref-below t,
   parse-ref.Post,
@@ -70,9 +48,8 @@ pub parse-map-enum-known-m : (t : ℕ) → parse-map-lts.Need-enum-known-m (
   resolves-reads.Asked,
   resolves-reads.Learnt,
 ) (parse-map-at t) parse-map.Post
-parse-map-enum-known-m t c = ?
+parse-map-enum-known-m t c = search needs
 
--- src/walk.rt:175:19
 pub parse-map-enum-known-x : (t : ℕ) → parse-map-lts.Need-enum-known-x (
   parse-ref-below t,
   parse-ref.Post,
@@ -83,9 +60,8 @@ pub parse-map-enum-known-x : (t : ℕ) → parse-map-lts.Need-enum-known-x (
   resolves-reads.Asked,
   resolves-reads.Learnt,
 ) (parse-map-at t) parse-map.Post
-parse-map-enum-known-x t c = ?
+parse-map-enum-known-x t c = search needs
 
--- src/walk.rt:175:34
 pub parse-map-after-map-requires : (t : ℕ) → parse-map-lts.Need-after-map-requires (
   parse-ref-below t,
   parse-ref.Post,
@@ -96,9 +72,12 @@ pub parse-map-after-map-requires : (t : ℕ) → parse-map-lts.Need-after-map-re
   resolves-reads.Asked,
   resolves-reads.Learnt,
 ) (parse-map-at t) parse-map.Post
-parse-map-after-map-requires t c κs = ?
+parse-map-after-map-requires t c κs =
+    let a = c .before .before .before .before .before .before .before .before .before .before .before .before .before .before .before .before .before .before .before .before .before .before .before .before .before .before .before .before .before .before .before .before .before .args in
+    let g = c .before .before .before .before .before .before .before .before .before .before .before .before .before .before .before .before .before .before .before .before .before .before .before .before .before .before .before .before .before .before .before .before .before .pre .1 in
+    let e = seen-got (lent _ _ _ _ _ _ _) (c .before .before .before .before .x .given .1) (c .before .before .before .before .before .before .before .before .before .before .before .before .before .before .before .before .parse-ref .ensures .0) in
+    after-asks (g .0) (a .d) (a .a) (a .n) (a .o) e (g .1 .1) (g .1 .2)
 
--- src/walk.rt:176:27
 pub parse-map-enum-known-m-2 : (t : ℕ) → parse-map-lts.Need-enum-known-m-2 (
   parse-ref-below t,
   parse-ref.Post,
@@ -109,9 +88,8 @@ pub parse-map-enum-known-m-2 : (t : ℕ) → parse-map-lts.Need-enum-known-m-2 (
   resolves-reads.Asked,
   resolves-reads.Learnt,
 ) (parse-map-at t) parse-map.Post
-parse-map-enum-known-m-2 t c = ?
+parse-map-enum-known-m-2 t c = search needs
 
--- src/walk.rt:177:22
 pub parse-map-enum-known-y : (t : ℕ) → parse-map-lts.Need-enum-known-y (
   parse-ref-below t,
   parse-ref.Post,
@@ -122,9 +100,8 @@ pub parse-map-enum-known-y : (t : ℕ) → parse-map-lts.Need-enum-known-y (
   resolves-reads.Asked,
   resolves-reads.Learnt,
 ) (parse-map-at t) parse-map.Post
-parse-map-enum-known-y t c = ?
+parse-map-enum-known-y t c = search needs
 
--- src/walk.rt:177:34
 pub parse-map-keep-map-requires : (t : ℕ) → parse-map-lts.Need-keep-map-requires (
   parse-ref-below t,
   parse-ref.Post,
@@ -135,9 +112,13 @@ pub parse-map-keep-map-requires : (t : ℕ) → parse-map-lts.Need-keep-map-requ
   resolves-reads.Asked,
   resolves-reads.Learnt,
 ) (parse-map-at t) parse-map.Post
-parse-map-keep-map-requires t c κs = ?
+parse-map-keep-map-requires t c κs =
+    let a = c .before .before .before .before .before .before .before .before .before .before .before .before .before .before .before .before .before .before .before .before .before .before .before .before .before .before .before .before .before .before .before .before .before .before .before .before .before .before .before .before .before .args in
+    let g = c .before .before .before .before .before .before .before .before .before .before .before .before .before .before .before .before .before .before .before .before .before .before .before .before .before .before .before .before .before .before .before .before .before .before .before .before .before .before .before .before .before .pre .1 in
+    let e = seen-got (lent _ _ _ _ _ _ _) (c .before .before .before .before .before .before .before .before .before .before .before .before .x .given .1) (c .before .before .before .before .before .before .before .before .before .before .before .before .before .before .before .before .before .before .before .before .before .before .before .before .parse-ref .ensures .0) in
+    let f = went-on (lent _ _ _ _ _ _ _) (c .before .before .before .y .given .1) (c .before .before .before .before .before .before .before .after-map .ensures _ (lent _ _ _ [] _ [] [])) in
+    keep-asks (g .0) (a .d) (a .a) (a .n) (a .o) e f (g .1 .3) (g .1 .1) (omega (arith, c .before .before .before .before .before .before .before .before .before .before .before .before .before .before .before .before .before .before .before .before .before .before .before .before .before .before .before .before .before .before .before .before .before .before .before .before .before .before .before .before .before .good))
 
--- src/walk.rt:178:31
 pub parse-map-enum-known-m-3 : (t : ℕ) → parse-map-lts.Need-enum-known-m-3 (
   parse-ref-below t,
   parse-ref.Post,
@@ -148,9 +129,8 @@ pub parse-map-enum-known-m-3 : (t : ℕ) → parse-map-lts.Need-enum-known-m-3 (
   resolves-reads.Asked,
   resolves-reads.Learnt,
 ) (parse-map-at t) parse-map.Post
-parse-map-enum-known-m-3 t c = ?
+parse-map-enum-known-m-3 t c = search needs
 
--- src/walk.rt:179:26
 pub parse-map-enum-known-w : (t : ℕ) → parse-map-lts.Need-enum-known-w (
   parse-ref-below t,
   parse-ref.Post,
@@ -161,9 +141,8 @@ pub parse-map-enum-known-w : (t : ℕ) → parse-map-lts.Need-enum-known-w (
   resolves-reads.Asked,
   resolves-reads.Learnt,
 ) (parse-map-at t) parse-map.Post
-parse-map-enum-known-w t c = ?
+parse-map-enum-known-w t c = search needs
 
--- src/walk.rt:179:32
 pub parse-map-resolves-requires : (t : ℕ) → parse-map-lts.Need-resolves-requires (
   parse-ref-below t,
   parse-ref.Post,
@@ -174,9 +153,14 @@ pub parse-map-resolves-requires : (t : ℕ) → parse-map-lts.Need-resolves-requ
   resolves-reads.Asked,
   resolves-reads.Learnt,
 ) (parse-map-at t) parse-map.Post
-parse-map-resolves-requires t c κs = ?
+parse-map-resolves-requires t c κs =
+    let a = c .before .before .before .before .before .before .before .before .before .before .before .before .before .before .before .before .before .before .before .before .before .before .before .before .before .before .before .before .before .before .before .before .before .before .before .before .before .before .before .before .before .before .before .before .before .before .before .before .before .before .before .args in
+    let g = c .before .before .before .before .before .before .before .before .before .before .before .before .before .before .before .before .before .before .before .before .before .before .before .before .before .before .before .before .before .before .before .before .before .before .before .before .before .before .before .before .before .before .before .before .before .before .before .before .before .before .before .pre .1 in
+    let e = seen-got (lent _ _ _ _ _ _ _) (c .before .before .before .before .before .before .before .before .before .before .before .before .before .before .before .before .before .before .before .before .before .before .x .given .1) (c .before .before .before .before .before .before .before .before .before .before .before .before .before .before .before .before .before .before .before .before .before .before .before .before .before .before .before .before .before .before .before .before .before .before .parse-ref .ensures .0) in
+    let f = went-on (lent _ _ _ _ _ _ _) (c .before .before .before .before .before .before .before .before .before .before .before .before .before .y .given .1) (c .before .before .before .before .before .before .before .before .before .before .before .before .before .before .before .before .before .after-map .ensures _ (lent _ _ _ [] _ [] [])) in
+    let k = went-on (lent _ _ _ _ _ _ _) (c .before .before .before .w .given .1) (c .before .before .before .before .before .before .before .before .before .keep-map .ensures _ _ _ (lent [] [] _ _ _ _ _)) in
+    resolves-asks (kept-ready (g .0) (a .d) (a .a) (a .n) (a .o) e f (g .1 .3) (g .1 .1) (c .before .before .before .before .before .before .before .before .before .before .before .before .before .before .before .before .before .before .before .before .before .before .before .before .before .before .before .before .before .before .before .before .before .before .parse-ref .last .1 .1 .1 .1 .1 .1 .1 .1 .1 .1 .1 .0) (step-index _ _ (c .before .before .before .before .before .before .before .before .before .before .before .before .before .before .before .before .before .before .before .before .before .before .x .given .1) (c .before .before .before .before .before .before .before .before .before .before .before .before .before .before .before .before .before .before .before .before .before .before .before .before .before .before .before .before .before .before .before .before .before .before .parse-ref .ensures .1)) k)
 
--- src/walk.rt:147:1
 pub parse-map-same-length : (t : ℕ) → parse-map-lts.Need-same-length (
   parse-ref-below t,
   parse-ref.Post,
@@ -187,9 +171,8 @@ pub parse-map-same-length : (t : ℕ) → parse-map-lts.Need-same-length (
   resolves-reads.Asked,
   resolves-reads.Learnt,
 ) (parse-map-at t) parse-map.Post
-parse-map-same-length t c = ?
+parse-map-same-length t c = search needs
 
--- src/walk.rt:147:1
 pub parse-map-same-length-2 : (t : ℕ) → parse-map-lts.Need-same-length-2 (
   parse-ref-below t,
   parse-ref.Post,
@@ -200,9 +183,8 @@ pub parse-map-same-length-2 : (t : ℕ) → parse-map-lts.Need-same-length-2 (
   resolves-reads.Asked,
   resolves-reads.Learnt,
 ) (parse-map-at t) parse-map.Post
-parse-map-same-length-2 t c = ?
+parse-map-same-length-2 t c = search needs
 
--- src/walk.rt:147:1
 pub parse-map-same-length-3 : (t : ℕ) → parse-map-lts.Need-same-length-3 (
   parse-ref-below t,
   parse-ref.Post,
@@ -213,9 +195,8 @@ pub parse-map-same-length-3 : (t : ℕ) → parse-map-lts.Need-same-length-3 (
   resolves-reads.Asked,
   resolves-reads.Learnt,
 ) (parse-map-at t) parse-map.Post
-parse-map-same-length-3 t c = ?
+parse-map-same-length-3 t c = search needs
 
--- src/walk.rt:147:1
 pub parse-map-same-length-4 : (t : ℕ) → parse-map-lts.Need-same-length-4 (
   parse-ref-below t,
   parse-ref.Post,
@@ -226,9 +207,8 @@ pub parse-map-same-length-4 : (t : ℕ) → parse-map-lts.Need-same-length-4 (
   resolves-reads.Asked,
   resolves-reads.Learnt,
 ) (parse-map-at t) parse-map.Post
-parse-map-same-length-4 t c = ?
+parse-map-same-length-4 t c = search needs
 
--- src/walk.rt:147:1
 pub parse-map-same-length-5 : (t : ℕ) → parse-map-lts.Need-same-length-5 (
   parse-ref-below t,
   parse-ref.Post,
@@ -239,9 +219,8 @@ pub parse-map-same-length-5 : (t : ℕ) → parse-map-lts.Need-same-length-5 (
   resolves-reads.Asked,
   resolves-reads.Learnt,
 ) (parse-map-at t) parse-map.Post
-parse-map-same-length-5 t c = ?
+parse-map-same-length-5 t c = search needs
 
--- src/walk.rt:147:1
 pub parse-map-returns : (t : ℕ) → parse-map-lts.Need-returns (
   parse-ref-below t,
   parse-ref.Post,
@@ -252,9 +231,11 @@ pub parse-map-returns : (t : ℕ) → parse-map-lts.Need-returns (
   resolves-reads.Asked,
   resolves-reads.Learnt,
 ) (parse-map-at t) parse-map.Post
-parse-map-returns t c = ?
+parse-map-returns t c =
+    let a = c .before .before .before .before .before .before .before .before .before .before .before .before .before .before .before .before .before .before .before .before .before .before .before .before .before .before .before .before .before .before .args in
+    let g = c .before .before .before .before .before .before .before .before .before .before .before .before .before .before .before .before .before .before .before .before .before .before .before .before .before .before .before .before .before .before .pre .1 in
+    (mapped-no (g .0) (a .d) (a .a) (a .n) (a .o) (seen-no (lent _ _ _ _ _ _ _) (c .before .m .given .1) (c .before .before .before .before .before .before .before .before .before .before .before .before .before .parse-ref .ensures .0)), tt)
 
--- src/walk.rt:147:1
 pub parse-map-same-length-6 : (t : ℕ) → parse-map-lts.Need-same-length-6 (
   parse-ref-below t,
   parse-ref.Post,
@@ -265,9 +246,8 @@ pub parse-map-same-length-6 : (t : ℕ) → parse-map-lts.Need-same-length-6 (
   resolves-reads.Asked,
   resolves-reads.Learnt,
 ) (parse-map-at t) parse-map.Post
-parse-map-same-length-6 t c = ?
+parse-map-same-length-6 t c = c .before .before .before .before .before .before .before .before .before .before .before .before .before .before .before .before .before .before .before .before .before .before .parse-ref .kept .1 .1 .1 .1 .0
 
--- src/walk.rt:147:1
 pub parse-map-same-length-7 : (t : ℕ) → parse-map-lts.Need-same-length-7 (
   parse-ref-below t,
   parse-ref.Post,
@@ -278,9 +258,8 @@ pub parse-map-same-length-7 : (t : ℕ) → parse-map-lts.Need-same-length-7 (
   resolves-reads.Asked,
   resolves-reads.Learnt,
 ) (parse-map-at t) parse-map.Post
-parse-map-same-length-7 t c = ?
+parse-map-same-length-7 t c = c .before .before .before .before .before .before .before .before .before .before .before .before .before .before .before .before .before .before .before .before .before .before .parse-ref .kept .1 .1 .1 .1 .1 .0
 
--- src/walk.rt:147:1
 pub parse-map-same-length-8 : (t : ℕ) → parse-map-lts.Need-same-length-8 (
   parse-ref-below t,
   parse-ref.Post,
@@ -291,9 +270,8 @@ pub parse-map-same-length-8 : (t : ℕ) → parse-map-lts.Need-same-length-8 (
   resolves-reads.Asked,
   resolves-reads.Learnt,
 ) (parse-map-at t) parse-map.Post
-parse-map-same-length-8 t c = ?
+parse-map-same-length-8 t c = search needs
 
--- src/walk.rt:147:1
 pub parse-map-same-length-9 : (t : ℕ) → parse-map-lts.Need-same-length-9 (
   parse-ref-below t,
   parse-ref.Post,
@@ -304,9 +282,8 @@ pub parse-map-same-length-9 : (t : ℕ) → parse-map-lts.Need-same-length-9 (
   resolves-reads.Asked,
   resolves-reads.Learnt,
 ) (parse-map-at t) parse-map.Post
-parse-map-same-length-9 t c = ?
+parse-map-same-length-9 t c = search needs
 
--- src/walk.rt:147:1
 pub parse-map-same-length-10 : (t : ℕ) → parse-map-lts.Need-same-length-10 (
   parse-ref-below t,
   parse-ref.Post,
@@ -317,9 +294,8 @@ pub parse-map-same-length-10 : (t : ℕ) → parse-map-lts.Need-same-length-10 (
   resolves-reads.Asked,
   resolves-reads.Learnt,
 ) (parse-map-at t) parse-map.Post
-parse-map-same-length-10 t c = ?
+parse-map-same-length-10 t c = search needs
 
--- src/walk.rt:147:1
 pub parse-map-returns-2 : (t : ℕ) → parse-map-lts.Need-returns-2 (
   parse-ref-below t,
   parse-ref.Post,
@@ -330,9 +306,12 @@ pub parse-map-returns-2 : (t : ℕ) → parse-map-lts.Need-returns-2 (
   resolves-reads.Asked,
   resolves-reads.Learnt,
 ) (parse-map-at t) parse-map.Post
-parse-map-returns-2 t c = ?
+parse-map-returns-2 t c =
+    let a = c .before .before .before .before .before .before .before .before .before .before .before .before .before .before .before .before .before .before .before .before .before .before .before .before .before .before .before .before .before .before .before .before .before .before .before .before .before .before .before .args in
+    let g = c .before .before .before .before .before .before .before .before .before .before .before .before .before .before .before .before .before .before .before .before .before .before .before .before .before .before .before .before .before .before .before .before .before .before .before .before .before .before .before .pre .1 in
+    let e = seen-got (lent _ _ _ _ _ _ _) (c .before .before .before .before .before .before .before .before .before .before .x .given .1) (c .before .before .before .before .before .before .before .before .before .before .before .before .before .before .before .before .before .before .before .before .before .before .parse-ref .ensures .0) in
+    (mapped-bad (g .0) (a .d) (a .a) (a .n) (a .o) e (went-no (lent _ _ _ _ _ _ _) (c .before .m2 .given .1) (c .before .before .before .before .before .after-map .ensures _ (lent _ _ _ [] _ [] []))), tt)
 
--- src/walk.rt:147:1
 pub parse-map-same-length-11 : (t : ℕ) → parse-map-lts.Need-same-length-11 (
   parse-ref-below t,
   parse-ref.Post,
@@ -343,9 +322,8 @@ pub parse-map-same-length-11 : (t : ℕ) → parse-map-lts.Need-same-length-11 (
   resolves-reads.Asked,
   resolves-reads.Learnt,
 ) (parse-map-at t) parse-map.Post
-parse-map-same-length-11 t c = ?
+parse-map-same-length-11 t c = c .before .before .before .before .before .before .before .keep-map .kept .1 .0 ∙ c .before .before .before .before .before .before .before .before .before .before .before .before .before .before .before .before .before .before .before .before .before .before .before .before .before .before .before .before .before .before .before .before .parse-ref .kept .1 .1 .1 .1 .0
 
--- src/walk.rt:147:1
 pub parse-map-same-length-12 : (t : ℕ) → parse-map-lts.Need-same-length-12 (
   parse-ref-below t,
   parse-ref.Post,
@@ -356,9 +334,8 @@ pub parse-map-same-length-12 : (t : ℕ) → parse-map-lts.Need-same-length-12 (
   resolves-reads.Asked,
   resolves-reads.Learnt,
 ) (parse-map-at t) parse-map.Post
-parse-map-same-length-12 t c = ?
+parse-map-same-length-12 t c = c .before .before .before .before .before .before .before .keep-map .kept .1 .1 .0 ∙ c .before .before .before .before .before .before .before .before .before .before .before .before .before .before .before .before .before .before .before .before .before .before .before .before .before .before .before .before .before .before .before .before .parse-ref .kept .1 .1 .1 .1 .1 .0
 
--- src/walk.rt:147:1
 pub parse-map-same-length-13 : (t : ℕ) → parse-map-lts.Need-same-length-13 (
   parse-ref-below t,
   parse-ref.Post,
@@ -369,9 +346,8 @@ pub parse-map-same-length-13 : (t : ℕ) → parse-map-lts.Need-same-length-13 (
   resolves-reads.Asked,
   resolves-reads.Learnt,
 ) (parse-map-at t) parse-map.Post
-parse-map-same-length-13 t c = ?
+parse-map-same-length-13 t c = c .before .before .before .before .before .before .before .before .before .before .before .before .before .before .before .before .before .before .before .before .before .before .before .before .before .before .before .before .before .before .before .before .parse-ref .kept .1 .1 .1 .1 .1 .1 .0
 
--- src/walk.rt:147:1
 pub parse-map-same-length-14 : (t : ℕ) → parse-map-lts.Need-same-length-14 (
   parse-ref-below t,
   parse-ref.Post,
@@ -382,9 +358,8 @@ pub parse-map-same-length-14 : (t : ℕ) → parse-map-lts.Need-same-length-14 (
   resolves-reads.Asked,
   resolves-reads.Learnt,
 ) (parse-map-at t) parse-map.Post
-parse-map-same-length-14 t c = ?
+parse-map-same-length-14 t c = c .before .before .before .before .before .before .before .before .before .before .before .before .before .before .before .after-map .kept .1 .1 .0 ∙ c .before .before .before .before .before .before .before .before .before .before .before .before .before .before .before .before .before .before .before .before .before .before .before .before .before .before .before .before .before .before .before .before .parse-ref .kept .1 .1 .1 .1 .1 .1 .1 .0
 
--- src/walk.rt:147:1
 pub parse-map-same-length-15 : (t : ℕ) → parse-map-lts.Need-same-length-15 (
   parse-ref-below t,
   parse-ref.Post,
@@ -395,9 +370,8 @@ pub parse-map-same-length-15 : (t : ℕ) → parse-map-lts.Need-same-length-15 (
   resolves-reads.Asked,
   resolves-reads.Learnt,
 ) (parse-map-at t) parse-map.Post
-parse-map-same-length-15 t c = ?
+parse-map-same-length-15 t c = c .before .before .before .before .before .before .before .before .before .before .before .before .before .before .before .before .before .before .before .before .before .before .before .before .before .before .before .before .before .before .before .before .parse-ref .kept .1 .1 .1 .1 .1 .1 .1 .1 .1 .1 .1 .0
 
--- src/walk.rt:147:1
 pub parse-map-returns-3 : (t : ℕ) → parse-map-lts.Need-returns-3 (
   parse-ref-below t,
   parse-ref.Post,
@@ -408,9 +382,13 @@ pub parse-map-returns-3 : (t : ℕ) → parse-map-lts.Need-returns-3 (
   resolves-reads.Asked,
   resolves-reads.Learnt,
 ) (parse-map-at t) parse-map.Post
-parse-map-returns-3 t c = ?
+parse-map-returns-3 t c =
+    let a = c .before .before .before .before .before .before .before .before .before .before .before .before .before .before .before .before .before .before .before .before .before .before .before .before .before .before .before .before .before .before .before .before .before .before .before .before .before .before .before .before .before .before .before .before .before .before .before .before .before .args in
+    let g = c .before .before .before .before .before .before .before .before .before .before .before .before .before .before .before .before .before .before .before .before .before .before .before .before .before .before .before .before .before .before .before .before .before .before .before .before .before .before .before .before .before .before .before .before .before .before .before .before .before .pre .1 in
+    let e = seen-got (lent _ _ _ _ _ _ _) (c .before .before .before .before .before .before .before .before .before .before .before .before .before .before .before .before .before .before .before .before .x .given .1) (c .before .before .before .before .before .before .before .before .before .before .before .before .before .before .before .before .before .before .before .before .before .before .before .before .before .before .before .before .before .before .before .before .parse-ref .ensures .0) in
+    let f = went-on (lent _ _ _ _ _ _ _) (c .before .before .before .before .before .before .before .before .before .before .before .y .given .1) (c .before .before .before .before .before .before .before .before .before .before .before .before .before .before .before .after-map .ensures _ (lent _ _ _ [] _ [] [])) in
+    (mapped-full (g .0) (a .d) (a .a) (a .n) (a .o) e f (went-no (lent _ _ _ _ _ _ _) (c .before .m3 .given .1) (c .before .before .before .before .before .before .before .keep-map .ensures _ _ _ (lent [] [] _ _ _ _ _))), tt)
 
--- src/walk.rt:147:1
 pub parse-map-same-length-16 : (t : ℕ) → parse-map-lts.Need-same-length-16 (
   parse-ref-below t,
   parse-ref.Post,
@@ -421,9 +399,8 @@ pub parse-map-same-length-16 : (t : ℕ) → parse-map-lts.Need-same-length-16 (
   resolves-reads.Asked,
   resolves-reads.Learnt,
 ) (parse-map-at t) parse-map.Post
-parse-map-same-length-16 t c = ?
+parse-map-same-length-16 t c = c .before .before .before .before .before .before .before .before .before .before .before .before .before .before .keep-map .kept .1 .0 ∙ c .before .before .before .before .before .before .before .before .before .before .before .before .before .before .before .before .before .before .before .before .before .before .before .before .before .before .before .before .before .before .before .before .before .before .before .before .before .before .before .parse-ref .kept .1 .1 .1 .1 .0
 
--- src/walk.rt:147:1
 pub parse-map-same-length-17 : (t : ℕ) → parse-map-lts.Need-same-length-17 (
   parse-ref-below t,
   parse-ref.Post,
@@ -434,9 +411,8 @@ pub parse-map-same-length-17 : (t : ℕ) → parse-map-lts.Need-same-length-17 (
   resolves-reads.Asked,
   resolves-reads.Learnt,
 ) (parse-map-at t) parse-map.Post
-parse-map-same-length-17 t c = ?
+parse-map-same-length-17 t c = c .before .before .before .before .resolves .kept .1 .1 .0 ∙ c .before .before .before .before .before .before .before .before .before .before .before .before .before .before .keep-map .kept .1 .1 .0 ∙ c .before .before .before .before .before .before .before .before .before .before .before .before .before .before .before .before .before .before .before .before .before .before .before .before .before .before .before .before .before .before .before .before .before .before .before .before .before .before .before .parse-ref .kept .1 .1 .1 .1 .1 .0
 
--- src/walk.rt:147:1
 pub parse-map-same-length-18 : (t : ℕ) → parse-map-lts.Need-same-length-18 (
   parse-ref-below t,
   parse-ref.Post,
@@ -447,9 +423,8 @@ pub parse-map-same-length-18 : (t : ℕ) → parse-map-lts.Need-same-length-18 (
   resolves-reads.Asked,
   resolves-reads.Learnt,
 ) (parse-map-at t) parse-map.Post
-parse-map-same-length-18 t c = ?
+parse-map-same-length-18 t c = c .before .before .before .before .before .before .before .before .before .before .before .before .before .before .before .before .before .before .before .before .before .before .before .before .before .before .before .before .before .before .before .before .before .before .before .before .before .before .before .parse-ref .kept .1 .1 .1 .1 .1 .1 .0
 
--- src/walk.rt:147:1
 pub parse-map-same-length-19 : (t : ℕ) → parse-map-lts.Need-same-length-19 (
   parse-ref-below t,
   parse-ref.Post,
@@ -460,9 +435,8 @@ pub parse-map-same-length-19 : (t : ℕ) → parse-map-lts.Need-same-length-19 (
   resolves-reads.Asked,
   resolves-reads.Learnt,
 ) (parse-map-at t) parse-map.Post
-parse-map-same-length-19 t c = ?
+parse-map-same-length-19 t c = c .before .before .before .before .before .before .before .before .before .before .before .before .before .before .before .before .before .before .before .before .before .before .after-map .kept .1 .1 .0 ∙ c .before .before .before .before .before .before .before .before .before .before .before .before .before .before .before .before .before .before .before .before .before .before .before .before .before .before .before .before .before .before .before .before .before .before .before .before .before .before .before .parse-ref .kept .1 .1 .1 .1 .1 .1 .1 .0
 
--- src/walk.rt:147:1
 pub parse-map-same-length-20 : (t : ℕ) → parse-map-lts.Need-same-length-20 (
   parse-ref-below t,
   parse-ref.Post,
@@ -473,9 +447,8 @@ pub parse-map-same-length-20 : (t : ℕ) → parse-map-lts.Need-same-length-20 (
   resolves-reads.Asked,
   resolves-reads.Learnt,
 ) (parse-map-at t) parse-map.Post
-parse-map-same-length-20 t c = ?
+parse-map-same-length-20 t c = c .before .before .before .before .resolves .kept .1 .1 .1 .0 ∙ c .before .before .before .before .before .before .before .before .before .before .before .before .before .before .before .before .before .before .before .before .before .before .before .before .before .before .before .before .before .before .before .before .before .before .before .before .before .before .before .parse-ref .kept .1 .1 .1 .1 .1 .1 .1 .1 .1 .1 .1 .0
 
--- src/walk.rt:147:1
 pub parse-map-returns-4 : (t : ℕ) → parse-map-lts.Need-returns-4 (
   parse-ref-below t,
   parse-ref.Post,
@@ -486,4 +459,10 @@ pub parse-map-returns-4 : (t : ℕ) → parse-map-lts.Need-returns-4 (
   resolves-reads.Asked,
   resolves-reads.Learnt,
 ) (parse-map-at t) parse-map.Post
-parse-map-returns-4 t c = ?
+parse-map-returns-4 t c =
+    let a = c .before .before .before .before .before .before .before .before .before .before .before .before .before .before .before .before .before .before .before .before .before .before .before .before .before .before .before .before .before .before .before .before .before .before .before .before .before .before .before .before .before .before .before .before .before .before .before .before .before .before .before .before .before .before .before .before .args in
+    let g = c .before .before .before .before .before .before .before .before .before .before .before .before .before .before .before .before .before .before .before .before .before .before .before .before .before .before .before .before .before .before .before .before .before .before .before .before .before .before .before .before .before .before .before .before .before .before .before .before .before .before .before .before .before .before .before .before .pre .1 in
+    let e = seen-got (lent _ _ _ _ _ _ _) (c .before .before .before .before .before .before .before .before .before .before .before .before .before .before .before .before .before .before .before .before .before .before .before .before .before .before .before .x .given .1) (c .before .before .before .before .before .before .before .before .before .before .before .before .before .before .before .before .before .before .before .before .before .before .before .before .before .before .before .before .before .before .before .before .before .before .before .before .before .before .before .parse-ref .ensures .0) in
+    let f = went-on (lent _ _ _ _ _ _ _) (c .before .before .before .before .before .before .before .before .before .before .before .before .before .before .before .before .before .before .y .given .1) (c .before .before .before .before .before .before .before .before .before .before .before .before .before .before .before .before .before .before .before .before .before .before .after-map .ensures _ (lent _ _ _ [] _ [] [])) in
+    let k = went-on (lent _ _ _ _ _ _ _) (c .before .before .before .before .before .before .before .before .w .given .1) (c .before .before .before .before .before .before .before .before .before .before .before .before .before .before .keep-map .ensures _ _ _ (lent [] [] _ _ _ _ _)) in
+    (mapped-on (g .0) (a .d) (a .a) (a .n) (a .o) e f k (c .before .before .before .before .resolves .ensures .0 _ _ (lent _ [] _ _ _ _ _)), c .before .before .before .before .resolves .ensures .1)

@@ -1,39 +1,20 @@
-use Prim.Native.Nat.{ℕ, _<_, _≤_, _+_, _-_, _*_, _^_}
+use Prim.Native.Nat.{ℕ, _-_, _*_, _^_}
+use mathlib.Core.List.{[]}
 use borrow.Author.Needs.{needs}
 use native.Mathlib.Omega.{arith}
-use mathlib.Core.Path.{_≡_, refl, sym, ap, subst, _∙_}
-use borrow.Fn.Kinds.{In}
-use borrow.Fn.PlainCycle.{Measures, is, falls, and}
+use mathlib.Core.Path.{ap, _∙_}
+use Rattle.walker.specs.Ready.{lent}
+use Rattle.readers.proofs.ViewLaws.{count-is, count-no, count-below, went-on, went-no}
+use Rattle.readers.proofs.HeadLaws.{bytes-small}
+use Rattle.walker.proofs.ObjectLaws.{went-index, opened-ready, mapped-ready, object-cut, object-bad, object-on}
 use Rattle.walker.proofs.walk.parse_items.Reads as parse-items
-use Rattle.walker.proofs.walk.parse_items.Kinds as parse-items-kinds
-use Rattle.walker.proofs.walk.+parse_items+parse_map+parse_object+parse_ref+parse_slot.Lts-parse_items as parse-items-lts
 use Rattle.walker.proofs.walk.parse_map.Reads as parse-map
-use Rattle.walker.proofs.walk.parse_map.Kinds as parse-map-kinds
-use Rattle.walker.proofs.walk.+parse_items+parse_map+parse_object+parse_ref+parse_slot.Lts-parse_map as parse-map-lts
 use Rattle.walker.proofs.walk.parse_object.Reads as parse-object
-use Rattle.walker.proofs.walk.parse_object.Kinds as parse-object-kinds
 use Rattle.walker.proofs.walk.+parse_items+parse_map+parse_object+parse_ref+parse_slot.Lts-parse_object as parse-object-lts
-use Rattle.walker.proofs.walk.parse_ref.Reads as parse-ref
-use Rattle.walker.proofs.walk.parse_ref.Kinds as parse-ref-kinds
-use Rattle.walker.proofs.walk.+parse_items+parse_map+parse_object+parse_ref+parse_slot.Lts-parse_ref as parse-ref-lts
-use Rattle.walker.proofs.walk.parse_slot.Reads as parse-slot
-use Rattle.walker.proofs.walk.parse_slot.Kinds as parse-slot-kinds
-use Rattle.walker.proofs.walk.+parse_items+parse_map+parse_object+parse_ref+parse_slot.Lts-parse_slot as parse-slot-lts
 use Rattle.readers.proofs.head.open_object.Reads as open-object-reads
-use Rattle.readers.proofs.item.place_item.Reads as place-item-reads
-use Rattle.readers.proofs.map.after_map.Reads as after-map-reads
-use Rattle.readers.proofs.map.keep_map.Reads as keep-map-reads
-use Rattle.readers.proofs.pending.resolves.Reads as resolves-reads
-use Rattle.readers.proofs.prefix.begin.Reads as begin-reads
-use Rattle.readers.proofs.prefix.hold.Reads as hold-reads
-use Rattle.readers.proofs.simple.simple_ref.Reads as simple-ref-reads
-use Rattle.sheet.proofs.tests.is_tag.Reads as is-tag-reads
 use Rattle.sheet.proofs.usable.word_bytes.Reads as word-bytes-reads
-use Rattle.stream.proofs.bytes.byte.Reads as byte-reads
-use Rattle.stream.proofs.bytes.peek.Reads as peek-reads
-use Rattle.walker.proofs.walk.+parse_items+parse_map+parse_object+parse_ref+parse_slot.Proof.Common.{μ-parse-items, μ-parse-map, μ-parse-object, μ-parse-ref, μ-parse-slot, parse-items-at, parse-items-below, parse-map-at, parse-map-below, parse-object-at, parse-object-below, parse-ref-at, parse-ref-below, parse-slot-at, parse-slot-below, parse-items-Inv-loop, parse-items-μ-loop}
+use Rattle.walker.proofs.walk.+parse_items+parse_map+parse_object+parse_ref+parse_slot.Proof.Common.{parse-items-below, parse-map-below, parse-object-at}
 
--- src/walk.rt:114:11
 pub parse-object-open-object-requires : (t : ℕ) → parse-object-lts.Need-open-object-requires (
   open-object-reads.Asked,
   open-object-reads.Learnt,
@@ -44,9 +25,8 @@ pub parse-object-open-object-requires : (t : ℕ) → parse-object-lts.Need-open
   parse-items-below t,
   parse-items.Post,
 ) (parse-object-at t) parse-object.Post
-parse-object-open-object-requires t c κs = ?
+parse-object-open-object-requires t c κs = c .before .before .before .before .before .before .before .before .before .pre .1 .0 .proper .sheet-usable
 
--- src/walk.rt:115:24
 pub parse-object-enum-known-m : (t : ℕ) → parse-object-lts.Need-enum-known-m (
   open-object-reads.Asked,
   open-object-reads.Learnt,
@@ -57,9 +37,8 @@ pub parse-object-enum-known-m : (t : ℕ) → parse-object-lts.Need-enum-known-m
   parse-items-below t,
   parse-items.Post,
 ) (parse-object-at t) parse-object.Post
-parse-object-enum-known-m t c = ?
+parse-object-enum-known-m t c = search needs
 
--- src/walk.rt:116:19
 pub parse-object-enum-known-words : (t : ℕ) → parse-object-lts.Need-enum-known-words (
   open-object-reads.Asked,
   open-object-reads.Learnt,
@@ -70,9 +49,8 @@ pub parse-object-enum-known-words : (t : ℕ) → parse-object-lts.Need-enum-kno
   parse-items-below t,
   parse-items.Post,
 ) (parse-object-at t) parse-object.Post
-parse-object-enum-known-words t c = ?
+parse-object-enum-known-words t c = search needs
 
--- src/walk.rt:117:29
 pub parse-object-word-bytes-requires : (t : ℕ) → parse-object-lts.Need-word-bytes-requires (
   open-object-reads.Asked,
   open-object-reads.Learnt,
@@ -83,9 +61,8 @@ pub parse-object-word-bytes-requires : (t : ℕ) → parse-object-lts.Need-word-
   parse-items-below t,
   parse-items.Post,
 ) (parse-object-at t) parse-object.Post
-parse-object-word-bytes-requires t c κs = ?
+parse-object-word-bytes-requires t c κs = tt
 
--- src/walk.rt:117:21
 pub parse-object-mul-n : (t : ℕ) → parse-object-lts.Need-mul-n (
   open-object-reads.Asked,
   open-object-reads.Learnt,
@@ -96,9 +73,11 @@ pub parse-object-mul-n : (t : ℕ) → parse-object-lts.Need-mul-n (
   parse-items-below t,
   parse-items.Post,
 ) (parse-object-at t) parse-object.Post
-parse-object-mul-n t c = ?
+parse-object-mul-n t c =
+    let g = c .before .before .before .before .before .before .before .before .before .before .before .before .before .before .before .before .pre .1 in
+    let b = bytes-small _ (g .0 .proper .sheet-usable) (c .word-bytes .ensures .0) (count-below (2 ^ 30) (c .before .before .words .given .1) (c .before .before .before .before .before .before .open-object .ensures .1)) in
+    omega (arith, b)
 
--- src/walk.rt:118:17
 pub parse-object-parse-map-requires : (t : ℕ) → parse-object-lts.Need-parse-map-requires (
   open-object-reads.Asked,
   open-object-reads.Learnt,
@@ -109,9 +88,14 @@ pub parse-object-parse-map-requires : (t : ℕ) → parse-object-lts.Need-parse-
   parse-items-below t,
   parse-items.Post,
 ) (parse-object-at t) parse-object.Post
-parse-object-parse-map-requires t c κs = ?
+parse-object-parse-map-requires t c κs =
+    let a = c .before .before .before .before .before .before .before .before .before .before .before .before .before .before .before .before .before .before .before .before .before .before .before .before .args in
+    let g = c .before .before .before .before .before .before .before .before .before .before .before .before .before .before .before .before .before .before .before .before .before .before .before .before .pre .1 in
+    let e = count-is (lent _ _ _ _ _ _ _) (c .before .before .before .before .before .before .before .before .before .before .words .given .1) (c .before .before .before .before .before .before .before .before .before .before .before .before .before .before .open-object .ensures .0 _ _ (lent [] _ _ _ _ _ _)) in
+    let b = bytes-small _ (g .0 .proper .sheet-usable) (c .before .before .before .before .before .before .before .before .word-bytes .ensures .0) (count-below (2 ^ 30) (c .before .before .before .before .before .before .before .before .before .before .words .given .1) (c .before .before .before .before .before .before .before .before .before .before .before .before .before .before .open-object .ensures .1)) in
+    let q = opened-ready (g .0) (a .a) (a .at) e in
+    (omega (arith, c .before .before .before .before .before .before .before .before .before .before .before .before .before .before .before .before .before .before .before .before .before .before .before .before .pre .0), (q .0, (g .1 .0, g .1 .1, b, q .1)))
 
--- src/walk.rt:120:31
 pub parse-object-enum-known-map : (t : ℕ) → parse-object-lts.Need-enum-known-map (
   open-object-reads.Asked,
   open-object-reads.Learnt,
@@ -122,9 +106,8 @@ pub parse-object-enum-known-map : (t : ℕ) → parse-object-lts.Need-enum-known
   parse-items-below t,
   parse-items.Post,
 ) (parse-object-at t) parse-object.Post
-parse-object-enum-known-map t c = ?
+parse-object-enum-known-map t c = search needs
 
--- src/walk.rt:121:26
 pub parse-object-enum-known-map-2 : (t : ℕ) → parse-object-lts.Need-enum-known-map-2 (
   open-object-reads.Asked,
   open-object-reads.Learnt,
@@ -135,9 +118,8 @@ pub parse-object-enum-known-map-2 : (t : ℕ) → parse-object-lts.Need-enum-kno
   parse-items-below t,
   parse-items.Post,
 ) (parse-object-at t) parse-object.Post
-parse-object-enum-known-map-2 t c = ?
+parse-object-enum-known-map-2 t c = search needs
 
--- src/walk.rt:121:32
 pub parse-object-parse-items-requires : (t : ℕ) → parse-object-lts.Need-parse-items-requires (
   open-object-reads.Asked,
   open-object-reads.Learnt,
@@ -148,9 +130,17 @@ pub parse-object-parse-items-requires : (t : ℕ) → parse-object-lts.Need-pars
   parse-items-below t,
   parse-items.Post,
 ) (parse-object-at t) parse-object.Post
-parse-object-parse-items-requires t c κs = ?
+parse-object-parse-items-requires t c κs =
+    let a = c .before .before .before .before .before .before .before .before .before .before .before .before .before .before .before .before .before .before .before .before .before .before .before .before .before .before .before .before .before .before .before .before .before .before .before .before .before .before .before .before .before .before .before .before .before .before .args in
+    let g = c .before .before .before .before .before .before .before .before .before .before .before .before .before .before .before .before .before .before .before .before .before .before .before .before .before .before .before .before .before .before .before .before .before .before .before .before .before .before .before .before .before .before .before .before .before .before .pre .1 in
+    let e = count-is (lent _ _ _ _ _ _ _) (c .before .before .before .before .before .before .before .before .before .before .before .before .before .before .before .before .before .before .before .before .before .before .before .before .before .before .before .before .before .before .before .before .words .given .1) (c .before .before .before .before .before .before .before .before .before .before .before .before .before .before .before .before .before .before .before .before .before .before .before .before .before .before .before .before .before .before .before .before .before .before .before .before .open-object .ensures .0 _ _ (lent [] _ _ _ _ _ _)) in
+    let b = bytes-small _ (g .0 .proper .sheet-usable) (c .before .before .before .before .before .before .before .before .before .before .before .before .before .before .before .before .before .before .before .before .before .before .before .before .before .before .before .before .before .before .word-bytes .ensures .0) (count-below (2 ^ 30) (c .before .before .before .before .before .before .before .before .before .before .before .before .before .before .before .before .before .before .before .before .before .before .before .before .before .before .before .before .before .before .before .before .words .given .1) (c .before .before .before .before .before .before .before .before .before .before .before .before .before .before .before .before .before .before .before .before .before .before .before .before .before .before .before .before .before .before .before .before .before .before .before .before .open-object .ensures .1)) in
+    let q = opened-ready (g .0) (a .a) (a .at) e in
+    let f = went-on (lent _ _ _ _ _ _ _) (c .before .before .before .before .before .before .before .before .before .map2 .given .1) (c .before .before .before .before .before .before .before .before .before .before .before .before .before .before .before .before .before .before .before .before .before .parse-map .ensures .0) in (
+      omega (arith, c .before .before .before .before .before .before .before .before .before .before .before .before .before .before .before .before .before .before .before .before .before .before .before .before .before .before .before .before .before .before .before .before .before .before .before .before .before .before .before .before .before .before .before .before .before .before .pre .0),
+      let r = mapped-ready (q .0) (64 - a .d) (a .a) _ _ (q .1) (g .1 .1) f (went-index _ _ (c .before .before .before .before .before .before .before .before .before .map2 .given .1) (c .before .before .before .before .before .before .before .before .before .before .before .before .before .before .before .before .before .before .before .before .before .parse-map .ensures .1)) in (r .0, (g .1 .0, b, r .1, r .2)),
+    )
 
--- src/walk.rt:89:1
 pub parse-object-same-length : (t : ℕ) → parse-object-lts.Need-same-length (
   open-object-reads.Asked,
   open-object-reads.Learnt,
@@ -161,9 +151,8 @@ pub parse-object-same-length : (t : ℕ) → parse-object-lts.Need-same-length (
   parse-items-below t,
   parse-items.Post,
 ) (parse-object-at t) parse-object.Post
-parse-object-same-length t c = ?
+parse-object-same-length t c = search needs
 
--- src/walk.rt:89:1
 pub parse-object-returns : (t : ℕ) → parse-object-lts.Need-returns (
   open-object-reads.Asked,
   open-object-reads.Learnt,
@@ -174,9 +163,10 @@ pub parse-object-returns : (t : ℕ) → parse-object-lts.Need-returns (
   parse-items-below t,
   parse-items.Post,
 ) (parse-object-at t) parse-object.Post
-parse-object-returns t c = ?
+parse-object-returns t c =
+    let a = c .before .before .before .before .before .before .before .before .before .before .before .before .before .before .before .args in
+    (object-cut _ _ (a .a) (a .at) _ (count-no (lent _ _ _ _ _ _ _) (c .before .m .given .1) (c .before .before .before .before .before .open-object .ensures .0 _ _ (lent [] _ _ _ _ _ _))), tt)
 
--- src/walk.rt:89:1
 pub parse-object-same-length-2 : (t : ℕ) → parse-object-lts.Need-same-length-2 (
   open-object-reads.Asked,
   open-object-reads.Learnt,
@@ -187,9 +177,8 @@ pub parse-object-same-length-2 : (t : ℕ) → parse-object-lts.Need-same-length
   parse-items-below t,
   parse-items.Post,
 ) (parse-object-at t) parse-object.Post
-parse-object-same-length-2 t c = ?
+parse-object-same-length-2 t c = c .before .before .before .before .before .before .before .before .before .before .before .before .before .parse-map .kept .1 .1 .1 .1 .0 ∙ c .before .before .before .before .before .before .before .before .before .before .before .before .before .before .before .before .before .before .before .before .before .before .before .before .before .before .before .before .open-object .kept .1 .1 .0
 
--- src/walk.rt:89:1
 pub parse-object-same-length-3 : (t : ℕ) → parse-object-lts.Need-same-length-3 (
   open-object-reads.Asked,
   open-object-reads.Learnt,
@@ -200,9 +189,8 @@ pub parse-object-same-length-3 : (t : ℕ) → parse-object-lts.Need-same-length
   parse-items-below t,
   parse-items.Post,
 ) (parse-object-at t) parse-object.Post
-parse-object-same-length-3 t c = ?
+parse-object-same-length-3 t c = search needs
 
--- src/walk.rt:89:1
 pub parse-object-same-length-4 : (t : ℕ) → parse-object-lts.Need-same-length-4 (
   open-object-reads.Asked,
   open-object-reads.Learnt,
@@ -213,9 +201,8 @@ pub parse-object-same-length-4 : (t : ℕ) → parse-object-lts.Need-same-length
   parse-items-below t,
   parse-items.Post,
 ) (parse-object-at t) parse-object.Post
-parse-object-same-length-4 t c = ?
+parse-object-same-length-4 t c = search needs
 
--- src/walk.rt:89:1
 pub parse-object-same-length-5 : (t : ℕ) → parse-object-lts.Need-same-length-5 (
   open-object-reads.Asked,
   open-object-reads.Learnt,
@@ -226,9 +213,8 @@ pub parse-object-same-length-5 : (t : ℕ) → parse-object-lts.Need-same-length
   parse-items-below t,
   parse-items.Post,
 ) (parse-object-at t) parse-object.Post
-parse-object-same-length-5 t c = ?
+parse-object-same-length-5 t c = search needs
 
--- src/walk.rt:89:1
 pub parse-object-same-length-6 : (t : ℕ) → parse-object-lts.Need-same-length-6 (
   open-object-reads.Asked,
   open-object-reads.Learnt,
@@ -239,9 +225,8 @@ pub parse-object-same-length-6 : (t : ℕ) → parse-object-lts.Need-same-length
   parse-items-below t,
   parse-items.Post,
 ) (parse-object-at t) parse-object.Post
-parse-object-same-length-6 t c = ?
+parse-object-same-length-6 t c = search needs
 
--- src/walk.rt:89:1
 pub parse-object-returns-2 : (t : ℕ) → parse-object-lts.Need-returns-2 (
   open-object-reads.Asked,
   open-object-reads.Learnt,
@@ -252,9 +237,11 @@ pub parse-object-returns-2 : (t : ℕ) → parse-object-lts.Need-returns-2 (
   parse-items-below t,
   parse-items.Post,
 ) (parse-object-at t) parse-object.Post
-parse-object-returns-2 t c = ?
+parse-object-returns-2 t c =
+    let a = c .before .before .before .before .before .before .before .before .before .before .before .before .before .before .before .before .before .before .before .before .before .before .before .before .before .before .before .before .before .before .before .before .before .before .before .before .before .before .args in
+    let e = count-is (lent _ _ _ _ _ _ _) (c .before .before .before .before .before .before .before .before .before .before .before .before .before .before .before .before .before .before .before .before .before .before .before .before .words .given .1) (c .before .before .before .before .before .before .before .before .before .before .before .before .before .before .before .before .before .before .before .before .before .before .before .before .before .before .before .before .open-object .ensures .0 _ _ (lent [] _ _ _ _ _ _)) in
+    (object-bad _ _ (a .a) (a .at) _ e (ap (λ (w : ℕ). c .before .before .before .before .before .before .before .before .before .before .before .before .before .before .before .before .before .before .before .before .before .before .before .before .words .given .0 .0 * w) (c .before .before .before .before .before .before .before .before .before .before .before .before .before .before .before .before .before .before .before .before .before .before .word-bytes .ensures .0)) (went-no (lent _ _ _ _ _ _ _) (c .before .map .given .1) (c .before .before .before .before .before .before .before .before .before .before .before .before .before .parse-map .ensures .0)), tt)
 
--- src/walk.rt:89:1
 pub parse-object-same-length-7 : (t : ℕ) → parse-object-lts.Need-same-length-7 (
   open-object-reads.Asked,
   open-object-reads.Learnt,
@@ -265,9 +252,8 @@ pub parse-object-same-length-7 : (t : ℕ) → parse-object-lts.Need-same-length
   parse-items-below t,
   parse-items.Post,
 ) (parse-object-at t) parse-object.Post
-parse-object-same-length-7 t c = ?
+parse-object-same-length-7 t c = c .before .before .before .before .before .before .before .before .before .before .parse-items .kept .1 .1 .1 .1 .0 ∙ c .before .before .before .before .before .before .before .before .before .before .before .before .before .before .before .before .before .before .before .before .before .before .before .before .before .before .before .before .before .before .before .before .parse-map .kept .1 .1 .1 .1 .0 ∙ c .before .before .before .before .before .before .before .before .before .before .before .before .before .before .before .before .before .before .before .before .before .before .before .before .before .before .before .before .before .before .before .before .before .before .before .before .before .before .before .before .before .before .before .before .before .before .before .open-object .kept .1 .1 .0
 
--- src/walk.rt:89:1
 pub parse-object-same-length-8 : (t : ℕ) → parse-object-lts.Need-same-length-8 (
   open-object-reads.Asked,
   open-object-reads.Learnt,
@@ -278,9 +264,8 @@ pub parse-object-same-length-8 : (t : ℕ) → parse-object-lts.Need-same-length
   parse-items-below t,
   parse-items.Post,
 ) (parse-object-at t) parse-object.Post
-parse-object-same-length-8 t c = ?
+parse-object-same-length-8 t c = c .before .before .before .before .before .before .before .before .before .before .parse-items .kept .1 .1 .1 .1 .1 .0 ∙ c .before .before .before .before .before .before .before .before .before .before .before .before .before .before .before .before .before .before .before .before .before .before .before .before .before .before .before .before .before .before .before .before .parse-map .kept .1 .1 .1 .1 .1 .0
 
--- src/walk.rt:89:1
 pub parse-object-same-length-9 : (t : ℕ) → parse-object-lts.Need-same-length-9 (
   open-object-reads.Asked,
   open-object-reads.Learnt,
@@ -291,9 +276,8 @@ pub parse-object-same-length-9 : (t : ℕ) → parse-object-lts.Need-same-length
   parse-items-below t,
   parse-items.Post,
 ) (parse-object-at t) parse-object.Post
-parse-object-same-length-9 t c = ?
+parse-object-same-length-9 t c = c .before .before .before .before .before .before .before .before .before .before .parse-items .kept .1 .1 .1 .1 .1 .1 .0 ∙ c .before .before .before .before .before .before .before .before .before .before .before .before .before .before .before .before .before .before .before .before .before .before .before .before .before .before .before .before .before .before .before .before .parse-map .kept .1 .1 .1 .1 .1 .1 .0
 
--- src/walk.rt:89:1
 pub parse-object-same-length-10 : (t : ℕ) → parse-object-lts.Need-same-length-10 (
   open-object-reads.Asked,
   open-object-reads.Learnt,
@@ -304,9 +288,8 @@ pub parse-object-same-length-10 : (t : ℕ) → parse-object-lts.Need-same-lengt
   parse-items-below t,
   parse-items.Post,
 ) (parse-object-at t) parse-object.Post
-parse-object-same-length-10 t c = ?
+parse-object-same-length-10 t c = c .before .before .before .before .before .before .before .before .before .before .parse-items .kept .1 .1 .1 .1 .1 .1 .1 .0 ∙ c .before .before .before .before .before .before .before .before .before .before .before .before .before .before .before .before .before .before .before .before .before .before .before .before .before .before .before .before .before .before .before .before .parse-map .kept .1 .1 .1 .1 .1 .1 .1 .0
 
--- src/walk.rt:89:1
 pub parse-object-same-length-11 : (t : ℕ) → parse-object-lts.Need-same-length-11 (
   open-object-reads.Asked,
   open-object-reads.Learnt,
@@ -317,9 +300,8 @@ pub parse-object-same-length-11 : (t : ℕ) → parse-object-lts.Need-same-lengt
   parse-items-below t,
   parse-items.Post,
 ) (parse-object-at t) parse-object.Post
-parse-object-same-length-11 t c = ?
+parse-object-same-length-11 t c = c .before .before .before .before .before .before .before .before .before .before .parse-items .kept .1 .1 .1 .1 .1 .1 .1 .1 .1 .1 .1 .0 ∙ c .before .before .before .before .before .before .before .before .before .before .before .before .before .before .before .before .before .before .before .before .before .before .before .before .before .before .before .before .before .before .before .before .parse-map .kept .1 .1 .1 .1 .1 .1 .1 .1 .1 .1 .1 .0
 
--- src/walk.rt:89:1
 pub parse-object-returns-3 : (t : ℕ) → parse-object-lts.Need-returns-3 (
   open-object-reads.Asked,
   open-object-reads.Learnt,
@@ -330,4 +312,8 @@ pub parse-object-returns-3 : (t : ℕ) → parse-object-lts.Need-returns-3 (
   parse-items-below t,
   parse-items.Post,
 ) (parse-object-at t) parse-object.Post
-parse-object-returns-3 t c = ?
+parse-object-returns-3 t c =
+    let a = c .before .before .before .before .before .before .before .before .before .before .before .before .before .before .before .before .before .before .before .before .before .before .before .before .before .before .before .before .before .before .before .before .before .before .before .before .before .before .before .before .before .before .before .before .before .before .before .before .before .before .before .before .before .before .before .before .before .args in
+    let e = count-is (lent _ _ _ _ _ _ _) (c .before .before .before .before .before .before .before .before .before .before .before .before .before .before .before .before .before .before .before .before .before .before .before .before .before .before .before .before .before .before .before .before .before .before .before .before .before .before .before .before .before .before .before .words .given .1) (c .before .before .before .before .before .before .before .before .before .before .before .before .before .before .before .before .before .before .before .before .before .before .before .before .before .before .before .before .before .before .before .before .before .before .before .before .before .before .before .before .before .before .before .before .before .before .before .open-object .ensures .0 _ _ (lent [] _ _ _ _ _ _)) in
+    let f = went-on (lent _ _ _ _ _ _ _) (c .before .before .before .before .before .before .before .before .before .before .before .before .before .before .before .before .before .before .before .before .map2 .given .1) (c .before .before .before .before .before .before .before .before .before .before .before .before .before .before .before .before .before .before .before .before .before .before .before .before .before .before .before .before .before .before .before .before .parse-map .ensures .0) in
+    (object-on _ _ (a .a) (a .at) _ e (ap (λ (w : ℕ). c .before .before .before .before .before .before .before .before .before .before .before .before .before .before .before .before .before .before .before .before .before .before .before .before .before .before .before .before .before .before .before .before .before .before .before .before .before .before .before .before .before .before .before .words .given .0 .0 * w) (c .before .before .before .before .before .before .before .before .before .before .before .before .before .before .before .before .before .before .before .before .before .before .before .before .before .before .before .before .before .before .before .before .before .before .before .before .before .before .before .before .before .word-bytes .ensures .0)) f (c .before .before .before .before .before .before .before .before .before .before .parse-items .ensures .0), c .before .before .before .before .before .before .before .before .before .before .parse-items .ensures .1)

@@ -1,39 +1,19 @@
-use Prim.Native.Nat.{ℕ, _<_, _≤_, _+_, _-_, _*_, _^_}
+-- The needs of `parse_slot`: the laws are in ItemsLaws. Assumes nothing.
+use Prim.Native.Nat.{ℕ}
 use borrow.Author.Needs.{needs}
 use native.Mathlib.Omega.{arith}
-use mathlib.Core.Path.{_≡_, refl, sym, ap, subst, _∙_}
-use borrow.Fn.Kinds.{In}
-use borrow.Fn.PlainCycle.{Measures, is, falls, and}
-use Rattle.walker.proofs.walk.parse_items.Reads as parse-items
-use Rattle.walker.proofs.walk.parse_items.Kinds as parse-items-kinds
-use Rattle.walker.proofs.walk.+parse_items+parse_map+parse_object+parse_ref+parse_slot.Lts-parse_items as parse-items-lts
-use Rattle.walker.proofs.walk.parse_map.Reads as parse-map
-use Rattle.walker.proofs.walk.parse_map.Kinds as parse-map-kinds
-use Rattle.walker.proofs.walk.+parse_items+parse_map+parse_object+parse_ref+parse_slot.Lts-parse_map as parse-map-lts
-use Rattle.walker.proofs.walk.parse_object.Reads as parse-object
-use Rattle.walker.proofs.walk.parse_object.Kinds as parse-object-kinds
-use Rattle.walker.proofs.walk.+parse_items+parse_map+parse_object+parse_ref+parse_slot.Lts-parse_object as parse-object-lts
+use mathlib.Core.Path.{sym, _∙_}
 use Rattle.walker.proofs.walk.parse_ref.Reads as parse-ref
-use Rattle.walker.proofs.walk.parse_ref.Kinds as parse-ref-kinds
-use Rattle.walker.proofs.walk.+parse_items+parse_map+parse_object+parse_ref+parse_slot.Lts-parse_ref as parse-ref-lts
 use Rattle.walker.proofs.walk.parse_slot.Reads as parse-slot
-use Rattle.walker.proofs.walk.parse_slot.Kinds as parse-slot-kinds
 use Rattle.walker.proofs.walk.+parse_items+parse_map+parse_object+parse_ref+parse_slot.Lts-parse_slot as parse-slot-lts
-use Rattle.readers.proofs.head.open_object.Reads as open-object-reads
 use Rattle.readers.proofs.item.place_item.Reads as place-item-reads
-use Rattle.readers.proofs.map.after_map.Reads as after-map-reads
-use Rattle.readers.proofs.map.keep_map.Reads as keep-map-reads
-use Rattle.readers.proofs.pending.resolves.Reads as resolves-reads
-use Rattle.readers.proofs.prefix.begin.Reads as begin-reads
-use Rattle.readers.proofs.prefix.hold.Reads as hold-reads
-use Rattle.readers.proofs.simple.simple_ref.Reads as simple-ref-reads
-use Rattle.sheet.proofs.tests.is_tag.Reads as is-tag-reads
 use Rattle.sheet.proofs.usable.word_bytes.Reads as word-bytes-reads
-use Rattle.stream.proofs.bytes.byte.Reads as byte-reads
-use Rattle.stream.proofs.bytes.peek.Reads as peek-reads
-use Rattle.walker.proofs.walk.+parse_items+parse_map+parse_object+parse_ref+parse_slot.Proof.Common.{μ-parse-items, μ-parse-map, μ-parse-object, μ-parse-ref, μ-parse-slot, parse-items-at, parse-items-below, parse-map-at, parse-map-below, parse-object-at, parse-object-below, parse-ref-at, parse-ref-below, parse-slot-at, parse-slot-below, parse-items-Inv-loop, parse-items-μ-loop}
+use mathlib.Core.List.{[]}
+use Rattle.walker.specs.Ready.{lent}
+use Rattle.readers.proofs.ViewLaws.{seen-got, seen-no}
+use Rattle.walker.proofs.ItemsLaws.{slot-no, slot-got, place-asks, step-indexed}
+use Rattle.walker.proofs.walk.+parse_items+parse_map+parse_object+parse_ref+parse_slot.Proof.Common.{parse-ref-below, parse-slot-at}
 
--- src/walk.rt:264:70
 pub parse-slot-add-parse-ref : (t : ℕ) → parse-slot-lts.Need-add-parse-ref (
   parse-ref-below t,
   parse-ref.Post,
@@ -42,9 +22,8 @@ pub parse-slot-add-parse-ref : (t : ℕ) → parse-slot-lts.Need-add-parse-ref (
   place-item-reads.Asked,
   place-item-reads.Learnt,
 ) (parse-slot-at t) parse-slot.Post
-parse-slot-add-parse-ref t c = ?
+parse-slot-add-parse-ref t c = omega (arith, c .before .before .before .before .before .before .before .before .before .before .before .before .before .before .before .before .pre .1 .1 .0)
 
--- src/walk.rt:264:11
 pub parse-slot-parse-ref-requires : (t : ℕ) → parse-slot-lts.Need-parse-ref-requires (
   parse-ref-below t,
   parse-ref.Post,
@@ -53,9 +32,8 @@ pub parse-slot-parse-ref-requires : (t : ℕ) → parse-slot-lts.Need-parse-ref-
   place-item-reads.Asked,
   place-item-reads.Learnt,
 ) (parse-slot-at t) parse-slot.Post
-parse-slot-parse-ref-requires t c κs = ?
+parse-slot-parse-ref-requires t c κs = (omega (arith, c .before .before .before .before .before .before .before .before .before .before .before .before .before .before .before .before .pre .0, c .before .before .before .before .before .before .before .before .before .before .before .before .before .before .before .before .pre .1 .1 .0), (c .before .before .before .before .before .before .before .before .before .before .before .before .before .before .before .before .pre .1 .0, omega (arith, c .before .before .before .before .before .before .before .before .before .before .before .before .before .before .before .before .pre .1 .1 .0)))
 
--- src/walk.rt:265:23
 pub parse-slot-enum-known-n : (t : ℕ) → parse-slot-lts.Need-enum-known-n (
   parse-ref-below t,
   parse-ref.Post,
@@ -64,9 +42,8 @@ pub parse-slot-enum-known-n : (t : ℕ) → parse-slot-lts.Need-enum-known-n (
   place-item-reads.Asked,
   place-item-reads.Learnt,
 ) (parse-slot-at t) parse-slot.Post
-parse-slot-enum-known-n t c = ?
+parse-slot-enum-known-n t c = search needs
 
--- src/walk.rt:266:19
 pub parse-slot-enum-known-x : (t : ℕ) → parse-slot-lts.Need-enum-known-x (
   parse-ref-below t,
   parse-ref.Post,
@@ -75,9 +52,8 @@ pub parse-slot-enum-known-x : (t : ℕ) → parse-slot-lts.Need-enum-known-x (
   place-item-reads.Asked,
   place-item-reads.Learnt,
 ) (parse-slot-at t) parse-slot.Post
-parse-slot-enum-known-x t c = ?
+parse-slot-enum-known-x t c = search needs
 
--- src/walk.rt:266:70
 pub parse-slot-word-bytes-requires : (t : ℕ) → parse-slot-lts.Need-word-bytes-requires (
   parse-ref-below t,
   parse-ref.Post,
@@ -86,9 +62,8 @@ pub parse-slot-word-bytes-requires : (t : ℕ) → parse-slot-lts.Need-word-byte
   place-item-reads.Asked,
   place-item-reads.Learnt,
 ) (parse-slot-at t) parse-slot.Post
-parse-slot-word-bytes-requires t c κs = ?
+parse-slot-word-bytes-requires t c κs = tt
 
--- src/walk.rt:266:28
 pub parse-slot-place-item-requires : (t : ℕ) → parse-slot-lts.Need-place-item-requires (
   parse-ref-below t,
   parse-ref.Post,
@@ -97,9 +72,8 @@ pub parse-slot-place-item-requires : (t : ℕ) → parse-slot-lts.Need-place-ite
   place-item-reads.Asked,
   place-item-reads.Learnt,
 ) (parse-slot-at t) parse-slot.Post
-parse-slot-place-item-requires t c κs = ?
+parse-slot-place-item-requires t c κs = let p = c .before .before .before .before .before .before .before .before .before .before .before .before .before .before .before .before .before .before .before .before .before .before .before .before .before .before .before .before .before .before .before .before .before .before .before .pre .1 in place-asks (p .0) _ _ _ (p .1 .2) (p .1 .3) (seen-got _ (c .before .before .before .before .before .before .x .given .1) (c .before .before .before .before .before .before .before .before .before .before .before .before .before .before .before .before .before .before .parse-ref .ensures .0)) (p .1 .1) (c .before .before .before .before .before .before .before .before .before .before .before .before .before .before .before .before .before .before .before .before .before .before .before .before .before .before .before .before .before .before .before .before .before .before .before .good .1 .1 .1 .1 .1 .0 .0) (step-indexed _ _ (c .before .before .before .before .before .before .x .given .1) (c .before .before .before .before .before .before .before .before .before .before .before .before .before .before .before .before .before .before .parse-ref .ensures .1)) _ (c .word-bytes .ensures .0)
 
--- src/walk.rt:240:1
 pub parse-slot-same-length : (t : ℕ) → parse-slot-lts.Need-same-length (
   parse-ref-below t,
   parse-ref.Post,
@@ -108,9 +82,8 @@ pub parse-slot-same-length : (t : ℕ) → parse-slot-lts.Need-same-length (
   place-item-reads.Asked,
   place-item-reads.Learnt,
 ) (parse-slot-at t) parse-slot.Post
-parse-slot-same-length t c = ?
+parse-slot-same-length t c = c .before .before .before .before .before .before .before .before .before .before .before .before .before .parse-ref .kept .1 .1 .1 .1 .0
 
--- src/walk.rt:240:1
 pub parse-slot-same-length-2 : (t : ℕ) → parse-slot-lts.Need-same-length-2 (
   parse-ref-below t,
   parse-ref.Post,
@@ -119,9 +92,8 @@ pub parse-slot-same-length-2 : (t : ℕ) → parse-slot-lts.Need-same-length-2 (
   place-item-reads.Asked,
   place-item-reads.Learnt,
 ) (parse-slot-at t) parse-slot.Post
-parse-slot-same-length-2 t c = ?
+parse-slot-same-length-2 t c = c .before .before .before .before .before .before .before .before .before .before .before .before .before .parse-ref .kept .1 .1 .1 .1 .1 .0
 
--- src/walk.rt:240:1
 pub parse-slot-same-length-3 : (t : ℕ) → parse-slot-lts.Need-same-length-3 (
   parse-ref-below t,
   parse-ref.Post,
@@ -130,9 +102,8 @@ pub parse-slot-same-length-3 : (t : ℕ) → parse-slot-lts.Need-same-length-3 (
   place-item-reads.Asked,
   place-item-reads.Learnt,
 ) (parse-slot-at t) parse-slot.Post
-parse-slot-same-length-3 t c = ?
+parse-slot-same-length-3 t c = c .before .before .before .before .before .before .before .before .before .before .before .before .before .parse-ref .kept .1 .1 .1 .1 .1 .1 .0
 
--- src/walk.rt:240:1
 pub parse-slot-same-length-4 : (t : ℕ) → parse-slot-lts.Need-same-length-4 (
   parse-ref-below t,
   parse-ref.Post,
@@ -141,9 +112,8 @@ pub parse-slot-same-length-4 : (t : ℕ) → parse-slot-lts.Need-same-length-4 (
   place-item-reads.Asked,
   place-item-reads.Learnt,
 ) (parse-slot-at t) parse-slot.Post
-parse-slot-same-length-4 t c = ?
+parse-slot-same-length-4 t c = c .before .before .before .before .before .before .before .before .before .before .before .before .before .parse-ref .kept .1 .1 .1 .1 .1 .1 .1 .0
 
--- src/walk.rt:240:1
 pub parse-slot-same-length-5 : (t : ℕ) → parse-slot-lts.Need-same-length-5 (
   parse-ref-below t,
   parse-ref.Post,
@@ -152,9 +122,8 @@ pub parse-slot-same-length-5 : (t : ℕ) → parse-slot-lts.Need-same-length-5 (
   place-item-reads.Asked,
   place-item-reads.Learnt,
 ) (parse-slot-at t) parse-slot.Post
-parse-slot-same-length-5 t c = ?
+parse-slot-same-length-5 t c = c .before .before .before .before .before .before .before .before .before .before .before .before .before .parse-ref .kept .1 .1 .1 .1 .1 .1 .1 .1 .1 .1 .1 .0
 
--- src/walk.rt:240:1
 pub parse-slot-returns : (t : ℕ) → parse-slot-lts.Need-returns (
   parse-ref-below t,
   parse-ref.Post,
@@ -163,9 +132,8 @@ pub parse-slot-returns : (t : ℕ) → parse-slot-lts.Need-returns (
   place-item-reads.Asked,
   place-item-reads.Learnt,
 ) (parse-slot-at t) parse-slot.Post
-parse-slot-returns t c = ?
+parse-slot-returns t c = (slot-no _ _ _ _ _ (seen-no _ (c .before .n .given .1) (c .before .before .before .before .before .before .before .before .before .before .before .before .before .parse-ref .ensures .0)), tt)
 
--- src/walk.rt:240:1
 pub parse-slot-same-length-6 : (t : ℕ) → parse-slot-lts.Need-same-length-6 (
   parse-ref-below t,
   parse-ref.Post,
@@ -174,9 +142,8 @@ pub parse-slot-same-length-6 : (t : ℕ) → parse-slot-lts.Need-same-length-6 (
   place-item-reads.Asked,
   place-item-reads.Learnt,
 ) (parse-slot-at t) parse-slot.Post
-parse-slot-same-length-6 t c = ?
+parse-slot-same-length-6 t c = c .before .before .before .before .before .before .before .before .place-item .kept .0 ∙ c .before .before .before .before .before .before .before .before .before .before .before .before .before .before .before .before .before .before .before .before .before .before .before .before .before .before .before .parse-ref .kept .1 .1 .1 .1 .0
 
--- src/walk.rt:240:1
 pub parse-slot-same-length-7 : (t : ℕ) → parse-slot-lts.Need-same-length-7 (
   parse-ref-below t,
   parse-ref.Post,
@@ -185,9 +152,8 @@ pub parse-slot-same-length-7 : (t : ℕ) → parse-slot-lts.Need-same-length-7 (
   place-item-reads.Asked,
   place-item-reads.Learnt,
 ) (parse-slot-at t) parse-slot.Post
-parse-slot-same-length-7 t c = ?
+parse-slot-same-length-7 t c = c .before .before .before .before .before .before .before .before .place-item .kept .1 .0 ∙ c .before .before .before .before .before .before .before .before .before .before .before .before .before .before .before .before .before .before .before .before .before .before .before .before .before .before .before .parse-ref .kept .1 .1 .1 .1 .1 .0
 
--- src/walk.rt:240:1
 pub parse-slot-same-length-8 : (t : ℕ) → parse-slot-lts.Need-same-length-8 (
   parse-ref-below t,
   parse-ref.Post,
@@ -196,9 +162,8 @@ pub parse-slot-same-length-8 : (t : ℕ) → parse-slot-lts.Need-same-length-8 (
   place-item-reads.Asked,
   place-item-reads.Learnt,
 ) (parse-slot-at t) parse-slot.Post
-parse-slot-same-length-8 t c = ?
+parse-slot-same-length-8 t c = c .before .before .before .before .before .before .before .before .place-item .kept .1 .1 .0 ∙ c .before .before .before .before .before .before .before .before .before .before .before .before .before .before .before .before .before .before .before .before .before .before .before .before .before .before .before .parse-ref .kept .1 .1 .1 .1 .1 .1 .0
 
--- src/walk.rt:240:1
 pub parse-slot-same-length-9 : (t : ℕ) → parse-slot-lts.Need-same-length-9 (
   parse-ref-below t,
   parse-ref.Post,
@@ -207,9 +172,8 @@ pub parse-slot-same-length-9 : (t : ℕ) → parse-slot-lts.Need-same-length-9 (
   place-item-reads.Asked,
   place-item-reads.Learnt,
 ) (parse-slot-at t) parse-slot.Post
-parse-slot-same-length-9 t c = ?
+parse-slot-same-length-9 t c = c .before .before .before .before .before .before .before .before .before .before .before .before .before .before .before .before .before .before .before .before .before .before .before .before .before .before .before .parse-ref .kept .1 .1 .1 .1 .1 .1 .1 .0
 
--- src/walk.rt:240:1
 pub parse-slot-same-length-10 : (t : ℕ) → parse-slot-lts.Need-same-length-10 (
   parse-ref-below t,
   parse-ref.Post,
@@ -218,9 +182,8 @@ pub parse-slot-same-length-10 : (t : ℕ) → parse-slot-lts.Need-same-length-10
   place-item-reads.Asked,
   place-item-reads.Learnt,
 ) (parse-slot-at t) parse-slot.Post
-parse-slot-same-length-10 t c = ?
+parse-slot-same-length-10 t c = c .before .before .before .before .before .before .before .before .place-item .kept .1 .1 .1 .0 ∙ c .before .before .before .before .before .before .before .before .before .before .before .before .before .before .before .before .before .before .before .before .before .before .before .before .before .before .before .parse-ref .kept .1 .1 .1 .1 .1 .1 .1 .1 .1 .1 .1 .0
 
--- src/walk.rt:240:1
 pub parse-slot-returns-2 : (t : ℕ) → parse-slot-lts.Need-returns-2 (
   parse-ref-below t,
   parse-ref.Post,
@@ -229,4 +192,4 @@ pub parse-slot-returns-2 : (t : ℕ) → parse-slot-lts.Need-returns-2 (
   place-item-reads.Asked,
   place-item-reads.Learnt,
 ) (parse-slot-at t) parse-slot.Post
-parse-slot-returns-2 t c = ?
+parse-slot-returns-2 t c = (slot-got _ _ _ _ _ (seen-got _ (c .before .before .before .before .before .before .before .before .before .before .before .before .before .before .before .x .given .1) (c .before .before .before .before .before .before .before .before .before .before .before .before .before .before .before .before .before .before .before .before .before .before .before .before .before .before .before .parse-ref .ensures .0)) (c .before .before .before .before .before .before .before .before .place-item .ensures .0 _ (lent [] [] [] _ _ _ _) (sym (c .before .before .before .before .before .before .before .before .before .word-bytes .ensures .0))), c .before .before .before .before .before .before .before .before .place-item .ensures .1)
