@@ -1,6 +1,6 @@
 -- What stands before another reference, as data: how the value that follows is held. Assumes nothing: these are definitions.
 use mathlib.Core.Path.{_≡_}
-use Prim.Native.Nat.{ℕ, zero, suc}
+use Prim.Native.Nat.{ℕ, zero, suc, _^_, _<_}
 use Rattle.sheet.specs.Kinds.{nextChunk, alignment, weakPrefix, pointerPrefix, fixedRepeat, fixedRepeatRoot, variableRepeat, variableRepeatRoot}
 use Rattle.tables.specs.declared.values.Ref.the-variants.{Root}
 use Rattle.tables.specs.declared.values.SlotValue.{SlotValue}
@@ -35,6 +35,13 @@ Begins x tag kind a s l (Inner h t) l′ = (r : Reader SlotValue) → (r >>= hel
 Begins x tag kind a s l (Value h i t) l′ = (r : Reader SlotValue) → held h (IsRef (Root i)) (mem t l′) ≡ byHead x r tag kind a (mem s l)
 Begins x tag kind a s l (Refused n q t) l′ = (r : Reader SlotValue) → no n q (mem t l′) ≡ byHead x r tag kind a (mem s l)
 Begins x tag kind a s l Other l′ = Holdless kind × (l′ ≡ l)
+
+-- how a value is held has 32 bits
+abbrev pub HeldSmall : Prefix → Type 0
+HeldSmall (Inner h t) = h < 2 ^ 32
+HeldSmall (Value h i t) = h < 2 ^ 32
+HeldSmall (Refused n q t) = Unit {0}
+HeldSmall Other = Unit {0}
 
 -- a root that is repeated n times
 abbrev pub RepeatsRoot : Input → ℕ → State → Lent → Prefix → Type 0

@@ -13,7 +13,7 @@ ghost use Prim.Native.Nat.{ℕ, _^_, _-_, _<_, _≤_};
 ghost use lib.ListN.{length, getD};
 ghost use Rattle.alloc.specs.Allocation.{nextChunk};
 ghost use Rattle.readers.specs.Views.{Lent, input, mem, seen, valuesIs, countersIs};
-ghost use Rattle.readers.specs.Prefix.{held as heldAs, RepeatsRoot, Begins};
+ghost use Rattle.readers.specs.Prefix.{held as heldAs, RepeatsRoot, Begins, HeldSmall};
 
 // How the value of the next reference is held (0 as it is, 1 weak, n + 2 repeated n times); the same of a root that was read already; a
 // refusal; or a head that is none of these.
@@ -51,6 +51,7 @@ pub fn begin(
 ) -> Prefix
     requires { ⌜ (((i : ℕ) → getD (now cur) i 0 < 2 ^ 32 - 1)) × (a < 65536) ⌝ }
     ensures { λ r. ⌜ ((v tr : List ℕ) (tag : ℕ) (l : Lent) → Begins (input v (now (p .entry)) spaces tr) tag kind a s (countersIs (now (cur .entry)) (now (used .entry)) l) r (countersIs (now (cur .exit)) (now (used .exit)) l)) ⌝ }
+    ensures small { λ r. ⌜ HeldSmall r ⌝ }
 {
     let mut t = s;
     match kind {
@@ -83,8 +84,9 @@ pub fn begin(
 
 // A root that is repeated n times: one plain byte.
 fn repeat_root(p: &[u8], s: State, n: u64) -> Prefix
-    requires { ⌜ n < 2 ^ 32 ⌝ }
+    requires { ⌜ n < 2 ^ 31 ⌝ }
     ensures { λ r. ⌜ ((v tr : List ℕ) (sp : ℕ) (l : Lent) → RepeatsRoot (input v (now (p .entry)) sp tr) n s l r) ⌝ }
+    ensures small { λ r. ⌜ HeldSmall r ⌝ }
 {
     match read_byte(p, s) {
         Count::Refused(m, q, t) => Prefix::Refused(m, q, t),

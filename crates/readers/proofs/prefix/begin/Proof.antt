@@ -56,46 +56,46 @@ repeat-root-requires-2 : tie.Need-repeat-root-requires-2
 repeat-root-requires-2 c κs = omega (arith, count-below 1073741824 (c .before .n5 .given .1) (c .before .before .before .read-int2 .ensures .1))
 
 returns : tie.Need-returns
-returns c = λ v tr tag l r. chunk-no _ _ _ _ _ _ (c .before .before .before .before .match .keys1) (count-no _ (c .before .n .given .1) (c .before .before .before .read-byte .ensures .0 v tr _ _))
+returns c = (λ v tr tag l r. chunk-no _ _ _ _ _ _ (c .before .before .before .before .match .keys1) (count-no _ (c .before .n .given .1) (c .before .before .before .read-byte .ensures .0 v tr _ _)), tt)
 
 returns-2 : tie.Need-returns-2
-returns-2 c = λ v tr tag l r. chunk-changed (input v (c .before .before .before .before .before .before .before .before .before .args .p .now) (c .before .before .before .before .before .before .before .before .before .args .spaces) tr) _ _ _ _ (c .before .before .before .before .space .given .0 .0) _ _ (c .before .before .before .before .before .before .before .before .before .args .cur .now) (c .before .before .before .before .before .before .before .before .before .args .used .now) l (c .before .before .before .before .before .before .before .match .keys1) (count-is _ (c .before .before .before .before .space .given .1) (c .before .before .before .before .before .before .read-byte .ensures .0 v tr _ _)) (c .change-chunk .ensures .0) (c .change-chunk .ensures .1)
+returns-2 c = (λ v tr tag l r. chunk-changed (input v (c .before .before .before .before .before .before .before .before .before .args .p .now) (c .before .before .before .before .before .before .before .before .before .args .spaces) tr) _ _ _ _ (c .before .before .before .before .space .given .0 .0) _ _ (c .before .before .before .before .before .before .before .before .before .args .cur .now) (c .before .before .before .before .before .before .before .before .before .args .used .now) l (c .before .before .before .before .before .before .before .match .keys1) (count-is _ (c .before .before .before .before .space .given .1) (c .before .before .before .before .before .before .read-byte .ensures .0 v tr _ _)) (c .change-chunk .ensures .0) (c .change-chunk .ensures .1), search needs)
 
 returns-3 : tie.Need-returns-3
-returns-3 c = λ v tr tag l r. alignment-on _ _ _ _ _ _ (c .match .keys2)
+returns-3 c = (λ v tr tag l r. alignment-on _ _ _ _ _ _ (c .match .keys2), search needs)
 
 returns-4 : tie.Need-returns-4
-returns-4 c = λ v tr tag l r. weak-on _ _ _ _ _ _ (c .match .keys3)
+returns-4 c = (λ v tr tag l r. weak-on _ _ _ _ _ _ (c .match .keys3), search needs)
 
 returns-5 : tie.Need-returns-5
-returns-5 c = λ v tr tag l r. pointer-on _ _ _ _ _ _ (c .match .keys4)
+returns-5 c = (λ v tr tag l r. pointer-on _ _ _ _ _ _ (c .match .keys4), search needs)
 
 returns-6 : tie.Need-returns-6
-returns-6 c = λ v tr tag l r. repeat-on _ _ _ _ _ _ (c .match .keys5)
+returns-6 c = (λ v tr tag l r. repeat-on _ _ _ _ _ _ (c .match .keys5), search needs)
 
 returns-7 : tie.Need-returns-7
-returns-7 c = λ v tr tag l.
+returns-7 c = (λ v tr tag l.
     let a = c .before .before .before .args in
     let l′ = countersIs (a .cur .now) (a .used .now) l in
-    root-begins (input v (a .p .now) (a .spaces) tr) tag (a .kind) (a .a) (a .a) (a .s) (a .s) l′ (c .repeat-root .result) (λ r. root-is _ _ _ _ _ _ (c .before .match .keys6)) (c .repeat-root .ensures v tr (a .spaces) l′)
+    root-begins (input v (a .p .now) (a .spaces) tr) tag (a .kind) (a .a) (a .a) (a .s) (a .s) l′ (c .repeat-root .result) (λ r. root-is _ _ _ _ _ _ (c .before .match .keys6)) (c .repeat-root .ensures .0 v tr (a .spaces) l′), c .repeat-root .ensures .1)
 
 returns-8 : tie.Need-returns-8
-returns-8 c = λ v tr tag l r. count-cut _ _ _ _ _ _ (c .before .before .before .before .match .keys7) (count-no _ (c .before .n2 .given .1) (c .before .before .before .read-int .ensures .0 v tr _ _))
+returns-8 c = (λ v tr tag l r. count-cut _ _ _ _ _ _ (c .before .before .before .before .match .keys7) (count-no _ (c .before .n2 .given .1) (c .before .before .before .read-int .ensures .0 v tr _ _)), tt)
 
 returns-9 : tie.Need-returns-9
-returns-9 c = λ v tr tag l r. count-on _ _ _ _ _ _ (c .before .before .before .before .match .keys7) (count-is _ (c .before .n3 .given .1) (c .before .before .before .read-int .ensures .0 v tr _ _))
+returns-9 c = (λ v tr tag l r. count-on _ _ _ _ _ _ (c .before .before .before .before .match .keys7) (count-is _ (c .before .n3 .given .1) (c .before .before .before .read-int .ensures .0 v tr _ _)), omega (arith, count-below 1073741824 (c .before .n3 .given .1) (c .before .before .before .read-int .ensures .1)))
 
 returns-10 : tie.Need-returns-10
-returns-10 c = λ v tr tag l r. root-cut _ _ _ _ _ _ (c .before .before .before .before .match .keys8) (count-no _ (c .before .n4 .given .1) (c .before .before .before .read-int2 .ensures .0 v tr _ _))
+returns-10 c = (λ v tr tag l r. root-cut _ _ _ _ _ _ (c .before .before .before .before .match .keys8) (count-no _ (c .before .n4 .given .1) (c .before .before .before .read-int2 .ensures .0 v tr _ _)), tt)
 
 returns-11 : tie.Need-returns-11
-returns-11 c = λ v tr tag l.
+returns-11 c = (λ v tr tag l.
     let a = c .before .before .before .before .before .before .before .args in
     let l′ = countersIs (a .cur .now) (a .used .now) l in
-    root-begins (input v (a .p .now) (a .spaces) tr) tag (a .kind) (a .a) (c .before .before .n5 .given .0 .0 + 18) (a .s) (c .before .before .n5 .given .0 .1 .0) l′ (c .repeat-root2 .result) (λ r. root-counted _ _ _ _ _ _ (c .before .before .before .before .before .match .keys8) (count-is _ (c .before .before .n5 .given .1) (c .before .before .before .before .read-int2 .ensures .0 v tr (a .spaces) l′))) (c .repeat-root2 .ensures v tr (a .spaces) l′)
+    root-begins (input v (a .p .now) (a .spaces) tr) tag (a .kind) (a .a) (c .before .before .n5 .given .0 .0 + 18) (a .s) (c .before .before .n5 .given .0 .1 .0) l′ (c .repeat-root2 .result) (λ r. root-counted _ _ _ _ _ _ (c .before .before .before .before .before .match .keys8) (count-is _ (c .before .before .n5 .given .1) (c .before .before .before .before .read-int2 .ensures .0 v tr (a .spaces) l′))) (c .repeat-root2 .ensures .0 v tr (a .spaces) l′), c .repeat-root2 .ensures .1)
 
 returns-12 : tie.Need-returns-12
-returns-12 c = search needs
+returns-12 c = (λ v tr tag l. search needs, tt)
 
 pub begin-spec : {M : Type 1} → statement M
 begin-spec =

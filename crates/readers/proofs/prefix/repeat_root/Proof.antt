@@ -17,10 +17,10 @@ add-t11 : tie.Need-add-t11
 add-t11 c = search needs
 
 returns : tie.Need-returns
-returns c = λ v tr sp l. root-no _ _ _ (count-no l (c .before .m .given .1) (c .before .before .before .read-byte .ensures .0 v tr sp l))
+returns c = (λ v tr sp l. root-no _ _ _ (count-no l (c .before .m .given .1) (c .before .before .before .read-byte .ensures .0 v tr sp l)), tt)
 
 returns-2 : tie.Need-returns-2
-returns-2 c = λ v tr sp l. root-got _ _ _ (count-is l (c .before .i .given .1) (c .before .before .before .read-byte .ensures .0 v tr sp l))
+returns-2 c = (λ v tr sp l. root-got _ _ _ (count-is l (c .before .i .given .1) (c .before .before .before .read-byte .ensures .0 v tr sp l)), search needs)
 
 pub repeat-root-spec : {M : Type 1} → statement M
 repeat-root-spec =
