@@ -1,3 +1,4 @@
 pub mod ReadyLaws
 pub mod ItemsLaws
 pub mod ObjectLaws
+pub mod ReferenceLaws

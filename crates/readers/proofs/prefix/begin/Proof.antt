@@ -74,10 +74,13 @@ returns-6 : tie.Need-returns-6
 returns-6 c = (λ v tr tag l r. repeat-on _ _ _ _ _ _ (c .match .keys5), search needs)
 
 returns-7 : tie.Need-returns-7
-returns-7 c = (λ v tr tag l.
-    let a = c .before .before .before .args in
-    let l′ = countersIs (a .cur .now) (a .used .now) l in
-    root-begins (input v (a .p .now) (a .spaces) tr) tag (a .kind) (a .a) (a .a) (a .s) (a .s) l′ (c .repeat-root .result) (λ r. root-is _ _ _ _ _ _ (c .before .match .keys6)) (c .repeat-root .ensures .0 v tr (a .spaces) l′), c .repeat-root .ensures .1)
+returns-7 c = (
+  λ v tr tag l.
+      let a = c .before .before .before .args in
+      let l′ = countersIs (a .cur .now) (a .used .now) l in
+      root-begins (input v (a .p .now) (a .spaces) tr) tag (a .kind) (a .a) (a .a) (a .s) (a .s) l′ (c .repeat-root .result) (λ r. root-is _ _ _ _ _ _ (c .before .match .keys6)) (c .repeat-root .ensures .0 v tr (a .spaces) l′),
+  c .repeat-root .ensures .1,
+)
 
 returns-8 : tie.Need-returns-8
 returns-8 c = (λ v tr tag l r. count-cut _ _ _ _ _ _ (c .before .before .before .before .match .keys7) (count-no _ (c .before .n2 .given .1) (c .before .before .before .read-int .ensures .0 v tr _ _)), tt)
@@ -89,10 +92,13 @@ returns-10 : tie.Need-returns-10
 returns-10 c = (λ v tr tag l r. root-cut _ _ _ _ _ _ (c .before .before .before .before .match .keys8) (count-no _ (c .before .n4 .given .1) (c .before .before .before .read-int2 .ensures .0 v tr _ _)), tt)
 
 returns-11 : tie.Need-returns-11
-returns-11 c = (λ v tr tag l.
-    let a = c .before .before .before .before .before .before .before .args in
-    let l′ = countersIs (a .cur .now) (a .used .now) l in
-    root-begins (input v (a .p .now) (a .spaces) tr) tag (a .kind) (a .a) (c .before .before .n5 .given .0 .0 + 18) (a .s) (c .before .before .n5 .given .0 .1 .0) l′ (c .repeat-root2 .result) (λ r. root-counted _ _ _ _ _ _ (c .before .before .before .before .before .match .keys8) (count-is _ (c .before .before .n5 .given .1) (c .before .before .before .before .read-int2 .ensures .0 v tr (a .spaces) l′))) (c .repeat-root2 .ensures .0 v tr (a .spaces) l′), c .repeat-root2 .ensures .1)
+returns-11 c = (
+  λ v tr tag l.
+      let a = c .before .before .before .before .before .before .before .args in
+      let l′ = countersIs (a .cur .now) (a .used .now) l in
+      root-begins (input v (a .p .now) (a .spaces) tr) tag (a .kind) (a .a) (c .before .before .n5 .given .0 .0 + 18) (a .s) (c .before .before .n5 .given .0 .1 .0) l′ (c .repeat-root2 .result) (λ r. root-counted _ _ _ _ _ _ (c .before .before .before .before .before .match .keys8) (count-is _ (c .before .before .n5 .given .1) (c .before .before .before .before .read-int2 .ensures .0 v tr (a .spaces) l′))) (c .repeat-root2 .ensures .0 v tr (a .spaces) l′),
+  c .repeat-root2 .ensures .1,
+)
 
 returns-12 : tie.Need-returns-12
 returns-12 c = (λ v tr tag l. search needs, tt)

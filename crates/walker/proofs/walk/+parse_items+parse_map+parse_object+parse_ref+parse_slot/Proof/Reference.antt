@@ -31,6 +31,9 @@ use Rattle.sheet.proofs.tests.is_tag.Reads as is-tag-reads
 use Rattle.sheet.proofs.usable.word_bytes.Reads as word-bytes-reads
 use Rattle.stream.proofs.bytes.byte.Reads as byte-reads
 use Rattle.stream.proofs.bytes.peek.Reads as peek-reads
+use Rattle.readers.proofs.ViewLaws.{seen-got, seen-no}
+use Rattle.walker.proofs.ReadyLaws.{moved-ready}
+use Rattle.walker.proofs.ReferenceLaws.{ref-deep, ref-end, kind-low, chunks-low, simple-fits, ref-object, space-low, argument-low, other-simple, inner-starts, inner-small, value-small, ref-simple, ref-refused, ref-value, ref-inner-no, ref-inner-got, step-got}
 use Rattle.walker.proofs.walk.+parse_items+parse_map+parse_object+parse_ref+parse_slot.Proof.Common.{μ-parse-items, μ-parse-map, μ-parse-object, μ-parse-ref, μ-parse-slot, parse-items-at, parse-items-below, parse-map-at, parse-map-below, parse-object-at, parse-object-below, parse-ref-at, parse-ref-below, parse-slot-at, parse-slot-below, parse-items-Inv-loop, parse-items-μ-loop}
 
 -- src/walk.rt:60:9
@@ -48,7 +51,7 @@ pub parse-ref-returns : (t : ℕ) → parse-ref-lts.Need-returns (
   parse-ref-below t,
   parse-ref.Post,
 ) (parse-ref-at t) parse-ref.Post
-parse-ref-returns t c = ?
+parse-ref-returns t c = (ref-deep _ _ _ (c .if1 .taken), tt)
 
 -- src/walk.rt:65:9
 pub parse-ref-returns-2 : (t : ℕ) → parse-ref-lts.Need-returns-2 (
@@ -65,7 +68,7 @@ pub parse-ref-returns-2 : (t : ℕ) → parse-ref-lts.Need-returns-2 (
   parse-ref-below t,
   parse-ref.Post,
 ) (parse-ref-at t) parse-ref.Post
-parse-ref-returns-2 t c = ?
+parse-ref-returns-2 t c = (ref-end _ _ _ (c .before .if1 .left) (c .if2 .taken), tt)
 
 -- src/walk.rt:67:13
 pub parse-ref-byte-requires : (t : ℕ) → parse-ref-lts.Need-byte-requires (
@@ -82,7 +85,7 @@ pub parse-ref-byte-requires : (t : ℕ) → parse-ref-lts.Need-byte-requires (
   parse-ref-below t,
   parse-ref.Post,
 ) (parse-ref-at t) parse-ref.Post
-parse-ref-byte-requires t c κs = ?
+parse-ref-byte-requires t c κs = omega arith
 
 -- src/walk.rt:68:16
 pub parse-ref-mul-kind : (t : ℕ) → parse-ref-lts.Need-mul-kind (
@@ -99,7 +102,7 @@ pub parse-ref-mul-kind : (t : ℕ) → parse-ref-lts.Need-mul-kind (
   parse-ref-below t,
   parse-ref.Post,
 ) (parse-ref-at t) parse-ref.Post
-parse-ref-mul-kind t c = ?
+parse-ref-mul-kind t c = search needs
 
 -- src/walk.rt:68:16
 pub parse-ref-element-copy-out-kind : (t : ℕ) → parse-ref-lts.Need-element-copy-out-kind (
@@ -116,7 +119,7 @@ pub parse-ref-element-copy-out-kind : (t : ℕ) → parse-ref-lts.Need-element-c
   parse-ref-below t,
   parse-ref.Post,
 ) (parse-ref-at t) parse-ref.Post
-parse-ref-element-copy-out-kind t c = ?
+parse-ref-element-copy-out-kind t c = search needs
 
 -- src/walk.rt:68:16
 pub parse-ref-cast-kind : (t : ℕ) → parse-ref-lts.Need-cast-kind (
@@ -133,7 +136,7 @@ pub parse-ref-cast-kind : (t : ℕ) → parse-ref-lts.Need-cast-kind (
   parse-ref-below t,
   parse-ref.Post,
 ) (parse-ref-at t) parse-ref.Post
-parse-ref-cast-kind t c = ?
+parse-ref-cast-kind t c = record { fits = kind-low (c .before .before .before .before .before .before .before .before .before .before .before .before .pre .1 .0) _ (c .before .byte .ensures .1) }
 
 -- src/walk.rt:69:15
 pub parse-ref-add-a : (t : ℕ) → parse-ref-lts.Need-add-a (
@@ -150,7 +153,7 @@ pub parse-ref-add-a : (t : ℕ) → parse-ref-lts.Need-add-a (
   parse-ref-below t,
   parse-ref.Post,
 ) (parse-ref-at t) parse-ref.Post
-parse-ref-add-a t c = ?
+parse-ref-add-a t c = search needs
 
 -- src/walk.rt:69:13
 pub parse-ref-mul-a : (t : ℕ) → parse-ref-lts.Need-mul-a (
@@ -167,7 +170,7 @@ pub parse-ref-mul-a : (t : ℕ) → parse-ref-lts.Need-mul-a (
   parse-ref-below t,
   parse-ref.Post,
 ) (parse-ref-at t) parse-ref.Post
-parse-ref-mul-a t c = ?
+parse-ref-mul-a t c = search needs
 
 -- src/walk.rt:69:13
 pub parse-ref-element-copy-out-a : (t : ℕ) → parse-ref-lts.Need-element-copy-out-a (
@@ -184,7 +187,7 @@ pub parse-ref-element-copy-out-a : (t : ℕ) → parse-ref-lts.Need-element-copy
   parse-ref-below t,
   parse-ref.Post,
 ) (parse-ref-at t) parse-ref.Post
-parse-ref-element-copy-out-a t c = ?
+parse-ref-element-copy-out-a t c = search needs
 
 -- src/walk.rt:69:13
 pub parse-ref-cast-a : (t : ℕ) → parse-ref-lts.Need-cast-a (
@@ -201,7 +204,7 @@ pub parse-ref-cast-a : (t : ℕ) → parse-ref-lts.Need-cast-a (
   parse-ref-below t,
   parse-ref.Post,
 ) (parse-ref-at t) parse-ref.Post
-parse-ref-cast-a t c = ?
+parse-ref-cast-a t c = record { fits = omega (arith, argument-low (c .before .before .before .before .before .before .before .before .before .before .before .before .before .pre .1 .0) (c .before .before .before .if2 .left) _ (c .before .before .byte .ensures)) }
 
 -- src/walk.rt:70:12
 pub parse-ref-add-t : (t : ℕ) → parse-ref-lts.Need-add-t (
@@ -218,7 +221,7 @@ pub parse-ref-add-t : (t : ℕ) → parse-ref-lts.Need-add-t (
   parse-ref-below t,
   parse-ref.Post,
 ) (parse-ref-at t) parse-ref.Post
-parse-ref-add-t t c = ?
+parse-ref-add-t t c = search needs
 
 -- src/walk.rt:72:9
 pub parse-ref-parse-object-requires : (t : ℕ) → parse-ref-lts.Need-parse-object-requires (
@@ -235,7 +238,7 @@ pub parse-ref-parse-object-requires : (t : ℕ) → parse-ref-lts.Need-parse-obj
   parse-ref-below t,
   parse-ref.Post,
 ) (parse-ref-at t) parse-ref.Post
-parse-ref-parse-object-requires t c κs = ?
+parse-ref-parse-object-requires t c κs = (omega (arith, c .before .before .before .before .before .before .before .before .before .before .before .before .before .before .before .before .before .before .before .before .before .before .pre .0, c .before .before .before .before .before .before .before .before .before .before .before .before .before .if1 .left), (moved-ready (c .before .before .before .before .before .before .before .before .before .before .before .before .before .before .before .before .before .before .before .before .before .before .pre .1 .0) (c .before .before .before .before .before .before .before .before .before .before .before .before .if2 .left), (c .before .before .before .before .before .before .before .before .before .before .before .before .before .if1 .left, space-low (c .before .before .before .before .before .before .before .before .before .before .before .before .before .before .before .before .before .before .before .before .before .before .pre .1 .0) (c .before .before .before .before .before .before .before .before .before .before .before .before .if2 .left) _ (c .before .before .before .before .before .before .before .before .before .before .before .byte .ensures) (c .before .before .before .before .before .before .before .before .if3 .taken))))
 
 -- src/walk.rt:72:9
 pub parse-ref-same-length : (t : ℕ) → parse-ref-lts.Need-same-length (
@@ -252,7 +255,7 @@ pub parse-ref-same-length : (t : ℕ) → parse-ref-lts.Need-same-length (
   parse-ref-below t,
   parse-ref.Post,
 ) (parse-ref-at t) parse-ref.Post
-parse-ref-same-length t c = ?
+parse-ref-same-length t c = search needs
 
 -- src/walk.rt:72:9
 pub parse-ref-same-length-2 : (t : ℕ) → parse-ref-lts.Need-same-length-2 (
@@ -269,7 +272,7 @@ pub parse-ref-same-length-2 : (t : ℕ) → parse-ref-lts.Need-same-length-2 (
   parse-ref-below t,
   parse-ref.Post,
 ) (parse-ref-at t) parse-ref.Post
-parse-ref-same-length-2 t c = ?
+parse-ref-same-length-2 t c = search needs
 
 -- src/walk.rt:72:9
 pub parse-ref-same-length-3 : (t : ℕ) → parse-ref-lts.Need-same-length-3 (
@@ -286,7 +289,7 @@ pub parse-ref-same-length-3 : (t : ℕ) → parse-ref-lts.Need-same-length-3 (
   parse-ref-below t,
   parse-ref.Post,
 ) (parse-ref-at t) parse-ref.Post
-parse-ref-same-length-3 t c = ?
+parse-ref-same-length-3 t c = search needs
 
 -- src/walk.rt:72:9
 pub parse-ref-same-length-4 : (t : ℕ) → parse-ref-lts.Need-same-length-4 (
@@ -303,7 +306,7 @@ pub parse-ref-same-length-4 : (t : ℕ) → parse-ref-lts.Need-same-length-4 (
   parse-ref-below t,
   parse-ref.Post,
 ) (parse-ref-at t) parse-ref.Post
-parse-ref-same-length-4 t c = ?
+parse-ref-same-length-4 t c = search needs
 
 -- src/walk.rt:72:9
 pub parse-ref-same-length-5 : (t : ℕ) → parse-ref-lts.Need-same-length-5 (
@@ -320,7 +323,7 @@ pub parse-ref-same-length-5 : (t : ℕ) → parse-ref-lts.Need-same-length-5 (
   parse-ref-below t,
   parse-ref.Post,
 ) (parse-ref-at t) parse-ref.Post
-parse-ref-same-length-5 t c = ?
+parse-ref-same-length-5 t c = search needs
 
 -- src/walk.rt:72:9
 pub parse-ref-returns-3 : (t : ℕ) → parse-ref-lts.Need-returns-3 (
@@ -337,7 +340,7 @@ pub parse-ref-returns-3 : (t : ℕ) → parse-ref-lts.Need-returns-3 (
   parse-ref-below t,
   parse-ref.Post,
 ) (parse-ref-at t) parse-ref.Post
-parse-ref-returns-3 t c = ?
+parse-ref-returns-3 t c = let w = ref-object (c .before .before .before .before .before .before .before .before .before .before .before .before .before .before .before .before .before .before .before .before .before .before .before .before .before .before .before .before .before .before .before .before .before .pre .1 .0) (c .before .before .before .before .before .before .before .before .before .before .before .before .before .before .before .before .before .before .before .before .before .before .before .if2 .left) _ (c .before .before .before .before .before .before .before .before .before .before .before .before .before .before .before .before .before .before .before .before .before .before .byte .ensures) _ (c .before .before .before .before .before .before .before .before .before .before .before .before .before .before .before .before .before .before .before .before .before .before .before .before .if1 .left) (c .before .before .before .before .before .before .before .before .before .before .before .before .before .before .before .before .before .before .before .if3 .taken) in (c .before .before .before .before .before .before .before .before .before .before .parse-object .ensures .0 ∙ w, c .before .before .before .before .before .before .before .before .before .before .parse-object .ensures .1)
 
 -- src/walk.rt:74:11
 pub parse-ref-begin-requires : (t : ℕ) → parse-ref-lts.Need-begin-requires (
@@ -354,7 +357,7 @@ pub parse-ref-begin-requires : (t : ℕ) → parse-ref-lts.Need-begin-requires (
   parse-ref-below t,
   parse-ref.Post,
 ) (parse-ref-at t) parse-ref.Post
-parse-ref-begin-requires t c κs = ?
+parse-ref-begin-requires t c κs = (chunks-low (c .before .before .before .before .before .before .before .before .before .before .before .before .before .before .before .before .pre .1 .0), argument-low (c .before .before .before .before .before .before .before .before .before .before .before .before .before .before .before .before .pre .1 .0) (c .before .before .before .before .before .before .if2 .left) _ (c .before .before .before .before .before .byte .ensures))
 
 -- src/walk.rt:75:43
 pub parse-ref-enum-told : (t : ℕ) → parse-ref-lts.Need-enum-told (
@@ -371,7 +374,7 @@ pub parse-ref-enum-told : (t : ℕ) → parse-ref-lts.Need-enum-told (
   parse-ref-below t,
   parse-ref.Post,
 ) (parse-ref-at t) parse-ref.Post
-parse-ref-enum-told t c = ?
+parse-ref-enum-told t c = search needs
 
 -- src/walk.rt:75:26
 pub parse-ref-simple-ref-requires : (t : ℕ) → parse-ref-lts.Need-simple-ref-requires (
@@ -388,7 +391,7 @@ pub parse-ref-simple-ref-requires : (t : ℕ) → parse-ref-lts.Need-simple-ref-
   parse-ref-below t,
   parse-ref.Post,
 ) (parse-ref-at t) parse-ref.Post
-parse-ref-simple-ref-requires t c κs = ?
+parse-ref-simple-ref-requires t c κs = (simple-fits (c .before .before .before .before .before .before .before .before .before .before .before .before .before .before .before .before .before .before .before .before .before .pre .1 .0) (c .before .before .before .before .before .before .before .before .before .before .before .if2 .left), other-simple _ _ _ _ _ (c .before .before .before .before .before .before .before .before .before .before .before .before .before .before .before .before .before .before .before .before .before .pre .1 .0) (c .before .before .before .before .before .before .before .before .before .before .before .if2 .left) _ (c .before .before .before .before .before .before .before .before .before .before .byte .ensures) (c .before .before .before .before .before .before .before .if3 .left) _ _ _ (c .before .before .before .before .begin .ensures .0 _ _ _) (c .before .before .enum-told .given .1))
 
 -- src/walk.rt:76:25
 pub parse-ref-enum-known-n : (t : ℕ) → parse-ref-lts.Need-enum-known-n (
@@ -405,7 +408,7 @@ pub parse-ref-enum-known-n : (t : ℕ) → parse-ref-lts.Need-enum-known-n (
   parse-ref-below t,
   parse-ref.Post,
 ) (parse-ref-at t) parse-ref.Post
-parse-ref-enum-known-n t c = ?
+parse-ref-enum-known-n t c = search needs
 
 -- src/walk.rt:77:23
 pub parse-ref-enum-known-held : (t : ℕ) → parse-ref-lts.Need-enum-known-held (
@@ -422,7 +425,7 @@ pub parse-ref-enum-known-held : (t : ℕ) → parse-ref-lts.Need-enum-known-held
   parse-ref-below t,
   parse-ref.Post,
 ) (parse-ref-at t) parse-ref.Post
-parse-ref-enum-known-held t c = ?
+parse-ref-enum-known-held t c = search needs
 
 -- src/walk.rt:77:38
 pub parse-ref-hold-requires : (t : ℕ) → parse-ref-lts.Need-hold-requires (
@@ -439,7 +442,7 @@ pub parse-ref-hold-requires : (t : ℕ) → parse-ref-lts.Need-hold-requires (
   parse-ref-below t,
   parse-ref.Post,
 ) (parse-ref-at t) parse-ref.Post
-parse-ref-hold-requires t c κs = ?
+parse-ref-hold-requires t c κs = value-small (c .before .before .held .given .1) (c .before .before .before .before .begin .ensures .1)
 
 -- src/walk.rt:78:23
 pub parse-ref-enum-known-held-2 : (t : ℕ) → parse-ref-lts.Need-enum-known-held-2 (
@@ -456,7 +459,7 @@ pub parse-ref-enum-known-held-2 : (t : ℕ) → parse-ref-lts.Need-enum-known-he
   parse-ref-below t,
   parse-ref.Post,
 ) (parse-ref-at t) parse-ref.Post
-parse-ref-enum-known-held-2 t c = ?
+parse-ref-enum-known-held-2 t c = search needs
 
 -- src/walk.rt:79:84
 pub parse-ref-add-parse-ref : (t : ℕ) → parse-ref-lts.Need-add-parse-ref (
@@ -473,7 +476,7 @@ pub parse-ref-add-parse-ref : (t : ℕ) → parse-ref-lts.Need-add-parse-ref (
   parse-ref-below t,
   parse-ref.Post,
 ) (parse-ref-at t) parse-ref.Post
-parse-ref-add-parse-ref t c = ?
+parse-ref-add-parse-ref t c = search needs
 
 -- src/walk.rt:79:17
 pub parse-ref-parse-ref-requires : (t : ℕ) → parse-ref-lts.Need-parse-ref-requires (
@@ -490,7 +493,7 @@ pub parse-ref-parse-ref-requires : (t : ℕ) → parse-ref-lts.Need-parse-ref-re
   parse-ref-below t,
   parse-ref.Post,
 ) (parse-ref-at t) parse-ref.Post
-parse-ref-parse-ref-requires t c κs = ?
+parse-ref-parse-ref-requires t c κs = (omega (arith, c .before .before .before .before .before .before .before .before .before .before .before .before .before .before .before .before .before .before .before .before .before .before .before .before .before .before .before .before .pre .0, c .before .before .before .before .before .before .before .before .before .before .before .before .before .before .before .before .before .before .before .if1 .left), (inner-starts _ _ _ _ _ (c .before .before .before .before .before .before .before .before .before .before .before .before .before .before .before .before .before .before .before .before .before .before .before .before .before .before .before .before .pre .1 .0) (c .before .before .before .before .before .before .before .before .before .before .before .before .before .before .before .before .before .before .if2 .left) _ (c .before .before .before .before .before .before .before .before .before .before .before .before .before .before .before .before .before .byte .ensures) (c .before .before .before .before .before .before .before .before .before .before .before .before .before .before .if3 .left) _ _ _ (c .before .before .before .before .before .before .before .before .before .before .before .begin .ensures .0 _ _ _) (c .before .before .before .before .before .before .before .before .before .held2 .given .1), omega (arith, c .before .before .before .before .before .before .before .before .before .before .before .before .before .before .before .before .before .before .before .if1 .left)))
 
 -- src/walk.rt:81:31
 pub parse-ref-enum-known-inner : (t : ℕ) → parse-ref-lts.Need-enum-known-inner (
@@ -507,7 +510,7 @@ pub parse-ref-enum-known-inner : (t : ℕ) → parse-ref-lts.Need-enum-known-inn
   parse-ref-below t,
   parse-ref.Post,
 ) (parse-ref-at t) parse-ref.Post
-parse-ref-enum-known-inner t c = ?
+parse-ref-enum-known-inner t c = search needs
 
 -- src/walk.rt:82:27
 pub parse-ref-enum-known-inner-2 : (t : ℕ) → parse-ref-lts.Need-enum-known-inner-2 (
@@ -524,7 +527,7 @@ pub parse-ref-enum-known-inner-2 : (t : ℕ) → parse-ref-lts.Need-enum-known-i
   parse-ref-below t,
   parse-ref.Post,
 ) (parse-ref-at t) parse-ref.Post
-parse-ref-enum-known-inner-2 t c = ?
+parse-ref-enum-known-inner-2 t c = search needs
 
 -- src/walk.rt:82:36
 pub parse-ref-hold-requires-2 : (t : ℕ) → parse-ref-lts.Need-hold-requires-2 (
@@ -541,7 +544,7 @@ pub parse-ref-hold-requires-2 : (t : ℕ) → parse-ref-lts.Need-hold-requires-2
   parse-ref-below t,
   parse-ref.Post,
 ) (parse-ref-at t) parse-ref.Post
-parse-ref-hold-requires-2 t c κs = ?
+parse-ref-hold-requires-2 t c κs = inner-small (c .before .before .before .before .before .before .before .before .before .before .before .before .before .before .before .before .before .before .before .before .before .before .before .before .held2 .given .1) (c .before .before .before .before .before .before .before .before .before .before .before .before .before .before .before .before .before .before .before .before .before .before .before .before .before .before .begin .ensures .1)
 
 -- src/walk.rt:36:1
 pub parse-ref-same-length-6 : (t : ℕ) → parse-ref-lts.Need-same-length-6 (
@@ -558,7 +561,7 @@ pub parse-ref-same-length-6 : (t : ℕ) → parse-ref-lts.Need-same-length-6 (
   parse-ref-below t,
   parse-ref.Post,
 ) (parse-ref-at t) parse-ref.Post
-parse-ref-same-length-6 t c = ?
+parse-ref-same-length-6 t c = search needs
 
 -- src/walk.rt:36:1
 pub parse-ref-returns-4 : (t : ℕ) → parse-ref-lts.Need-returns-4 (
@@ -575,7 +578,7 @@ pub parse-ref-returns-4 : (t : ℕ) → parse-ref-lts.Need-returns-4 (
   parse-ref-below t,
   parse-ref.Post,
 ) (parse-ref-at t) parse-ref.Post
-parse-ref-returns-4 t c = ?
+parse-ref-returns-4 t c = ref-simple _ _ _ _ _ (c .before .before .before .before .before .before .before .before .before .before .before .before .before .before .before .before .before .before .before .before .before .before .pre .1 .0) (c .before .before .before .before .before .before .before .before .before .before .before .before .if2 .left) _ (c .before .before .before .before .before .before .before .before .before .before .before .byte .ensures) (c .before .before .before .before .before .before .before .before .if3 .left) _ _ _ (c .before .before .before .before .before .begin .ensures .0 _ _ _) _ (c .before .before .before .before .before .before .before .before .before .before .before .before .before .if1 .left) (c .simple-ref .result) _ (c .before .before .before .enum-told .given .1) (c .simple-ref .ensures _ _)
 
 -- src/walk.rt:36:1
 pub parse-ref-returns-5 : (t : ℕ) → parse-ref-lts.Need-returns-5 (
@@ -592,7 +595,7 @@ pub parse-ref-returns-5 : (t : ℕ) → parse-ref-lts.Need-returns-5 (
   parse-ref-below t,
   parse-ref.Post,
 ) (parse-ref-at t) parse-ref.Post
-parse-ref-returns-5 t c = ?
+parse-ref-returns-5 t c = (ref-refused _ _ _ _ _ (c .before .before .before .before .before .before .before .before .before .before .before .before .before .before .before .before .before .before .before .before .pre .1 .0) (c .before .before .before .before .before .before .before .before .before .before .if2 .left) _ (c .before .before .before .before .before .before .before .before .before .byte .ensures) (c .before .before .before .before .before .before .if3 .left) _ _ _ (c .before .before .before .begin .ensures .0 _ _ _) _ (c .before .before .before .before .before .before .before .before .before .before .before .if1 .left) (c .before .n .given .1), tt)
 
 -- src/walk.rt:36:1
 pub parse-ref-same-length-7 : (t : ℕ) → parse-ref-lts.Need-same-length-7 (
@@ -609,7 +612,7 @@ pub parse-ref-same-length-7 : (t : ℕ) → parse-ref-lts.Need-same-length-7 (
   parse-ref-below t,
   parse-ref.Post,
 ) (parse-ref-at t) parse-ref.Post
-parse-ref-same-length-7 t c = ?
+parse-ref-same-length-7 t c = search needs
 
 -- src/walk.rt:36:1
 pub parse-ref-returns-6 : (t : ℕ) → parse-ref-lts.Need-returns-6 (
@@ -626,7 +629,7 @@ pub parse-ref-returns-6 : (t : ℕ) → parse-ref-lts.Need-returns-6 (
   parse-ref-below t,
   parse-ref.Post,
 ) (parse-ref-at t) parse-ref.Post
-parse-ref-returns-6 t c = ?
+parse-ref-returns-6 t c = ref-value _ _ _ _ _ (c .before .before .before .before .before .before .before .before .before .before .before .before .before .before .before .before .before .before .before .before .before .before .before .before .pre .1 .0) (c .before .before .before .before .before .before .before .before .before .before .before .before .before .before .if2 .left) _ (c .before .before .before .before .before .before .before .before .before .before .before .before .before .byte .ensures) (c .before .before .before .before .before .before .before .before .before .before .if3 .left) _ _ _ (c .before .before .before .before .before .before .before .begin .ensures .0 _ _ _) _ (c .before .before .before .before .before .before .before .before .before .before .before .before .before .before .before .if1 .left) (c .before .before .hold .result) _ (c .before .before .before .before .before .held .given .1) (c .before .before .hold .ensures)
 
 -- src/walk.rt:36:1
 pub parse-ref-same-length-8 : (t : ℕ) → parse-ref-lts.Need-same-length-8 (
@@ -643,7 +646,7 @@ pub parse-ref-same-length-8 : (t : ℕ) → parse-ref-lts.Need-same-length-8 (
   parse-ref-below t,
   parse-ref.Post,
 ) (parse-ref-at t) parse-ref.Post
-parse-ref-same-length-8 t c = ?
+parse-ref-same-length-8 t c = search needs
 
 -- src/walk.rt:36:1
 pub parse-ref-same-length-9 : (t : ℕ) → parse-ref-lts.Need-same-length-9 (
@@ -660,7 +663,7 @@ pub parse-ref-same-length-9 : (t : ℕ) → parse-ref-lts.Need-same-length-9 (
   parse-ref-below t,
   parse-ref.Post,
 ) (parse-ref-at t) parse-ref.Post
-parse-ref-same-length-9 t c = ?
+parse-ref-same-length-9 t c = search needs
 
 -- src/walk.rt:36:1
 pub parse-ref-same-length-10 : (t : ℕ) → parse-ref-lts.Need-same-length-10 (
@@ -677,7 +680,7 @@ pub parse-ref-same-length-10 : (t : ℕ) → parse-ref-lts.Need-same-length-10 (
   parse-ref-below t,
   parse-ref.Post,
 ) (parse-ref-at t) parse-ref.Post
-parse-ref-same-length-10 t c = ?
+parse-ref-same-length-10 t c = search needs
 
 -- src/walk.rt:36:1
 pub parse-ref-same-length-11 : (t : ℕ) → parse-ref-lts.Need-same-length-11 (
@@ -694,7 +697,7 @@ pub parse-ref-same-length-11 : (t : ℕ) → parse-ref-lts.Need-same-length-11 (
   parse-ref-below t,
   parse-ref.Post,
 ) (parse-ref-at t) parse-ref.Post
-parse-ref-same-length-11 t c = ?
+parse-ref-same-length-11 t c = search needs
 
 -- src/walk.rt:36:1
 pub parse-ref-same-length-12 : (t : ℕ) → parse-ref-lts.Need-same-length-12 (
@@ -711,7 +714,7 @@ pub parse-ref-same-length-12 : (t : ℕ) → parse-ref-lts.Need-same-length-12 (
   parse-ref-below t,
   parse-ref.Post,
 ) (parse-ref-at t) parse-ref.Post
-parse-ref-same-length-12 t c = ?
+parse-ref-same-length-12 t c = search needs
 
 -- src/walk.rt:36:1
 pub parse-ref-returns-7 : (t : ℕ) → parse-ref-lts.Need-returns-7 (
@@ -728,7 +731,7 @@ pub parse-ref-returns-7 : (t : ℕ) → parse-ref-lts.Need-returns-7 (
   parse-ref-below t,
   parse-ref.Post,
 ) (parse-ref-at t) parse-ref.Post
-parse-ref-returns-7 t c = ?
+parse-ref-returns-7 t c = (ref-inner-no _ _ _ _ _ (c .before .before .before .before .before .before .before .before .before .before .before .before .before .before .before .before .before .before .before .before .before .before .before .before .before .before .before .before .before .before .before .before .before .before .before .before .before .before .before .before .before .before .pre .1 .0) (c .before .before .before .before .before .before .before .before .before .before .before .before .before .before .before .before .before .before .before .before .before .before .before .before .before .before .before .before .before .before .before .before .if2 .left) _ (c .before .before .before .before .before .before .before .before .before .before .before .before .before .before .before .before .before .before .before .before .before .before .before .before .before .before .before .before .before .before .before .byte .ensures) (c .before .before .before .before .before .before .before .before .before .before .before .before .before .before .before .before .before .before .before .before .before .before .before .before .before .before .before .before .if3 .left) _ _ _ (c .before .before .before .before .before .before .before .before .before .before .before .before .before .before .before .before .before .before .before .before .before .before .before .before .before .begin .ensures .0 _ _ _) _ (c .before .before .before .before .before .before .before .before .before .before .before .before .before .before .before .before .before .before .before .before .before .before .before .before .before .before .before .before .before .before .before .before .before .if1 .left) (c .before .before .before .before .before .before .before .before .before .before .before .before .before .before .before .before .before .before .before .before .before .before .before .held2 .given .1) (seen-no _ (c .before .inner .given .1) (c .before .before .before .before .before .before .before .before .before .before .before .before .before .parse-ref .ensures .0)), tt)
 
 -- src/walk.rt:36:1
 pub parse-ref-same-length-13 : (t : ℕ) → parse-ref-lts.Need-same-length-13 (
@@ -745,7 +748,7 @@ pub parse-ref-same-length-13 : (t : ℕ) → parse-ref-lts.Need-same-length-13 (
   parse-ref-below t,
   parse-ref.Post,
 ) (parse-ref-at t) parse-ref.Post
-parse-ref-same-length-13 t c = ?
+parse-ref-same-length-13 t c = search needs
 
 -- src/walk.rt:36:1
 pub parse-ref-same-length-14 : (t : ℕ) → parse-ref-lts.Need-same-length-14 (
@@ -762,7 +765,7 @@ pub parse-ref-same-length-14 : (t : ℕ) → parse-ref-lts.Need-same-length-14 (
   parse-ref-below t,
   parse-ref.Post,
 ) (parse-ref-at t) parse-ref.Post
-parse-ref-same-length-14 t c = ?
+parse-ref-same-length-14 t c = search needs
 
 -- src/walk.rt:36:1
 pub parse-ref-same-length-15 : (t : ℕ) → parse-ref-lts.Need-same-length-15 (
@@ -779,7 +782,7 @@ pub parse-ref-same-length-15 : (t : ℕ) → parse-ref-lts.Need-same-length-15 (
   parse-ref-below t,
   parse-ref.Post,
 ) (parse-ref-at t) parse-ref.Post
-parse-ref-same-length-15 t c = ?
+parse-ref-same-length-15 t c = search needs
 
 -- src/walk.rt:36:1
 pub parse-ref-same-length-16 : (t : ℕ) → parse-ref-lts.Need-same-length-16 (
@@ -796,7 +799,7 @@ pub parse-ref-same-length-16 : (t : ℕ) → parse-ref-lts.Need-same-length-16 (
   parse-ref-below t,
   parse-ref.Post,
 ) (parse-ref-at t) parse-ref.Post
-parse-ref-same-length-16 t c = ?
+parse-ref-same-length-16 t c = search needs
 
 -- src/walk.rt:36:1
 pub parse-ref-same-length-17 : (t : ℕ) → parse-ref-lts.Need-same-length-17 (
@@ -813,7 +816,7 @@ pub parse-ref-same-length-17 : (t : ℕ) → parse-ref-lts.Need-same-length-17 (
   parse-ref-below t,
   parse-ref.Post,
 ) (parse-ref-at t) parse-ref.Post
-parse-ref-same-length-17 t c = ?
+parse-ref-same-length-17 t c = search needs
 
 -- src/walk.rt:36:1
 pub parse-ref-returns-8 : (t : ℕ) → parse-ref-lts.Need-returns-8 (
@@ -830,4 +833,4 @@ pub parse-ref-returns-8 : (t : ℕ) → parse-ref-lts.Need-returns-8 (
   parse-ref-below t,
   parse-ref.Post,
 ) (parse-ref-at t) parse-ref.Post
-parse-ref-returns-8 t c = ?
+parse-ref-returns-8 t c = ref-inner-got _ _ _ _ _ (c .before .before .before .before .before .before .before .before .before .before .before .before .before .before .before .before .before .before .before .before .before .before .before .before .before .before .before .before .before .before .before .before .before .before .before .before .before .before .before .before .before .before .before .before .before .before .pre .1 .0) (c .before .before .before .before .before .before .before .before .before .before .before .before .before .before .before .before .before .before .before .before .before .before .before .before .before .before .before .before .before .before .before .before .before .before .before .before .if2 .left) _ (c .before .before .before .before .before .before .before .before .before .before .before .before .before .before .before .before .before .before .before .before .before .before .before .before .before .before .before .before .before .before .before .before .before .before .before .byte .ensures) (c .before .before .before .before .before .before .before .before .before .before .before .before .before .before .before .before .before .before .before .before .before .before .before .before .before .before .before .before .before .before .before .before .if3 .left) _ _ _ (c .before .before .before .before .before .before .before .before .before .before .before .before .before .before .before .before .before .before .before .before .before .before .before .before .before .before .before .before .before .begin .ensures .0 _ _ _) _ (c .before .before .before .before .before .before .before .before .before .before .before .before .before .before .before .before .before .before .before .before .before .before .before .before .before .before .before .before .before .before .before .before .before .before .before .before .before .if1 .left) (c .before .before .before .before .before .before .before .before .before .before .before .before .before .before .before .before .before .before .before .before .before .before .before .before .before .before .before .held2 .given .1) (c .before .before .hold2 .result) _ _ _ (seen-got _ (c .before .before .before .before .before .inner2 .given .1) (c .before .before .before .before .before .before .before .before .before .before .before .before .before .before .before .before .before .parse-ref .ensures .0)) (step-got _ _ (c .before .before .before .before .before .inner2 .given .1) (c .before .before .before .before .before .before .before .before .before .before .before .before .before .before .before .before .before .parse-ref .ensures .1)) (c .before .before .hold2 .ensures)
