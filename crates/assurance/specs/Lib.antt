@@ -38,3 +38,4 @@ pub mod Agree
 pub mod Padding
 pub mod Prefix
 pub mod Guarantee
+pub mod Refusals

@@ -137,11 +137,11 @@ module _ {x : Input} (g : Proper x) where
   ordered m T f (got a m′) h = (h .0 .has, f a m′ (h .1))
   ordered m T f (no n q m′) h = h .1 .has
 
-  orders : {A : Type 0} {m : Mem} {T : A → List Frame} {P Q : A → Mem → Type 0} {o : Out A} → Ends x Numbers m T P o → ((a : A) (m′ : Mem) → P a m′ → Q a m′) → Ordered Q o
+  pub orders : {A : Type 0} {m : Mem} {T : A → List Frame} {P Q : A → Mem → Type 0} {o : Out A} → Ends x Numbers m T P o → ((a : A) (m′ : Mem) → P a m′ → Q a m′) → Ordered Q o
   orders {m = m} {T} {o = o} e f = ordered m T f o (e .result)
 
   module _ (m : Mem) (s : Sound x m) (c : Counted m) (n : Numbered m) where
-    good : (S : List Frame) → Listed S (m .objects .count) → Good x Numbers S m m
+    pub good : (S : List Frame) → Listed S (m .objects .count) → Good x Numbers S m m
     good S l = record { kept = record { sound = s; counted = c; onward = omega arith }; has = n; listed = l }
 
     pub ref-numbered : (k : ℕ) → Ordered (λ v m′. FreshValue m′ v) (refAt x k m)

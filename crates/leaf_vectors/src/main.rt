@@ -15,6 +15,7 @@ use stream::smi::decode_smi_bytes;
 use tables::records::add_slot;
 use tables::values::Raw;
 use tables::values::SlotValue;
+use tables::values::fields_of;
 use tables::view::View;
 use tables::view::raw_range;
 
@@ -213,13 +214,13 @@ fn views() {
         len: 3,
         advances: true,
     });
-    add_slot(&mut slots, 0, 0, 1, whole, 0);
+    add_slot(&mut slots, 0, 0, 1, fields_of(whole), 0);
     let long = SlotValue::Raw(Raw {
         off: 2,
         len: 3,
         advances: true,
     });
-    add_slot(&mut slots, 1, 0, 2, long, 0);
+    add_slot(&mut slots, 1, 0, 2, fields_of(long), 0);
     show_view(&payload, &slots, 0);
     show_view(&payload, &slots, 1);
     show_view(&payload, &slots, 2);

@@ -16,7 +16,7 @@ use Rattle.tables.specs.declared.values.Fields.{Fields}
 use Rattle.tables.specs.Values.{fieldsOf, widthOf}
 use Rattle.tables.specs.Records.{room, field, slotRow, valueRow, written, Put}
 use Rattle.definition.specs.Memory.{Input, Kept, Table, table, Mem, Out, got, no, word, choose, refuse, append, hasRoom}
-use Rattle.definition.specs.Slots.{addValue, addSlot, waiter, waitsOf, keepItem, previous, repeatPrevious, placeItem}
+use Rattle.definition.specs.Slots.{addValue, counted, addSlot, waiter, waitsOf, keepItem, previous, repeatPrevious, placeItem}
 use Rattle.readers.specs.declared.state.State.{State}
 use Rattle.readers.specs.declared.state.Count.{Count}
 use Rattle.readers.specs.declared.state.Count.the-variants.{Is, Refused as CountRefused}
@@ -33,15 +33,15 @@ abbrev pub grown : ℕ → State → State
 grown waits s =
     record { at = s .at; objects = s .objects; slots = s .slots + 1; values = s .values; addresses = s .addresses; pending = s .pending; waiting = s .waiting + waits; skip = s .skip; alignment = s .alignment }
 
-module _ (s : State) (o index : ℕ) (v : SlotValue) (waits : ℕ) (st : List ℕ) {r : Bool} {st′ : List ℕ} (q : Put st (s .slots) (slotRow o index (fieldsOf v) waits) r st′) where
-  pub push-full : r ≡ false → (ot : List ℕ) (l : Lent) → no 3 (s .at) (mem s (objectsIs ot (slotsIs st′ l))) ≡ slotOf o index v waits (mem s (objectsIs ot (slotsIs st l)))
+module _ (s : State) (o index : ℕ) (f : Fields) (waits : ℕ) (st : List ℕ) {r : Bool} {st′ : List ℕ} (q : Put st (s .slots) (slotRow o index f waits) r st′) where
+  pub push-full : r ≡ false → (ot : List ℕ) (l : Lent) → no 3 (s .at) (mem s (objectsIs ot (slotsIs st′ l))) ≡ slotOf o index f waits (mem s (objectsIs ot (slotsIs st l)))
   unfolding addSlot
   push-full e ot l = let h : ltb (s .slots) (room 6 st) ≡ false = sym (q .roomy) ∙ e in rw (q .table, h)
 
   pub push-room : r ≡ true → s .slots < room 6 st
   push-room e = ltb-true (s .slots) (room 6 st) (sym (q .roomy) ∙ e)
 
-  pub push-done : r ≡ true → (ot : List ℕ) {ot′ : List ℕ} → ot′ ≡ set ot (o * 4 + 3) (field 4 ot o 3 + 1) → (l : Lent) → got (s .slots) (mem (grown waits s) (objectsIs ot′ (slotsIs st′ l))) ≡ slotOf o index v waits (mem s (objectsIs ot (slotsIs st l)))
+  pub push-done : r ≡ true → (ot : List ℕ) {ot′ : List ℕ} → ot′ ≡ set ot (o * 4 + 3) (field 4 ot o 3 + 1) → (l : Lent) → got (s .slots) (mem (grown waits s) (objectsIs ot′ (slotsIs st′ l))) ≡ slotOf o index f waits (mem s (objectsIs ot (slotsIs st l)))
   unfolding addSlot
   push-done e ot g l = let h : ltb (s .slots) (room 6 st) ≡ true = sym (q .roomy) ∙ e in rw (q .table, h, g)
 
@@ -51,6 +51,7 @@ pub record Added (o index : ℕ) (v : Fields) (waits : ℕ) (m : Mem) (k : ℕ) 
   pub rows-are : m′ .slots .rows ≡ written (m .slots .rows) (m .slots .count) (slotRow o index v waits)
   pub count-is : m′ .slots .count ≡ m .slots .count + 1
   pub waiting-is : m′ .waiting ≡ m .waiting + waits
+  pub objects-are : m′ .objects ≡ counted o (m .objects)
   pub number-is : k ≡ m .slots .count
 
 -- a record that was appended
@@ -71,6 +72,7 @@ slot-added o index v waits kept m e =
       rows-are = ap (λ (m : Mem). m .slots .rows) (d .2);
       count-is = ap (λ (m : Mem). m .slots .count) (d .2);
       waiting-is = ap (λ (m : Mem). m .waiting) (d .2);
+      objects-are = ap (λ (m : Mem). m .objects) (d .2);
       number-is = d .1;
     }
 
@@ -107,7 +109,7 @@ unskipped s =
     record { at = s .at; objects = s .objects; slots = s .slots; values = s .values; addresses = s .addresses; pending = s .pending; waiting = s .waiting; skip = 0; alignment = s .alignment }
 
 -- an item that becomes a slot, from what the slot record's reader answered
-module _ (s : State) (o done ts : ℕ) (v : SlotValue) (waits : ℕ) (ot st ot′ st′ : List ℕ) {r : Count} (h : (l : Lent) → seenCount r (objectsIs ot′ (slotsIs st′ l)) ≡ slotOf o ((done + s .skip) / ts) v waits (mem s (objectsIs ot (slotsIs st l)))) (w : waits ≡ waitsOf v) where
+module _ (s : State) (o done ts : ℕ) (v : SlotValue) (waits : ℕ) (ot st ot′ st′ : List ℕ) {r : Count} (h : (l : Lent) → seenCount r (objectsIs ot′ (slotsIs st′ l)) ≡ slotOf o ((done + s .skip) / ts) (fieldsOf v) waits (mem s (objectsIs ot (slotsIs st l)))) (w : waits ≡ waitsOf v) where
   pub keep-no : {n q : ℕ} {t : State} → r ≡ CountRefused n q t → (x : Input) (l : Lent) → word x ≡ ts → no n q (mem t (objectsIs ot′ (slotsIs st′ l))) ≡ keepItem x o done v (mem s (objectsIs ot (slotsIs st l)))
   unfolding keepItem
   keep-no g x l e = rw (e, ← w, ← count-no (objectsIs ot′ (slotsIs st′ l)) g (h l))
@@ -129,7 +131,7 @@ tag-waits (WeakRef k) h = refl
 tag-waits (PendingRef n) h = absurd (miss (0 ∷ 1 ∷ 2 ∷ 3 ∷ 4 ∷ 5 ∷ 6 ∷ 7 ∷ []) 8 tt h)
 
 -- after a slot record was added: its number has room, and the index is right
-module _ (s : State) (o index : ℕ) (v : SlotValue) (waits : ℕ) (ot st ot′ st′ : List ℕ) {r : Count} (h : (l : Lent) → seenCount r (objectsIs ot′ (slotsIs st′ l)) ≡ slotOf o index v waits (mem s (objectsIs ot (slotsIs st l)))) {k : ℕ} {t : State} (g : r ≡ Is k t) where
+module _ (s : State) (o index : ℕ) (v : SlotValue) (waits : ℕ) (ot st ot′ st′ : List ℕ) {r : Count} (h : (l : Lent) → seenCount r (objectsIs ot′ (slotsIs st′ l)) ≡ slotOf o index (fieldsOf v) waits (mem s (objectsIs ot (slotsIs st l)))) {k : ℕ} {t : State} (g : r ≡ Is k t) where
   kept : Added o index (fieldsOf v) waits (mem s (objectsIs ot (slotsIs st nothing))) k (mem t (objectsIs ot′ (slotsIs st′ nothing)))
   kept = slot-added o index (fieldsOf v) waits _ (mem s (objectsIs ot (slotsIs st nothing))) (count-is (objectsIs ot′ (slotsIs st′ nothing)) g (h nothing))
 

@@ -17,6 +17,7 @@ use Rattle.tables.specs.declared.values.Ref.{Ref}
 use Rattle.tables.specs.declared.values.Ref.the-variants.{Object, Root, RoRef, Attached}
 use Rattle.tables.specs.declared.values.SlotValue.{SlotValue}
 use Rattle.tables.specs.declared.values.SlotValue.the-variants.{Ref as IsRef, Repeat, RepeatPrev, Skip, StreamBytes, Raw, ClearedWeak, WeakRef, PendingRef}
+use Rattle.tables.specs.declared.values.Fields.{Fields}
 use Rattle.tables.specs.Values.{fieldsOf}
 use Rattle.stream.specs.Bytes.{peekAt}
 use Rattle.stream.proofs.ByteLaws.{peek-end}
@@ -237,15 +238,15 @@ chosen true f g h m e = e
 chosen false f g h m e = refl
 
 -- nobody is told where the map is kept
-map-slot : (o index : ℕ) (v : SlotValue) (waits : ℕ) (s : State) (l : Lent) → slotOf o index v waits (mem s l) ≡ addSlot o index (fieldsOf v) waits inMap (mem s l)
+map-slot : (o index : ℕ) (f : Fields) (waits : ℕ) (s : State) (l : Lent) → slotOf o index f waits (mem s l) ≡ addSlot o index f waits inMap (mem s l)
 unfolding addSlot
-map-slot o index v waits s l = chosen (hasRoom 6 (mem s l .slots)) _ _ _ (mem s l) refl
+map-slot o index f waits s l = chosen (hasRoom 6 (mem s l .slots)) _ _ _ (mem s l) refl
 
 module _ (x : Input) (o : ℕ) (v : SlotValue) (s : State) (l : Lent) (m : Mem) (e : got tt (mem s l) ≡ flagObject x o v m) where
-  pub keep-no : {n q : ℕ} {m′ : Mem} → no n q m′ ≡ slotOf o 0 v 0 (mem s l) → no n q m′ ≡ mapKept x o v m
+  pub keep-no : {n q : ℕ} {m′ : Mem} → no n q m′ ≡ slotOf o 0 (fieldsOf v) 0 (mem s l) → no n q m′ ≡ mapKept x o v m
   unfolding keepMap
-  keep-no h = rw (← e, ← map-slot o 0 v 0 s l, ← h)
+  keep-no h = rw (← e, ← map-slot o 0 (fieldsOf v) 0 s l, ← h)
 
-  pub keep-got : {k : ℕ} (t : State) (l′ : Lent) → got k (mem t l′) ≡ slotOf o 0 v 0 (mem s l) → got tt (mem t l′) ≡ mapKept x o v m
+  pub keep-got : {k : ℕ} (t : State) (l′ : Lent) → got k (mem t l′) ≡ slotOf o 0 (fieldsOf v) 0 (mem s l) → got tt (mem t l′) ≡ mapKept x o v m
   unfolding keepMap
-  keep-got t l′ h = rw (← e, ← map-slot o 0 v 0 s l, ← h)
+  keep-got t l′ h = rw (← e, ← map-slot o 0 (fieldsOf v) 0 s l, ← h)

@@ -3,9 +3,11 @@ use crate::pending::note;
 use crate::state::Count;
 use crate::state::State;
 use tables::records::add_slot;
+use tables::records::count_slot;
 use tables::records::put;
-use tables::records::set_slot_count;
+use tables::values::Fields;
 use tables::values::SlotValue;
+use tables::values::fields_of;
 use tables::values::width;
 ghost use mathlib.Core.Path.{_≡_};
 ghost use Prim.Native.Nat.{_+_, _^_, _<_, _≤_};
@@ -17,26 +19,25 @@ ghost use Rattle.readers.specs.Views.{Lent, mem, seenCount, objectsIs, s
 ghost use Rattle.readers.specs.Index.{Indexed, Single, Fresh, CountIndexed};
 ghost use Rattle.readers.specs.Item.{slotOf};
 
-// A slot record of object o, if there is room, and the object's slot count with it: whether there was room, as 0 or refusal 3.
+// A slot record of object o, if there is room, and the object's slot count with it: the record's number, or refusal 3.
 pub fn push_slot(
     objects: &mut [u64],
     slots: &mut [u64],
     s: State,
-    o: usize,
+    o: u64,
     index: u64,
-    v: SlotValue,
+    f: Fields,
     waits: u64,
 ) -> Count
-    requires { ⌜ (o < room 4 (now objects)) × (field 4 (now objects) o 3 < 2 ^ 63) × (s .waiting < 2 ^ 63) × (waits ≤ 1) ⌝ }
-    ensures { λ r. ⌜ ((l : Lent) → seenCount r (objectsIs (now (objects .exit)) (slotsIs (now (slots .exit)) l)) ≡ slotOf o index v waits (mem s (objectsIs (now (objects .entry)) (slotsIs (now (slots .entry)) l)))) ⌝ }
+    requires { ⌜ (field 4 (now objects) o 3 < 2 ^ 63) × (s .waiting < 2 ^ 63) × (waits ≤ 1) ⌝ }
+    ensures { λ r. ⌜ ((l : Lent) → seenCount r (objectsIs (now (objects .exit)) (slotsIs (now (slots .exit)) l)) ≡ slotOf o index f waits (mem s (objectsIs (now (objects .entry)) (slotsIs (now (slots .entry)) l)))) ⌝ }
 {
     let n = s.slots;
     let at = s.at;
-    if !add_slot(slots, n, o as u64, index, v, waits) {
+    if !add_slot(slots, n, o, index, f, waits) {
         return Count::Refused(3, at, s);
     }
-    let count = objects[o * 4 + 3] + 1;
-    set_slot_count(objects, o, count);
+    count_slot(objects, o);
     let mut t = s;
     t.slots = n + 1;
     t.waiting = s.waiting + waits;
@@ -79,7 +80,15 @@ fn keep_item(
     let start = done + s.skip;
     let end = start + width(v, word);
     let waits = waits_of(v);
-    match push_slot(objects, slots, s, o, start / word, v, waits) {
+    match push_slot(
+        objects,
+        slots,
+        s,
+        o as u64,
+        start / word,
+        fields_of(v),
+        waits,
+    ) {
         Count::Refused(n, q, t) => Count::Refused(n, q, t),
         Count::Is(k, t) => {
             if let SlotValue::PendingRef(number) = v {

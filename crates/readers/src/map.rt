@@ -16,6 +16,7 @@ use stream::bytes::peek;
 use tables::records::set_raw_len;
 use tables::values::Ref;
 use tables::values::SlotValue;
+use tables::values::fields_of;
 ghost use mathlib.Core.Bool.{true};
 ghost use mathlib.Core.Path.{_≡_};
 ghost use mathlib.Core.List.{List};
@@ -166,7 +167,7 @@ pub fn keep_map(
     if is_flagged(trusted, v) {
         set_raw_len(objects, o);
     }
-    match push_slot(objects, slots, s, o, 0, v, 0) {
+    match push_slot(objects, slots, s, o as u64, 0, fields_of(v), 0) {
         Count::Refused(n, q, t) => Went::Refused(n, q, t),
         Count::Is(_, t) => Went::On(t),
     }

@@ -74,7 +74,7 @@ fn hot_ref(hot: &[u64; 25], s: State, place: u64) -> Step
 }
 
 // A legacy back-reference to a space.
-fn legacy_ref(
+pub fn legacy_ref(
     sheet: &[u16],
     p: &[u8],
     addresses: &[u64],

@@ -10,7 +10,7 @@ use mir.Syntax.{w64}
 use mir.Val.{Fits}
 use borrow.Author.Tests.{lt-ltb, le-ltb, le-leb, lt-leb, ne-eqb, leb-true, eqb-true, not-true, not-false}
 use lib.Dec.{leb, ltb, eqb}
-use lib.ListN.{length, getD, set, drop, take, replicate}
+use lib.ListN.{length, getD, set, drop, take, replicate, List·getD-eq-default}
 use lib.Seq.{paste, paste-suc, sets-eq, take-length, drop-length}
 use Rattle.tables.specs.declared.values.Raw.{Raw}
 use Rattle.tables.specs.declared.values.SlotValue.{SlotValue}
@@ -31,6 +31,13 @@ pub words-fit : (n ts : ℕ) → n < 2 ^ 32 → ts ≤ 8 → Fits w64 (n * ts)
 words-fit n ts h l = omega (arith, mul-le-mul-left n l)
 
 -- ---- tables
+
+-- past the table every field is 0
+pub field-past : (fields : ℕ) (t : List ℕ) (n k : ℕ) → length t ≤ n * fields + k → 0 ≡ field fields t n k
+field-past fields t n k h = sym (List·getD-eq-default t 0 h)
+
+pub record-past : (fields n k long : ℕ) → 0 < fields → long ≤ n → long ≤ n * fields + k
+record-past fields n k long h l = omega (arith, mul-le-mul-left n h)
 
 pub cleared : (t₀ t : List ℕ) (i : ℕ) → i ≡ length t₀ → t ≡ replicate i 0 ++ drop i t₀ → t ≡ replicate (length t₀) 0
 cleared t₀ t i e h = rw (h, e, drop-length, append-nil)

@@ -1,11 +1,12 @@
 // The four tables of records: objects, slots, values and addresses.
+use crate::values::Fields;
 use crate::values::SlotValue;
 use crate::values::fields_of;
 ghost use mathlib.Core.Path.{_≡_};
-ghost use Prim.Native.Nat.{_+_, _*_, _<_, _≤_};
+ghost use Prim.Native.Nat.{_+_, _*_, _^_, _<_, _≤_};
 ghost use lib.ListN.{length, replicate, set};
-ghost use Rattle.tables.specs.Values.{fieldsOf};
-ghost use Rattle.tables.specs.Records.{room, Put, objectRow, slotRow, valueRow, addressRow, filled};
+ghost use Rattle.tables.specs.Values.{triple, fieldsOf};
+ghost use Rattle.tables.specs.Records.{room, field as fieldOf, Put, objectRow, slotRow, valueRow, addressRow, filled};
 
 // Every number of a table is 0.
 pub fn clear(t: &mut [u64])
@@ -44,10 +45,9 @@ pub fn add_object(t: &mut [u64], n: usize, bytes: u64, tag: u64) -> bool
 }
 
 // A slot record: object, index, the value's kind, a and b, and whether it waits.
-pub fn add_slot(t: &mut [u64], n: usize, object: u64, index: u64, v: SlotValue, waits: u64) -> bool
-    ensures { λ r. ⌜ Put (now (t .entry)) n (slotRow object index (fieldsOf v) waits) r (now (t .exit)) ⌝ }
+pub fn add_slot(t: &mut [u64], n: usize, object: u64, index: u64, f: Fields, waits: u64) -> bool
+    ensures { λ r. ⌜ Put (now (t .entry)) n (slotRow object index f waits) r (now (t .exit)) ⌝ }
 {
-    let f = fields_of(v);
     let row = [object, index, f.kind, f.a, f.b, waits];
     put(t, n, &row)
 }
@@ -77,12 +77,41 @@ pub fn add_address(
     put(t, n, &row)
 }
 
-// The slot count of object o.
-pub fn set_slot_count(t: &mut [u64], o: usize, count: u64)
-    requires { ⌜ o < room 4 (now t) ⌝ }
-    ensures { λ _. ⌜ now (t .exit) ≡ set (now (t .entry)) (o * 4 + 3) count ⌝ }
+// Field k of record n, of records with so many fields; 0 past the table.
+pub fn field(t: &[u64], fields: u64, n: u64, k: u64) -> u64
+    requires { ⌜ (0 < fields) × (fields ≤ 8) × (k < 8) ⌝ }
+    ensures { λ r. ⌜ r ≡ fieldOf fields (now (t .entry)) n k ⌝ }
 {
-    t[o * 4 + 3] = count;
+    let len = t.len() as u64;
+    if n < len {
+        let i = n * fields + k;
+        if i < len {
+            return t[i as usize];
+        }
+    }
+    0
+}
+
+// Value record n, as a value; zeros past the table.
+pub fn value_fields(t: &[u64], n: u64) -> Fields
+    ensures { λ r. ⌜ r ≡ triple (fieldOf 3 (now (t .entry)) n 0) (fieldOf 3 (now (t .entry)) n 1) (fieldOf 3 (now (t .entry)) n 2) ⌝ }
+{
+    Fields {
+        kind: field(t, 3, n, 0),
+        a: field(t, 3, n, 1),
+        b: field(t, 3, n, 2),
+    }
+}
+
+// One more in the slot count of object o; a table without that object stays.
+pub fn count_slot(t: &mut [u64], o: u64)
+    requires { ⌜ fieldOf 4 (now t) o 3 < 2 ^ 63 ⌝ }
+    ensures { λ _. ⌜ now (t .exit) ≡ set (now (t .entry)) (o * 4 + 3) (fieldOf 4 (now (t .entry)) o 3 + 1) ⌝ }
+{
+    if o < (t.len() / 4) as u64 {
+        let i = o as usize * 4 + 3;
+        t[i] = t[i] + 1;
+    }
 }
 
 // The raw_len flag of object o.

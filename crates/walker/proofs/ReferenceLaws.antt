@@ -72,21 +72,21 @@ idle-then : {A B : Type 0} (m : Mem) (f : A → Reader B) (o : Out A) → Idle m
 idle-then m f (got a m′) u h = idle-from m m′ u (f a m′) (h a m′)
 idle-then m f (no n q m′) u h = u
 
-idle-choose : {A : Type 0} (t : Bool) (f g : Reader A) (m : Mem) → (t ≡ true → Idle m (f m)) → Idle m (g m) → Idle m (choose t f g m)
+pub idle-choose : {A : Type 0} (t : Bool) (f g : Reader A) (m : Mem) → (t ≡ true → Idle m (f m)) → Idle m (g m) → Idle m (choose t f g m)
 idle-choose true f g m h k = h refl
 idle-choose false f g m h k = k
 
 module _ {A B : Type 0} where
-  then-still : (r : Reader A) (f : A → Reader B) → Still r → ((a : A) → Still (f a)) → Still (r >>= f)
+  pub then-still : (r : Reader A) (f : A → Reader B) → Still r → ((a : A) → Still (f a)) → Still (r >>= f)
   then-still r f h k m = idle-then m f (r m) (h m) k
 
-  next-still : (r : Reader A) (s : Reader B) → Still r → Still s → Still (r >> s)
+  pub next-still : (r : Reader A) (s : Reader B) → Still r → Still s → Still (r >> s)
   next-still r s h k m = idle-then m (λ _. s) (r m) (h m) (λ _. k)
 
 -- ---- steps
 
 module _ (x : Input) where
-  byte-still : Still (byte x)
+  pub byte-still : Still (byte x)
   unfolding byte
   byte-still m = idle-choose (ltb (m .at) (length (x .payload))) _ _ m (λ _. (refl, refl)) (refl, refl)
 
@@ -94,7 +94,7 @@ module _ (x : Input) where
   int-of (IntIs v count) m = (refl, refl)
   int-of IntCut m = (refl, refl)
 
-  int-still : Still (int x)
+  pub int-still : Still (int x)
   unfolding int
   int-still m = int-of (intAt (x .payload) (m .at)) m
 
@@ -106,7 +106,7 @@ module _ (x : Input) where
   backref-of Cut m = (refl, refl)
   backref-of (Unknown next) m = (refl, refl)
 
-  legacy-still : (space : ℕ) → Still (legacyReference x space)
+  pub legacy-still : (space : ℕ) → Still (legacyReference x space)
   unfolding legacyReference
   legacy-still space m = backref-of (backrefOf (x .sheet) (x .payload) (m .addresses .rows) (m .addresses .count) (m .alignment) space (m .at)) m
 

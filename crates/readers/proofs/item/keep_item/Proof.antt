@@ -21,6 +21,9 @@ waits-of-requires c κs = search needs
 div-push-slot : tie.Need-div-push-slot
 div-push-slot c = search needs
 
+fields-of-requires : tie.Need-fields-of-requires
+fields-of-requires c κs = search needs
+
 push-slot-requires : tie.Need-push-slot-requires
 push-slot-requires c κs = search needs
 
@@ -35,11 +38,12 @@ enum-known-v c = search needs
 
 add-note : tie.Need-add-note
 add-note c =
-    let a = c .before .before .before .before .before .before .before .before .before .before .before .before .before .before .before .before .before .before .before .before .args in
+    let a = c .before .before .before .before .before .before .before .before .before .before .before .before .before .before .before .before .before .before .before .before .before .args in
     let p = c .before .before .before .before .before .before .before .before .before .before .before .push-slot in
-    let w = c .before .before .before .before .before .before .before .before .before .before .before .before .before .before .waits-of in
-    let h = kept-room (a .s) (a .o) ((a .done + a .s .skip) / a .word) (a .v) (w .result) (a .objects .now) (a .slots .now) (p .last .0) (p .last .1 .0) (p .ensures) (c .before .before .before .before .before .k .given .1) in
-    omega (arith, h, c .before .before .before .before .before .before .before .before .before .before .before .before .before .before .before .before .before .before .before .before .good)
+    let pushed = rw (c .before .before .before .before .before .before .before .before .before .before .before .before .fields-of .ensures) at (p .ensures) in
+    let w = c .before .before .before .before .before .before .before .before .before .before .before .before .before .before .before .waits-of in
+    let h = kept-room (a .s) (a .o) ((a .done + a .s .skip) / a .word) (a .v) (w .result) (a .objects .now) (a .slots .now) (p .last .0) (p .last .1 .0) pushed (c .before .before .before .before .before .k .given .1) in
+    omega (arith, h, c .before .before .before .before .before .before .before .before .before .before .before .before .before .before .before .before .before .before .before .before .before .good)
 
 note-requires : tie.Need-note-requires
 note-requires c κs = search needs
@@ -52,10 +56,11 @@ same-length-2 c = search needs
 
 returns : tie.Need-returns
 returns c =
-    let a = c .before .before .before .before .before .before .before .before .before .before .before .before .before .before .before .before .args in
+    let a = c .before .before .before .before .before .before .before .before .before .before .before .before .before .before .before .before .before .args in
     let p = c .before .before .before .before .before .before .before .push-slot in
-    let w = c .before .before .before .before .before .before .before .before .before .before .waits-of in
-    (keep-no (a .s) (a .o) (a .done) (a .word) (a .v) (w .result) (a .objects .now) (a .slots .now) (p .last .0) (p .last .1 .0) (p .ensures) (w .ensures .0) (c .before .n .given .1), tt)
+    let pushed = rw (c .before .before .before .before .before .before .before .before .fields-of .ensures) at (p .ensures) in
+    let w = c .before .before .before .before .before .before .before .before .before .before .before .waits-of in
+    (keep-no (a .s) (a .o) (a .done) (a .word) (a .v) (w .result) (a .objects .now) (a .slots .now) (p .last .0) (p .last .1 .0) pushed (w .ensures .0) (c .before .n .given .1), tt)
 
 same-length-3 : tie.Need-same-length-3
 same-length-3 c = search needs
@@ -68,13 +73,14 @@ same-length-5 c = search needs
 
 returns-2 : tie.Need-returns-2
 returns-2 c =
-    let a = c .before .before .before .before .before .before .before .before .before .before .before .before .before .before .before .before .before .before .before .before .before .before .before .args in
-    let q = c .before .before .before .before .before .before .before .before .before .before .before .before .before .before .before .before .before .before .before .before .before .before .before .pre .1 in
+    let a = c .before .before .before .before .before .before .before .before .before .before .before .before .before .before .before .before .before .before .before .before .before .before .before .before .args in
+    let q = c .before .before .before .before .before .before .before .before .before .before .before .before .before .before .before .before .before .before .before .before .before .before .before .before .pre .1 in
     let p = c .before .before .before .before .before .before .before .before .before .before .before .before .before .before .push-slot in
+    let pushed = rw (c .before .before .before .before .before .before .before .before .before .before .before .before .before .before .before .fields-of .ensures) at (p .ensures) in
     let k = c .before .before .before .before .before .before .before .before .k .given .1 in
-    let w = c .before .before .before .before .before .before .before .before .before .before .before .before .before .before .before .before .before .waits-of in (
-      keep-is (a .s) (a .o) (a .done) (a .word) (a .v) (w .result) (a .objects .now) (a .slots .now) (p .last .0) (p .last .1 .0) (p .ensures) (w .ensures .0) k (c .before .before .before .before .before .before .before .before .before .before .before .before .before .before .before .before .before .before .width .ensures),
-      kept-waits (a .s) (a .o) ((a .done + a .s .skip) / a .word) (a .v) (w .result) (a .objects .now) (a .slots .now) (p .last .0) (p .last .1 .0) (p .ensures) k (a .scratch .now) (q .0) (q .1) (c .before .before .before .before .before .v .given .1) (w .ensures .0) (q .2) (c .before .before .note .ensures),
+    let w = c .before .before .before .before .before .before .before .before .before .before .before .before .before .before .before .before .before .before .waits-of in (
+      keep-is (a .s) (a .o) (a .done) (a .word) (a .v) (w .result) (a .objects .now) (a .slots .now) (p .last .0) (p .last .1 .0) pushed (w .ensures .0) k (c .before .before .before .before .before .before .before .before .before .before .before .before .before .before .before .before .before .before .before .width .ensures),
+      kept-waits (a .s) (a .o) ((a .done + a .s .skip) / a .word) (a .v) (w .result) (a .objects .now) (a .slots .now) (p .last .0) (p .last .1 .0) pushed k (a .scratch .now) (q .0) (q .1) (c .before .before .before .before .before .v .given .1) (w .ensures .0) (q .2) (c .before .before .note .ensures),
     )
 
 same-length-6 : tie.Need-same-length-6
@@ -85,13 +91,14 @@ same-length-7 c = search needs
 
 returns-3 : tie.Need-returns-3
 returns-3 c =
-    let a = c .before .before .before .before .before .before .before .before .before .before .before .before .before .before .before .before .before .args in
-    let q = c .before .before .before .before .before .before .before .before .before .before .before .before .before .before .before .before .before .pre .1 in
+    let a = c .before .before .before .before .before .before .before .before .before .before .before .before .before .before .before .before .before .before .args in
+    let q = c .before .before .before .before .before .before .before .before .before .before .before .before .before .before .before .before .before .before .pre .1 in
     let p = c .before .before .before .before .before .before .before .before .push-slot in
+    let pushed = rw (c .before .before .before .before .before .before .before .before .before .fields-of .ensures) at (p .ensures) in
     let k = c .before .before .k .given .1 in
-    let w = c .before .before .before .before .before .before .before .before .before .before .before .waits-of in (
-      keep-is (a .s) (a .o) (a .done) (a .word) (a .v) (w .result) (a .objects .now) (a .slots .now) (p .last .0) (p .last .1 .0) (p .ensures) (w .ensures .0) k (c .before .before .before .before .before .before .before .before .before .before .before .before .width .ensures),
-      kept-plain (a .s) (a .o) ((a .done + a .s .skip) / a .word) (a .v) (w .result) (a .objects .now) (a .slots .now) (p .last .0) (p .last .1 .0) (p .ensures) k (a .scratch .now) (q .0) (q .1) (w .ensures .0 ∙ sym (tag-waits (a .v) (c .match2 .keys2))),
+    let w = c .before .before .before .before .before .before .before .before .before .before .before .before .waits-of in (
+      keep-is (a .s) (a .o) (a .done) (a .word) (a .v) (w .result) (a .objects .now) (a .slots .now) (p .last .0) (p .last .1 .0) pushed (w .ensures .0) k (c .before .before .before .before .before .before .before .before .before .before .before .before .before .width .ensures),
+      kept-plain (a .s) (a .o) ((a .done + a .s .skip) / a .word) (a .v) (w .result) (a .objects .now) (a .slots .now) (p .last .0) (p .last .1 .0) pushed k (a .scratch .now) (q .0) (q .1) (w .ensures .0 ∙ sym (tag-waits (a .v) (c .match2 .keys2))),
     )
 
 pub keep-item-spec : {M : Type 1} → statement M
@@ -103,6 +110,7 @@ keep-item-spec =
     add-end
     waits-of-requires
     div-push-slot
+    fields-of-requires
     push-slot-requires
     enum-known-n
     enum-known-k

@@ -12,28 +12,13 @@ same-length : tie.Need-same-length
 same-length c = search needs
 
 returns : tie.Need-returns
-returns c = let a = c .before .before .before .before .before .before .before .args in push-full (a .s) (a .o) (a .index) (a .v) (a .waits) (a .slots .now) (c .before .before .before .add-slot .ensures) (not-true _ (c .if1 .taken)) (a .objects .now)
+returns c = let a = c .before .before .before .before .before .before .before .args in push-full (a .s) (a .o) (a .index) (a .f) (a .waits) (a .slots .now) (c .before .before .before .add-slot .ensures) (not-true _ (c .if1 .taken)) (a .objects .now)
 
-mul-count : tie.Need-mul-count
-mul-count c = search needs
-
-add-count : tie.Need-add-count
-add-count c = search needs
-
-mul-count-2 : tie.Need-mul-count-2
-mul-count-2 c = search needs
-
-slice-read-count : tie.Need-slice-read-count
-slice-read-count c = search needs
-
-add-count-2 : tie.Need-add-count-2
-add-count-2 c = search needs
-
-set-slot-count-requires : tie.Need-set-slot-count-requires
-set-slot-count-requires c κs = search needs
+count-slot-requires : tie.Need-count-slot-requires
+count-slot-requires c κs = search needs
 
 add-t : tie.Need-add-t
-add-t c = let a = c .before .before .before .before .before .before .before .before .before .before .before .before .args in let h = push-room (a .s) (a .o) (a .index) (a .v) (a .waits) (a .slots .now) (c .before .before .before .before .before .before .before .before .add-slot .ensures) (not-false _ (c .before .before .before .before .before .if1 .left)) in omega (arith, h, c .before .before .before .before .before .before .before .before .before .before .before .before .good)
+add-t c = let a = c .before .before .before .before .before .before .before .before .before .before .before .args in let h = push-room (a .s) (a .o) (a .index) (a .f) (a .waits) (a .slots .now) (c .before .before .before .before .before .before .before .add-slot .ensures) (not-false _ (c .before .before .before .before .if1 .left)) in omega (arith, h, c .before .before .before .before .before .before .before .before .before .before .before .good)
 
 add-t-2 : tie.Need-add-t-2
 add-t-2 c = search needs
@@ -45,7 +30,7 @@ same-length-3 : tie.Need-same-length-3
 same-length-3 c = search needs
 
 returns-2 : tie.Need-returns-2
-returns-2 c = let a = c .before .before .before .before .before .before .before .before .before .before .before .before .before .args in push-done (a .s) (a .o) (a .index) (a .v) (a .waits) (a .slots .now) (c .before .before .before .before .before .before .before .before .before .add-slot .ensures) (not-false _ (c .before .before .before .before .before .before .if1 .left)) (a .objects .now) (c .before .before .before .set-slot-count .ensures)
+returns-2 c = let a = c .before .before .before .before .before .before .before .before .before .before .before .before .args in push-done (a .s) (a .o) (a .index) (a .f) (a .waits) (a .slots .now) (c .before .before .before .before .before .before .before .before .add-slot .ensures) (not-false _ (c .before .before .before .before .before .if1 .left)) (a .objects .now) (c .before .before .before .count-slot .ensures)
 
 pub push-slot-spec : {M : Type 1} → statement M
 push-slot-spec =
@@ -54,12 +39,7 @@ push-slot-spec =
     add-slot-requires
     same-length
     returns
-    mul-count
-    add-count
-    mul-count-2
-    slice-read-count
-    add-count-2
-    set-slot-count-requires
+    count-slot-requires
     add-t
     add-t-2
     same-length-2

@@ -1,0 +1,4 @@
+pub mod closing;
+pub mod entry;
+pub mod padding;
+pub mod walk;
