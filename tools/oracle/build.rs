@@ -13,7 +13,7 @@ fn main() {
         .canonicalize()
         .unwrap_or_else(|e| panic!("serializer.rs not found at {given} (see SERIALIZER_RS): {e}"));
     println!("cargo:rerun-if-changed={}", file.display());
-    let line = format!("#[allow(dead_code)]\n#[path = {file:?}]\nmod serializer;\n");
+    let line = format!("#[allow(dead_code)]\n#[path = {file:?}]\npub mod serializer;\n");
     let out = env::var("OUT_DIR").expect("cargo sets it");
     fs::write(Path::new(&out).join("taken_in.rs"), line).expect("OUT_DIR can be written");
 }

@@ -1,17 +1,7 @@
 //! Runs the Rust that Dawichko is a port of, and prints its answer in the form of `graphlist`.
 
-mod heads;
-mod listing;
-mod refusal;
-mod sheet;
-mod tables;
-mod trace;
-
-// Takes in serializer.rs, unchanged (see build.rs).
-include!(concat!(env!("OUT_DIR"), "/taken_in.rs"));
-
-use serializer::Object;
-use sheet::Sheet;
+use oracle::sheet::Sheet;
+use oracle::{reservations, trace, Input};
 use std::path::Path;
 use std::process::ExitCode;
 use std::{env, fs};
@@ -19,24 +9,6 @@ use std::{env, fs};
 const USAGE: &str = "usage: oracle DIR
        oracle --dump DIR
        oracle --dump-payload SHEET.txt NAME.payload [NAME.reserve]";
-
-const MOST_BYTES: usize = 16_777_216;
-const MOST_RESERVATIONS: usize = 65_536;
-
-pub struct Input {
-    sheet: Sheet,
-    trusted: Vec<u8>,
-    payload: Vec<u8>,
-    reserve: Vec<u32>,
-}
-
-impl Input {
-    /// The Rust's object list for a payload, all else as in this input.
-    fn walk(&self, payload: &[u8]) -> Result<Vec<Object>, String> {
-        let table = self.sheet.table(&self.trusted);
-        serializer::parse_with(payload, &table, &self.reserve).map(|cache| cache.objects)
-    }
-}
 
 fn main() -> ExitCode {
     let words: Vec<String> = env::args().skip(1).collect();
@@ -71,23 +43,11 @@ fn listing(folder: &Path) -> Result<String, String> {
     let Some(input) = folder_input(folder)? else {
         return Ok("refused 1 0".into());
     };
-    if !input.sheet.usable() {
-        return Ok("refused 1 0".into());
-    }
-    if input.payload.len() > MOST_BYTES || input.reserve.len() > MOST_RESERVATIONS {
-        return Ok("refused 2 0".into());
+    if let Some(refusal) = input.not_walked() {
+        return Ok(refusal.into());
     }
     let events = trace::read(folder).map_err(|e| format!("the walk could not be run: {e}"))?;
-    if input.sheet.legacy() && listing::passes_32_bits(&events) {
-        return Ok("refused 16 ?".into());
-    }
-    Ok(match input.walk(&input.payload) {
-        Ok(objects) => listing::list(&input, &objects, &events),
-        Err(text) => {
-            let heads = heads::Heads { sheet: &input.sheet, payload: &input.payload };
-            refusal::describe(&text, &events, &heads)
-        }
-    })
+    Ok(input.answer(&events, &input.walk(&input.payload)))
 }
 
 fn dump(input: &Input) -> Result<String, String> {
@@ -125,13 +85,6 @@ fn text_input(sheet: &str, payload: &str, reserve: Option<&str>) -> Result<Input
 
 fn whole(input: Option<Input>) -> Result<Input, String> {
     input.ok_or("sheet.bin has the wrong length".into())
-}
-
-fn reservations(bytes: &[u8]) -> Result<Vec<u32>, String> {
-    if bytes.len() % 4 != 0 {
-        return Err("the reservations are not whole 32-bit numbers".into());
-    }
-    Ok(bytes.chunks(4).map(|c| u32::from_le_bytes([c[0], c[1], c[2], c[3]])).collect())
 }
 
 fn read(file: &Path) -> Result<Vec<u8>, String> {

@@ -32,6 +32,15 @@ pub struct Sheet {
 }
 
 impl Sheet {
+    /// A sheet of 58 numbers.
+    pub fn from_numbers(numbers: &[u16]) -> Option<Sheet> {
+        (numbers.len() == NAMES.len()).then(|| Sheet { numbers: numbers.to_vec() })
+    }
+
+    pub fn numbers(&self) -> &[u16] {
+        &self.numbers
+    }
+
     pub fn from_bytes(bytes: &[u8]) -> Option<Sheet> {
         let numbers = bytes.chunks(2).map(|c| u16::from_le_bytes([c[0], *c.get(1).unwrap_or(&0)]));
         let whole = bytes.len() == 2 * NAMES.len();

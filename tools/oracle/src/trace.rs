@@ -28,16 +28,21 @@ pub enum Holds {
     Repeat(usize),
 }
 
+/// The environment variables that switch the debug output on.
+pub const SWITCHES: [(&str, &str); 5] = [
+    ("JSCD_DBG_OBJSLOTS", "*"),
+    ("JSCD_DBG_SLOTS", "1"),
+    ("JSCD_DBG_OBJ", "1"),
+    ("JSCD_DBG_REF", "1"),
+    ("JSCD_DBG_ALLOC", "1"),
+];
+
 /// Runs `self --walk folder` with the debug output switched on.
 pub fn read(folder: &Path) -> std::io::Result<Vec<Event>> {
     let mut child = Command::new(std::env::current_exe()?)
         .arg("--walk")
         .arg(folder)
-        .env("JSCD_DBG_OBJSLOTS", "*")
-        .env("JSCD_DBG_SLOTS", "1")
-        .env("JSCD_DBG_OBJ", "1")
-        .env("JSCD_DBG_REF", "1")
-        .env("JSCD_DBG_ALLOC", "1")
+        .envs(SWITCHES)
         .stdout(Stdio::null())
         .stderr(Stdio::piped())
         .spawn()?;
@@ -50,7 +55,8 @@ pub fn read(folder: &Path) -> std::io::Result<Vec<Event>> {
     Ok(events)
 }
 
-fn event(line: &str) -> Option<Event> {
+/// What a line of the debug output tells.
+pub fn event(line: &str) -> Option<Event> {
     if line.starts_with("[objtag]") {
         let (place, space) = (number(line, "pos")? as usize, number(line, "space")?);
         Some(Event::Open { place, space, bytes: number(line, "bytes")? })
