@@ -144,7 +144,7 @@ pub fn parse_object(
 }
 
 // The map of object o of n bytes in space a, what follows it, and its resolves.
-pub fn parse_map(
+fn parse_map(
     v: &[u16],
     h: &[u16; 512],
     tr: &[u8],
@@ -183,7 +183,7 @@ pub fn parse_map(
 }
 
 // The items of object o after its map, until they fill its n bytes; its head stands at `at`.
-pub fn parse_items(
+fn parse_items(
     v: &[u16],
     h: &[u16; 512],
     tr: &[u8],
@@ -237,7 +237,7 @@ pub fn parse_items(
 }
 
 // An item of object o, `done` bytes of which have been read: the bytes read then.
-pub fn parse_slot(
+fn parse_slot(
     v: &[u16],
     h: &[u16; 512],
     tr: &[u8],

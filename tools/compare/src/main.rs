@@ -7,7 +7,7 @@ mod real;
 mod rust;
 mod sheets;
 
-use oracle::sheet::Sheet as Numbers;
+use oracle::sheet::{Sheet as Numbers, NAMES};
 use oracle::Input;
 use port::{Call, Graph, FIELDS};
 use random::Random;
@@ -70,6 +70,9 @@ fn main() -> ExitCode {
         let difference = got.left_over().or_else(|| different(&got.text(), wanted));
         tally.report(name, &call, difference);
     }
+    let difference = longest(&sheets[0]);
+    *tally.outcomes.entry(("limits".into(), 0)).or_default() += 1;
+    tally.report("longest payload, accepted", &empty(&sheets[0]), difference);
     for number in 0..given.count {
         // A case depends on the seed and its number alone.
         let mut random = Random::new(given.seed.wrapping_mul(1_000_003).wrapping_add(number));
@@ -154,6 +157,31 @@ fn limits(sheets: &[sheets::Sheet]) -> Vec<(&'static str, Call, &'static str)> {
     ]
 }
 
+fn empty(sheet: &sheets::Sheet) -> Call {
+    Call {
+        sheet: sheet.numbers.to_vec(),
+        payload: Vec::new(),
+        reserve: Vec::new(),
+        trusted: Vec::new(),
+        scratch: 0,
+    }
+}
+
+/// A payload as long as one may be, of one object whose words are all root constants: what differs, if anything does.
+fn longest(sheet: &sheets::Sheet) -> Option<String> {
+    let bytes = oracle::MOST_BYTES;
+    let words = bytes - 6;
+    let tag = |name: &str| sheet.numbers[sheets::place(name)] as u8;
+    let mut payload = vec![tag("kNewObject")];
+    payload.extend(((words as u32) << 2 | 3).to_le_bytes());
+    payload.resize(bytes - 1, tag("kRootArrayConstants"));
+    payload.push(tag("kSynchronize"));
+    let graph = port::graph(&Call { payload, ..empty(sheet) }, [4, 6 * words, 0, 0]);
+    let wanted = [1, words as u64, 0, 0, bytes as u64, 0];
+    let alike = graph.number == 0 && graph.outcome == wanted;
+    (!alike).then(|| format!("{} {:?}, and not {wanted:?}", graph.number, graph.outcome))
+}
+
 fn reservations(random: &mut Random) -> Vec<u32> {
     match random.below(6) {
         0 => Vec::new(),
@@ -223,17 +251,19 @@ fn against_rust(
     different(&got, &wanted)
 }
 
-/// Where kResolvePendingForwardRef shares its byte with a name that forms values, values that the closing section drops may be missing in
-/// what is rebuilt from the Rust's answer (tools/oracle).
+/// Where kResolvePendingForwardRef has the byte of another name, values that the closing section drops may be missing in what is rebuilt from
+/// the Rust's answer (tools/oracle).
 fn may_hide_values(sheet: &Numbers) -> bool {
-    let shares = |name: &str, span: u16| {
-        let resolve = sheet.get("kResolvePendingForwardRef");
-        sheet.get(name).zip(resolve).is_some_and(|(first, byte)| (first..first + span).contains(&byte))
+    let numbers = sheet.numbers().try_into().expect("a sheet that was taken has 58 numbers");
+    let sheet = sheets::Sheet { family: "", numbers };
+    let Some(byte) = sheet.get("kResolvePendingForwardRef") else { return false };
+    let shares = |name: &str| {
+        let first = sheet.get(name).unwrap_or(usize::MAX);
+        let opens = if name == "kNewObject" { sheet.or("kBackref", 0).saturating_sub(first) } else { 0 };
+        first <= byte && byte - first < sheet.span(name).max(opens)
     };
-    let single = ["kWeakPrefix", "kIndirectPointerPrefix", "kProtectedPointerPrefix", "kVariableRepeat"];
-    single.iter().any(|name| shares(name, 1))
-        || shares("kVariableRepeatRoot", 1)
-        || ["kFixedRepeat", "kFixedRepeatRoot"].iter().any(|name| shares(name, 16))
+    let others = NAMES[..sheets::TAGS].iter().filter(|name| **name != "kResolvePendingForwardRef");
+    others.into_iter().any(|name| shares(name))
 }
 
 /// Without the values, their count and their numbers.

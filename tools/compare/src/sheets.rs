@@ -4,7 +4,8 @@ use crate::random::Random;
 use oracle::sheet::NAMES;
 
 pub const ABSENT: u16 = 65535;
-const TAGS: usize = 48;
+/// The names that are bytes of a payload come first.
+pub const TAGS: usize = 48;
 
 /// A sheet by name; a name that is absent has `ABSENT`.
 #[derive(Clone)]
