@@ -23,13 +23,14 @@ extern "C" {
  *   slots         6: object, index, kind, a, b, waits
  *   values        3: kind, a, b
  *   addresses     5: space, chunk, offset, object, placed (legacy sheets only)
- *   scratch       working memory of any length, zero afterwards. With a number for each forward reference that is open at once, resolving
- *                 takes no search.
+ *   scratch       working memory of any length, zero afterwards; the graph does not depend on it, the time does. It has two parts: as many
+ *                 numbers as the payload has bytes, for forward references that are open; then, for legacy sheets, 256 numbers and three
+ *                 for each address record. Where it is shorter, what has no place in it is searched for in the tables.
  *
  * outcome gets the counts of objects, slots, values and addresses, the cursor at the finish, and the refusal's place. After a refusal all
  * but the place are 0, and so is every entry of the tables; else the place is 0, and so is every entry past the counts.
  *
- * The call takes up to 434 kB of stack, where objects lie inside each other as deep as is read.
+ * The call takes up to 437 kB of stack, where objects lie inside each other as deep as is read.
  *
  * The caller sees to it that each pointer leads to as many elements as its length says, aligned for its type, that nothing else reads or
  * writes a table during the call, and that no table overlaps another argument. A pointer may be anything where its length is 0.

@@ -105,6 +105,14 @@ pub fn read_up_to<'a>(call: &Call<'a>, most: Rooms) -> Result<Graph<'a>, Refusal
     }
 }
 
+/// As much scratch as keeps the call from searching: a place for each pending number, of which there are no more than payload bytes, and for
+/// legacy sheets the index of addresses, 256 numbers and three for each record.
+fn scratch_length(call: &Call, rooms: Rooms) -> usize {
+    let records = rooms.addresses.saturating_mul(3);
+    let index = if call.sheet.is_legacy() { records.saturating_add(256) } else { 0 };
+    call.bytes().saturating_add(index)
+}
+
 /// One call with these rooms: refused with 3 if they do not suffice.
 pub fn read_within<'a>(call: &Call<'a>, rooms: Rooms) -> Result<Graph<'a>, Refusal> {
     let table = |records: usize, fields: usize| vec![0; records.saturating_mul(fields)];
@@ -113,8 +121,7 @@ pub fn read_within<'a>(call: &Call<'a>, rooms: Rooms) -> Result<Graph<'a>, Refus
         slots: table(rooms.slots, SLOT),
         values: table(rooms.values, VALUE),
         addresses: table(rooms.addresses, ADDRESS),
-        // A forward reference has a byte of its own, so that each has a place here and none is searched for.
-        scratch: table(call.bytes(), 1),
+        scratch: table(scratch_length(call, rooms), 1),
     };
     let (number, [objects, slots, values, addresses, end, place]) = ffi::graph(call, &mut tables);
     if number != 0 {

@@ -87,6 +87,32 @@ fn legacy_slots_grow_past_the_payload() {
     assert_eq!(graph.slot(40_000).map(|slot| (slot.index, slot.value)), Some((40_000, Value::Root(6))));
 }
 
+/// Legacy objects, and references to all of them by address, to the newest first.
+#[test]
+fn legacy_addresses_grow() {
+    let count = 20_000;
+    let mut payload = vec![1];
+    payload.extend(integer(2 * count + 1));
+    payload.push(0x45);
+    payload.extend([2, 4, 0x46].repeat(count as usize));
+    (0..count).rev().for_each(|k| {
+        payload.extend([0x0A, 0]);
+        payload.extend(integer(8 * k));
+    });
+    payload.push(0x14);
+    let sheet = sheet(L8);
+    let call = Call { reservations: &SIX_SPACES, ..Call::new(&sheet, &payload) };
+    assert_eq!(read_within(&call, Rooms::first(&call)).unwrap_err().number, ROOM);
+    let graph = read(&call).expect("tables that suffice");
+    let count = count as usize;
+    assert_eq!((graph.slots().len(), graph.addresses().len()), (3 * count + 1, count + 1));
+    assert!(graph
+        .slots()
+        .skip(2 * count + 1)
+        .enumerate()
+        .all(|(k, slot)| slot.value == Value::Object(count - k)));
+}
+
 #[test]
 fn largest_rooms_are_kept() {
     let (sheet, payload) = (sheet(L8), deferred(40_000));

@@ -10,8 +10,8 @@ use lib.Bits.{and-le-r}
 use lib.Dec.{eqb, leb}
 use Rattle.sheet.specs.Names.{kNewObject, kBackref, kHotObjectWithSkip, kRootArrayConstantsWithSkip, kSkip}
 use Rattle.sheet.specs.Sheet.{number, present, rootMask}
-use Rattle.sheet.specs.Kinds.{newObject, legacyBackref, legacyBackrefWithSkip, nextChunk, alignment, hot, hotWithSkip, rootConstantWithSkip, builtin, external, api, internal, deoptimizer, streamBytes, embedderFields, offHeapTarget, fixedRaw, skip, repeatPrevious, variableRepeatPrevious}
-use Rattle.sheet.specs.Heads.{upToBackref, Row, legacy, sixX, sixXAlone, fromOne, andSeven, tests, argumentOf, order, Head, head, claims, pickHead, firstOf, headOf}
+use Rattle.heads.specs.Kinds.{newObject, legacyBackref, legacyBackrefWithSkip, nextChunk, alignment, hot, hotWithSkip, rootConstantWithSkip, builtin, external, api, internal, deoptimizer, streamBytes, embedderFields, offHeapTarget, fixedRaw, skip, repeatPrevious, variableRepeatPrevious}
+use Rattle.heads.specs.Heads.{upToBackref, Row, legacy, sixX, sixXAlone, fromOne, andSeven, tests, argumentOf, order, Head, head, claims, pickHead, firstOf, headOf}
 use Rattle.sheet.specs.Tests.{opens}
 use Rattle.sheet.proofs.UsableSheet.{and-left, and-right, or-cases, implies, parts}
 use Rattle.assurance.specs.PlainSheet.{clash, PlainSheet}

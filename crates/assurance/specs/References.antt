@@ -12,8 +12,8 @@ use Rattle.stream.specs.declared.bytes.Range.the-variants.{To as RangeTo, Past}
 use Rattle.stream.specs.Bytes.{rawAt}
 use Rattle.stream.proofs.ByteLaws.{Bytes}
 use Rattle.sheet.specs.Sheet.{rawAdvances}
-use Rattle.sheet.specs.Kinds.{hot}
-use Rattle.sheet.specs.Heads.{head, headOf}
+use Rattle.heads.specs.Kinds.{hot}
+use Rattle.heads.specs.Heads.{head, headOf}
 use Rattle.sheet.specs.Tests.{opens}
 use Rattle.tables.specs.declared.values.Ref.{Ref}
 use Rattle.tables.specs.declared.values.Ref.the-variants.{Object, Root}

@@ -14,8 +14,8 @@ use Rattle.stream.specs.declared.putint.Int.{Int}
 use Rattle.stream.specs.declared.putint.Int.the-variants.{Is as IntIs, Cut as IntCut}
 use Rattle.stream.specs.PutInt.{intAt}
 use Rattle.sheet.specs.Sheet.{usable, isLegacy, isSixX, isMapFirst, loSpace, rawAdvances}
-use Rattle.sheet.specs.Kinds.{newObject, backref, legacyBackref, legacyBackrefWithSkip, nextChunk, alignment, hot, hotWithSkip, rootArray, rootConstant, rootConstantWithSkip, readOnly, attached, builtin, external, api, internal, deoptimizer, streamBytes, embedderFields, offHeapTarget, cache, registerPending, clearedWeak, weakPrefix, pointerPrefix, dispatchEntry, fixedRaw, variableRaw, skip, fixedRepeat, fixedRepeatRoot, repeatPrevious, variableRepeat, variableRepeatPrevious, variableRepeatRoot, metaMap}
-use Rattle.sheet.specs.Heads.{headOf}
+use Rattle.heads.specs.Kinds.{newObject, backref, legacyBackref, legacyBackrefWithSkip, nextChunk, alignment, hot, hotWithSkip, rootArray, rootConstant, rootConstantWithSkip, readOnly, attached, builtin, external, api, internal, deoptimizer, streamBytes, embedderFields, offHeapTarget, cache, registerPending, clearedWeak, weakPrefix, pointerPrefix, dispatchEntry, fixedRaw, variableRaw, skip, fixedRepeat, fixedRepeatRoot, repeatPrevious, variableRepeat, variableRepeatPrevious, variableRepeatRoot, metaMap}
+use Rattle.heads.specs.Heads.{headOf}
 use Rattle.sheet.specs.declared.tests.Closing.{Closing}
 use Rattle.sheet.specs.declared.tests.Closing.the-variants.{Synchronize, Alignment, Deferred, Reference}
 use Rattle.sheet.specs.Tests.{opens, alignmentOf, isNextChunk, isResolve, isDeferred, isNop, closingOf}

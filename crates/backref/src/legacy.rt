@@ -1,15 +1,15 @@
 // Legacy back-references: 7.8 and 8.4 write a chunk and an offset, or a number in the map and large-object spaces; 6.x packs these in one
 // integer.
 use crate::hot_ring::add;
+use address_index::resolve::resolve;
+use address_index::resolve::resolve_ordinal;
 use alloc::resolve::Found;
-use alloc::resolve::resolve;
-use alloc::resolve::resolve_ordinal;
-use sheet::usable::lo_space;
-use sheet::usable::map_space;
-use sheet::usable::page_size_bits;
-use sheet::usable::six_x;
-use sheet::usable::space_tag_size;
-use sheet::usable::word_bytes;
+use sheet::numbers::lo_space;
+use sheet::numbers::map_space;
+use sheet::numbers::page_size_bits;
+use sheet::numbers::six_x;
+use sheet::numbers::space_tag_size;
+use sheet::numbers::word_bytes;
 use stream::putint::Int;
 use stream::putint::putint;
 use tables::values::Ref;
@@ -18,6 +18,8 @@ ghost use mathlib.Core.Path.{_≡_};
 ghost use Prim.Native.Nat.{_^_, _<_, _≤_};
 ghost use Rattle.sheet.specs.Sheet.{usable};
 ghost use Rattle.tables.specs.Records.{room};
+ghost use Rattle.address_index.specs.Links.{Linked};
+ghost use Rattle.address_index.specs.Sorted.{Sorted};
 ghost use Rattle.backref.specs.Legacy.{numberedAs, numbered, placed, indexOf, unpacked, packedBackref, plainBackref, backrefOf, ringAfter};
 
 // What a back-reference stands for and the cursor after it; or the payload ended in it; or its number has no entry, with the cursor.
@@ -47,11 +49,20 @@ fn numbered_as(sheet: &[u16], space: u64) -> u64
 }
 
 // The object with a number.
-fn by_number(sheet: &[u16], table: &[u64], n: usize, space: u64, index: u64, next: usize) -> Backref
+fn by_number(
+    sheet: &[u16],
+    table: &[u64],
+    index: &[u64],
+    n: usize,
+    space: u64,
+    number: u64,
+    next: usize,
+) -> Backref
     requires { ⌜ n ≤ room 5 (now table) ⌝ }
-    ensures { λ r. ⌜ r ≡ numbered (now (sheet .entry)) (now (table .entry)) n space index next ⌝ }
+    requires { ⌜ Linked (now table) n (now index) × Sorted (now table) n ⌝ }
+    ensures { λ r. ⌜ r ≡ numbered (now (sheet .entry)) (now (table .entry)) n space number next ⌝ }
 {
-    match resolve_ordinal(table, n, numbered_as(sheet, space), index) {
+    match resolve_ordinal(table, index, n, numbered_as(sheet, space), number) {
         Found::Object(o) => Backref::To(Ref::Object(o), next),
         Found::Nothing => Backref::Unknown(next),
     }
@@ -61,6 +72,7 @@ fn by_number(sheet: &[u16], table: &[u64], n: usize, space: u64, index: u64, nex
 fn by_place(
     sheet: &[u16],
     table: &[u64],
+    index: &[u64],
     n: usize,
     alignment: u64,
     space: u64,
@@ -68,10 +80,12 @@ fn by_place(
     next: usize,
 ) -> Backref
     requires { ⌜ (n ≤ room 5 (now table)) × (place .offset < 2 ^ 32) × (usable (now sheet) ≡ true) ⌝ }
+    requires { ⌜ Linked (now table) n (now index) × Sorted (now table) n ⌝ }
     ensures { λ r. ⌜ r ≡ placed (now (sheet .entry)) (now (table .entry)) n alignment space place next ⌝ }
 {
     match resolve(
         table,
+        index,
         n,
         space,
         place.chunk,
@@ -121,23 +135,25 @@ fn packed_backref(
     sheet: &[u16],
     p: &[u8],
     table: &[u64],
+    index: &[u64],
     n: usize,
     alignment: u64,
     space: u64,
     at: usize,
 ) -> Backref
     requires { ⌜ (n ≤ room 5 (now table)) × (usable (now sheet) ≡ true) ⌝ }
+    requires { ⌜ Linked (now table) n (now index) × Sorted (now table) n ⌝ }
     ensures { λ r. ⌜ r ≡ packedBackref (now (sheet .entry)) (now (p .entry)) (now (table .entry)) n alignment space at ⌝ }
 {
     let Int::Is(value, count) = putint(p, at) else {
         return Backref::Cut;
     };
-    let index = index_of(sheet, value);
+    let number = index_of(sheet, value);
     if numbered_as(sheet, space) == 0 {
-        let place = unpack(sheet, index);
-        by_place(sheet, table, n, alignment, space, place, at + count)
+        let place = unpack(sheet, number);
+        by_place(sheet, table, index, n, alignment, space, place, at + count)
     } else {
-        by_number(sheet, table, n, space, index, at + count)
+        by_number(sheet, table, index, n, space, number, at + count)
     }
 }
 
@@ -146,12 +162,14 @@ fn plain_backref(
     sheet: &[u16],
     p: &[u8],
     table: &[u64],
+    index: &[u64],
     n: usize,
     alignment: u64,
     space: u64,
     at: usize,
 ) -> Backref
     requires { ⌜ (n ≤ room 5 (now table)) × (usable (now sheet) ≡ true) ⌝ }
+    requires { ⌜ Linked (now table) n (now index) × Sorted (now table) n ⌝ }
     ensures { λ r. ⌜ r ≡ plainBackref (now (sheet .entry)) (now (p .entry)) (now (table .entry)) n alignment space at ⌝ }
 {
     let Int::Is(first, count) = putint(p, at) else {
@@ -159,7 +177,7 @@ fn plain_backref(
     };
     let next = at + count;
     if numbered_as(sheet, space) != 0 {
-        return by_number(sheet, table, n, space, first as u64, next);
+        return by_number(sheet, table, index, n, space, first as u64, next);
     }
     let Int::Is(second, more) = putint(p, next) else {
         return Backref::Cut;
@@ -168,7 +186,7 @@ fn plain_backref(
         chunk: first as u64,
         offset: second as u64,
     };
-    by_place(sheet, table, n, alignment, space, place, next + more)
+    by_place(sheet, table, index, n, alignment, space, place, next + more)
 }
 
 // A back-reference to a space; what it stands for enters the ring.
@@ -176,6 +194,7 @@ pub fn legacy_backref(
     sheet: &[u16],
     p: &[u8],
     table: &[u64],
+    index: &[u64],
     hot: &mut [u64; 25],
     n: usize,
     alignment: u64,
@@ -183,12 +202,13 @@ pub fn legacy_backref(
     at: usize,
 ) -> Backref
     requires { ⌜ (n ≤ room 5 (now table)) × (usable (now sheet) ≡ true) ⌝ }
+    requires { ⌜ Linked (now table) n (now index) × Sorted (now table) n ⌝ }
     ensures { λ r. ⌜ (r ≡ backrefOf (now (sheet .entry)) (now (p .entry)) (now (table .entry)) n alignment space at) × (now (hot .exit) ≡ ringAfter (now (hot .entry)) r) ⌝ }
 {
     let found = if six_x(sheet) {
-        packed_backref(sheet, p, table, n, alignment, space, at)
+        packed_backref(sheet, p, table, index, n, alignment, space, at)
     } else {
-        plain_backref(sheet, p, table, n, alignment, space, at)
+        plain_backref(sheet, p, table, index, n, alignment, space, at)
     };
     if let Backref::To(r, _) = found {
         add(hot, r);

@@ -1,22 +1,23 @@
 -- A call at each way out of the code. Assumes nothing.
 use mathlib.Core.Path.{_≡_, refl, sym, ap, subst, _∙_}
 use mathlib.Core.Bool.{Bool, true, false, _||_}
-use mathlib.Core.List.{List, []}
+use mathlib.Core.List.{List, [], _∷_}
 use Prim.Native.Nat.{ℕ, zero, suc, _<_, _≤_}
 use native.Mathlib.Omega.{arith}
 use borrow.Author.Tests.{ltb-false}
 use lib.Dec.{ltb}
-use lib.ListN.{length, getD, replicate, length-replicate, getD-replicate}
+use lib.ListN.{length, take, drop, replicate, length-replicate}
 use Rattle.stream.proofs.ByteLaws.{Bytes}
 use Rattle.sheet.specs.Sheet.{usable, plain}
-use Rattle.sheet.specs.Heads.{Heads}
+use Rattle.heads.specs.Heads.{Heads}
 use Rattle.alloc.specs.Allocation.{spacesOf}
+use Rattle.address_index.proofs.LinkLaws.{linked-start}
 use Rattle.definition.specs.Memory.{Input, off, told, Table, table, Mem, Out, got, no}
-use Rattle.definition.specs.Slots.{waiter}
 use Rattle.definition.specs.Call.{Rooms, Call, inputOf, start, walk, tooLong, called, graph, tableOf, Answer, answerOf}
 use Rattle.laws.specs.Sound.{Proper}
 use Rattle.laws.specs.ClosingKeeps.{start-sound, start-counted}
 use Rattle.laws.specs.Waiting.{waits-start}
+use Rattle.laws.specs.Addresses.{start-ascending}
 use Rattle.assurance.specs.Quiet.{answer-quiet, table-quiet}
 use Rattle.assurance.specs.Refusals.{Known, refusal-known}
 use Rattle.assurance.specs.Guarantee.{guaranteed}
@@ -24,8 +25,8 @@ use Rattle.readers.specs.declared.state.State.{State}
 use Rattle.readers.specs.declared.state.Went.{Went}
 use Rattle.readers.specs.declared.state.Went.the-variants.{On, Refused}
 use Rattle.readers.specs.Views.{Lent, input, mem, seenWent}
-use Rattle.readers.specs.Index.{Indexed, waitingCount, Single}
-use Rattle.walker.specs.Ready.{lent, Ready}
+use Rattle.readers.proofs.WaiterLaws.{indexed-start}
+use Rattle.walker.specs.Ready.{lent, Index, Ready}
 use Rattle.cache_graph.specs.declared.parse.Outcome.{Outcome}
 use Rattle.cache_graph.specs.Promise.{roomsOf, answer, Reads, Assures, Started, Rows, Walked}
 use Rattle.cache_graph.specs.SecondCall.{accepted-graph}
@@ -35,17 +36,27 @@ use Rattle.cache_graph.specs.SecondCall.{accepted-graph}
 abbrev pub first : State
 first = record { at = 0; objects = 0; slots = 0; values = 0; addresses = 0; pending = 0; waiting = 0; skip = 0; alignment = 0 }
 
-zeros-index : (st : List ℕ) (n : ℕ) → Indexed st 0 (replicate n 0)
-unfolding waiter
-zeros-index st n i h = getD-replicate n i 0 0 (rw length-replicate at h)
+abbrev blank : ℕ → List ℕ
+blank n = replicate n 0
 
-none-wait : (st : List ℕ) → Single st 0 0
-unfolding waitingCount
-none-wait st = record { one = λ n i h e. absurd (omega arith); all = refl }
+take-zeros : (size n : ℕ) → take size (blank n) ≡ blank (length (take size (blank n)))
+take-zeros zero n = refl
+take-zeros (suc size) zero = refl
+take-zeros (suc size) (suc n) = ap (λ (t : List ℕ). 0 ∷ t) (take-zeros size n)
+
+drop-zeros : (size n : ℕ) → drop size (blank n) ≡ blank (length (drop size (blank n)))
+drop-zeros zero n = ap blank (sym (length-replicate n 0))
+drop-zeros (suc size) zero = refl
+drop-zeros (suc size) (suc n) = drop-zeros size n
+
+-- zeros index no slot and no address record
+zeros-index : (size n : ℕ) (st dt : List ℕ) → Index size (table st 0) (table dt 0) (blank n)
+zeros-index size n st dt =
+    record { pending = indexed-start st (take size (blank n)) (take-zeros size n); linked = linked-start dt (drop size (blank n)) (drop-zeros size n) }
 
 start-ready : {x : Input} {h : List ℕ} → Proper x → Heads (x .sheet) h → (rooms : Rooms) (n : ℕ) → Ready x h (start rooms off) (replicate n 0)
 start-ready {x} p d rooms n =
-    record { proper = p; decoded = d; sound = start-sound x rooms off; counted = start-counted rooms off; numbered = waits-start _; index = zeros-index _ n; single = none-wait _ }
+    record { proper = p; decoded = d; sound = start-sound x rooms off; counted = start-counted rooms off; numbered = waits-start _; ascending = start-ascending p rooms off; index = zeros-index (length (x .payload)) n _ _ }
 
 module _ (x : Input) (h ot st vt dt sc : List ℕ) (s : Started x h ot st vt dt sc) where
   pub started : mem first (lent ot st vt dt (replicate 25 0) (replicate 256 0) (replicate 256 0)) ≡ start (roomsOf ot st vt dt) off

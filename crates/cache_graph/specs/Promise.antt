@@ -3,7 +3,7 @@ use mathlib.Core.Path.{_≡_}
 use mathlib.Core.List.{List}
 use Prim.Native.Nat.{ℕ}
 use lib.ListN.{length, replicate}
-use Rattle.sheet.specs.Heads.{Heads}
+use Rattle.heads.specs.Heads.{Heads}
 use Rattle.definition.specs.Memory.{Input, Table, table, Mem, Out, got, no}
 use Rattle.definition.specs.Call.{Rooms, Call, graph, tableOf, Answer, answerOf}
 use Rattle.laws.specs.Sound.{Proper}

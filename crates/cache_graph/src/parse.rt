@@ -1,9 +1,9 @@
 // The entry point: a call from its checks to its outcome.
 use alloc::legacy_alloc::spaces;
 use graph::walk::walk;
+use heads::heads::decode;
 use readers::state::State;
 use readers::state::Went;
-use sheet::heads::decode;
 use tables::records::clear;
 ghost use mathlib.Core.Bool.{true};
 ghost use mathlib.Core.Path.{_≡_};

@@ -6,7 +6,7 @@ use lib.ListN.{take, replicate}
 use Rattle.stream.specs.Bytes.{peekAt, littleEndian, rawAt}
 use Rattle.stream.specs.PutInt.{intLength, intAt}
 use Rattle.sheet.specs.Sheet.{allWithin, usable}
-use Rattle.sheet.specs.Heads.{order, firstOf, headOf}
+use Rattle.heads.specs.Heads.{order, firstOf, headOf}
 use Rattle.sheet.specs.Tests.{alignmentOf, closingOf}
 use Rattle.tables.specs.Values.{triple}
 use Rattle.tables.specs.Records.{written, filled}

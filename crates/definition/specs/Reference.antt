@@ -9,8 +9,8 @@ use Rattle.stream.specs.declared.bytes.Range.{Range}
 use Rattle.stream.specs.declared.bytes.Range.the-variants.{To as RangeTo, Past}
 use Rattle.stream.specs.Bytes.{rawAt}
 use Rattle.sheet.specs.Sheet.{pickℕ, isLegacy, rawAdvances}
-use Rattle.sheet.specs.Kinds.{newObject, backref, legacyBackref, legacyBackrefWithSkip, nextChunk, alignment, hot, hotWithSkip, rootArray, rootConstant, rootConstantWithSkip, readOnly, attached, builtin, external, api, internal, deoptimizer, streamBytes, embedderFields, offHeapTarget, cache, registerPending, clearedWeak, weakPrefix, pointerPrefix, dispatchEntry, fixedRaw, variableRaw, skip, fixedRepeat, fixedRepeatRoot, repeatPrevious, variableRepeat, variableRepeatPrevious, variableRepeatRoot, metaMap}
-use Rattle.sheet.specs.Heads.{Head, headOf}
+use Rattle.heads.specs.Kinds.{newObject, backref, legacyBackref, legacyBackrefWithSkip, nextChunk, alignment, hot, hotWithSkip, rootArray, rootConstant, rootConstantWithSkip, readOnly, attached, builtin, external, api, internal, deoptimizer, streamBytes, embedderFields, offHeapTarget, cache, registerPending, clearedWeak, weakPrefix, pointerPrefix, dispatchEntry, fixedRaw, variableRaw, skip, fixedRepeat, fixedRepeatRoot, repeatPrevious, variableRepeat, variableRepeatPrevious, variableRepeatRoot, metaMap}
+use Rattle.heads.specs.Heads.{Head, headOf}
 use Rattle.tables.specs.declared.values.Ref.{Ref}
 use Rattle.tables.specs.declared.values.Ref.the-variants.{Object, Root, RoRef, Attached}
 use Rattle.tables.specs.declared.values.SlotValue.{SlotValue}

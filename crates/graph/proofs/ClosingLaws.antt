@@ -30,9 +30,8 @@ use Rattle.laws.specs.Fuel.{entries-fuel}
 use Rattle.readers.specs.declared.state.State.{State}
 use Rattle.readers.specs.Views.{Lent, mem}
 use Rattle.readers.proofs.ViewLaws.{then-got, then-no}
-use Rattle.walker.specs.Ready.{Ready}
+use Rattle.walker.specs.Ready.{Index, Ready}
 use Rattle.walker.proofs.ReadyLaws.{Went, None, ready-after, moved-kept}
-use Rattle.walker.proofs.ItemsLaws.{Right}
 use Rattle.graph.specs.Driver.{oneEntry, InLegacy}
 use Rattle.graph.proofs.ReadyLaws.{Law, law-went}
 use Rattle.graph.proofs.PaddingLaws.{paddingFrom}
@@ -133,7 +132,7 @@ module _ (x : Input) (h : List ℕ) (m₀ : Mem) (s : State) (l : Lent) (sc : Li
       loop-aligned =
           let k = aligned-kept in
           let fuel : entriesLeft x (aligned a (moved (s .at + 1) (mem s l))) ≡ entries x (length (x .payload) - s .at) (aligned a (moved (s .at + 1) (mem s l))) = entries-fuel (w .ready .proper) _ _ (aligned a (moved (s .at + 1) (mem s l))) (k .sound) (k .counted) (omega arith) (omega arith) in
-          record { ready = ready-after (w .ready) k (w .ready .numbered) (w .ready .index) (w .ready .single); same = fuel ∙ left-aligned ∙ w .same; onward = onward-trans (w .onward) (k .onward) }
+          record { ready = ready-after (w .ready) k (w .ready .numbered) (w .ready .ascending) (record { pending = w .ready .index .pending; linked = w .ready .index .linked }); same = fuel ∙ left-aligned ∙ w .same; onward = onward-trans (w .onward) (k .onward) }
 
     -- an entry that holds references
     module _ (e : Closing) (c : closingOf (x .sheet) (peek x (mem s l)) ≡ e) (t : OneOf (2 ∷ 3 ∷ []) (tagOf the-type e)) where
@@ -168,11 +167,11 @@ module _ (x : Input) (h : List ℕ) (m₀ : Mem) (s : State) (l : Lent) (sc : Li
         pub loop-reads : (s .at < m1 .at) × (m1 .at ≤ length (x .payload))
         loop-reads = (entry-went .more, entry-went .kept .sound .within)
 
-        pub loop-turn : {sc1 : List ℕ} → Right (m1 .slots .rows) (m1 .slots .count) (m1 .waiting) sc1 → Loop x h m₀ m1 sc1
+        pub loop-turn : {sc1 : List ℕ} → Index (length (x .payload)) (m1 .slots) (m1 .addresses) sc1 → Loop x h m₀ m1 sc1
         loop-turn j =
             let k = entry-went in
             let fuel : entriesLeft x m1 ≡ entries x (length (x .payload) - s .at) m1 = entries-fuel (w .ready .proper) _ _ m1 (k .kept .sound) (k .kept .counted) (omega arith) (omega (arith, k .more, k .kept .sound .within)) in
-            record { ready = ready-after (w .ready) (k .kept) (k .numbered) (j .index) (j .single); same = after f fuel; onward = onward-trans (w .onward) (k .kept .onward) }
+            record { ready = ready-after (w .ready) (k .kept) (k .numbered) (k .ascending) j; same = after f fuel; onward = onward-trans (w .onward) (k .kept .onward) }
 
 -- ---- the section
 

@@ -3,17 +3,19 @@ use mathlib.Core.Path.{_≡_, refl, sym, ap, subst, _∙_}
 use mathlib.Core.Bool.{Bool, true, false}
 use mathlib.Core.Logic.{⊎-elim}
 use mathlib.Core.List.{List, []}
-use Prim.Native.Nat.{ℕ, suc, _+_, _-_, _*_, _/_, _^_, _<_, _≤_, max}
+use Prim.Native.Nat.{ℕ, zero, suc, _+_, _-_, _*_, _/_, _^_, _<_, _≤_, max}
 use native.Mathlib.Omega.{arith}
 use borrow.Author.Tests.{le-leb, lt-leb, eq-eqb, ne-eqb}
 use lib.Dec.{ltb, eqb}
-use lib.ListN.{length, getD}
+use lib.ListN.{length, getD, take, drop}
 use Rattle.sheet.specs.Sheet.{isLegacy}
 use Rattle.tables.specs.declared.values.SlotValue.{SlotValue}
 use Rattle.tables.specs.declared.values.Fields.{Fields}
 use Rattle.tables.specs.Values.{pickℕ, fieldsOf, widthOf}
 use Rattle.tables.specs.Records.{room, field}
-use Rattle.definition.specs.Memory.{Input, word, Mem, Out, got, no, Reader, andThen, _>>=_, _>>_, choose, moved, cut, byte, int}
+use Rattle.address_index.specs.Links.{Linked}
+use Rattle.definition.specs.Memory.{Input, word, Mem, Out, got, no, Reader, andThen, _>>=_, _>>_, choose, moved, cut, byte, int, inSlot}
+use Rattle.definition.specs.Slots.{addSlot}
 use Rattle.definition.specs.Reference.{legacyReference, refAt}
 use Rattle.definition.specs.Closing.{addSlots, entryFields, isSkip, entrySlots, entryCount, entryItem, entryItems, entryBody, entryOf, entry}
 use Rattle.laws.specs.Sound.{Sound, Onward, Kept, Referred}
@@ -23,10 +25,15 @@ use Rattle.laws.specs.References.{legacyReference-keeps}
 use Rattle.laws.specs.ClosingKeeps.{Slots, entryItem-ends}
 use Rattle.laws.specs.Fuel.{entryItems-fuel}
 use Rattle.readers.proofs.ViewLaws.{then-got, then-no}
-use Rattle.walker.specs.Ready.{Ready}
+use Rattle.readers.specs.declared.state.State.{State}
+use Rattle.readers.specs.declared.state.Went.{Went as Answer}
+use Rattle.readers.specs.declared.state.Went.the-variants.{On}
+use Rattle.readers.specs.Index.{Indexed, WentIndexed}
+use Rattle.walker.specs.Ready.{Index, Ready}
 use Rattle.walker.proofs.ReadyLaws.{Went, Free, None, ready-after, ref-went}
-use Rattle.walker.proofs.ItemsLaws.{Right}
-use Rattle.walker.proofs.ReferenceLaws.{Idle, Still, idle-choose, then-still, next-still, byte-still, int-still, legacy-still}
+use Rattle.walker.proofs.SameLaws.{Leaves, same-choose, then-leaves, next-leaves, same-got}
+use Rattle.walker.proofs.GroundLaws.{Ground, groundOf, slot-ground}
+use Rattle.walker.proofs.ReferenceLaws.{recordsOf, Idle, byte-still, int-still, legacy-still}
 use Rattle.graph.specs.Driver.{namedBy, entryObject}
 use Rattle.graph.proofs.ReadyLaws.{Law, law-went, idle-ready}
 
@@ -58,8 +65,8 @@ module _ (x : Input) (space : ℕ) (m : Mem) where
 
   pub object-still : Idle m (entryObject x space m)
   object-still =
-      then-still (byte x >> legacyReference x space) (λ v. namedBy (fieldsOf v)) (next-still (byte x) (legacyReference x space) (byte-still x) (legacy-still x space))
-      (λ v m. idle-choose (eqb (fieldsOf v .kind) 1) _ _ m (λ _. (refl, refl)) (refl, refl)) m
+      then-leaves recordsOf (byte x >> legacyReference x space) (λ v. namedBy (fieldsOf v)) (next-leaves recordsOf (byte x) (legacyReference x space) (byte-still x) (legacy-still x space))
+      (λ v m. same-choose recordsOf (eqb (fieldsOf v .kind) 1) _ _ m (λ _. refl) refl) m
 
   -- the entry is that, a size, and the items
   pub entry-parts : andThen (entryObject x space m) (λ o. int x >>= entryBody x o) ≡ entry x space m
@@ -128,6 +135,11 @@ module _ (x : Input) (o size index done : ℕ) (m : Mem) where
       unfolding entryItems
       left-next h = rw (one-more, lt-leb size done l, ← e) (then-got (λ _. entryItems x o size (length (x .payload) - m .at) (index + entrySlots x v) (done + entryCount x v)) h refl)
 
+slots-ground : (x : Input) (o : ℕ) (f : Fields) (index n : ℕ) → Leaves groundOf (addSlots o f index n)
+unfolding addSlots
+slots-ground x o f index zero m = refl
+slots-ground x o f index (suc n) m = next-leaves groundOf (addSlot o index f 0 inSlot) (addSlots o f (index + 1) n) (slot-ground x o index f 0 inSlot) (slots-ground x o f (index + 1) n) m
+
 -- what holds at the head of the loop over the items
 pub record Loop (x : Input) (h : List ℕ) (o size : ℕ) (m₀ : Mem) (index done : ℕ) (m : Mem) (sc : List ℕ) : Type 0 where
   pub ready : Ready x h m sc
@@ -151,8 +163,8 @@ module _ (x : Input) (h : List ℕ) (y : isLegacy (x .sheet) ≡ true) (o size :
         read : Went x m (Referred x m) Free v m1
         read = ref-went (w .ready) 64 e
 
-        pub item-ready : {sc1 : List ℕ} → Right (m1 .slots .rows) (m1 .slots .count) (m1 .waiting) sc1 → Ready x h m1 sc1
-        item-ready i = let z = read in ready-after (w .ready) (z .kept) (z .numbered) (i .index) (i .single)
+        pub item-ready : {sc1 : List ℕ} → Index (length (x .payload)) (m1 .slots) (m1 .addresses) sc1 → Ready x h m1 sc1
+        item-ready i = let z = read in ready-after (w .ready) (z .kept) (z .numbered) (z .ascending) i
 
         -- what `add_slots` asks
         pub slots-ask : length (m .slots .rows) < 2 ^ 64 → (field 4 (m1 .objects .rows) o 3 ≤ m1 .slots .count) × (m1 .slots .count ≤ room 6 (m1 .slots .rows)) × (m1 .waiting < 2 ^ 63) × (index ≤ m1 .slots .count + 1)
@@ -166,21 +178,30 @@ module _ (x : Input) (h : List ℕ) (y : isLegacy (x .sheet) ≡ true) (o size :
         pub loop-full : {n q : ℕ} {m2 : Mem} → no n q m2 ≡ entryItem x o index v m1 → no n q m2 ≡ entryBody x o size m₀
         loop-full f = left-full x o size index done m l e f ∙ w .same
 
-        module _ {sc1 : List ℕ} (i : Right (m1 .slots .rows) (m1 .slots .count) (m1 .waiting) sc1) {u : Unit {0}} {m2 : Mem} (f : got u m2 ≡ entryItem x o index v m1) where
+        module _ {sc1 : List ℕ} (i : Index (length (x .payload)) (m1 .slots) (m1 .addresses) sc1) {u : Unit {0}} {m2 : Mem} (f : got u m2 ≡ entryItem x o index v m1) where
           item-went : Went x m1 (λ _ m2. Slots (entrySlots x v) m1 m2) None u m2
           item-went = law-went (item-ready i) (λ m1 _ m2. Slots (entrySlots x v) m1 m2) (λ I W R g. entryItem-ends (w .ready .proper) R y o index v g) f
 
           pub loop-reads : m .at < m2 .at
           loop-reads = omega (arith, read .more .reads, item-went .more .at-same)
 
-          pub loop-turn : Right (m2 .slots .rows) (m2 .slots .count) (m2 .waiting) sc1 → Loop x h o size m₀ (index + entrySlots x v) (done + entryCount x v) m2 sc1
+          -- the slots of an item leave the address records
+          item-index : Indexed (m2 .slots .rows) (m2 .slots .count) (take (length (x .payload)) sc1) → Index (length (x .payload)) (m2 .slots) (m2 .addresses) sc1
+          item-index j =
+              let z = same-got groundOf {m = m1} f (slots-ground x o (entryFields (m1 .values) v) index (entrySlots x v) m1) in
+              record { pending = j; linked = subst (λ (g : Ground). Linked (g .addresses .rows) (g .addresses .count) (drop (length (x .payload)) sc1)) (sym z) (i .linked) }
+
+          pub loop-turn : Indexed (m2 .slots .rows) (m2 .slots .count) (take (length (x .payload)) sc1) → Loop x h o size m₀ (index + entrySlots x v) (done + entryCount x v) m2 sc1
           loop-turn j =
               let z = read in
               let k = item-went in
               let fuel : itemsLeft x o size (index + entrySlots x v) (done + entryCount x v) m2 ≡ entryItems x o size (length (x .payload) - m .at) (index + entrySlots x v) (done + entryCount x v) m2 = entryItems-fuel (w .ready .proper) o size _ _ _ _ m2 y (k .kept .sound) (k .kept .counted) (omega arith) (omega (arith, loop-reads, k .kept .sound .within)) in
-              record { ready = ready-after (item-ready i) (k .kept) (k .numbered) (j .index) (j .single); same = fuel ∙ left-next x o size index done m l e f ∙ w .same; onward = onward-trans (w .onward) (onward-trans (z .kept .onward) (k .kept .onward)); place = omega (arith, w .place, z .kept .onward .slots-up, k .more .more) }
+              record { ready = ready-after (item-ready i) (k .kept) (k .numbered) (k .ascending) (item-index j); same = fuel ∙ left-next x o size index done m l e f ∙ w .same; onward = onward-trans (w .onward) (onward-trans (z .kept .onward) (k .kept .onward)); place = omega (arith, w .place, z .kept .onward .slots-up, k .more .more) }
 
 -- ---- what the code's answers say
+
+pub went-pending : {r : Answer} {t : State} (slots part : List ℕ) → r ≡ On t → WentIndexed r slots part → Indexed slots (t .slots) part
+went-pending slots part e i = subst (λ (r : Answer). WentIndexed r slots part) e i
 
 pub word-fits : {x : Input} {h sc : List ℕ} {m : Mem} → Ready x h m sc → (w : ℕ) → w ≡ word x → (0 < w) × (w ≤ 8)
 word-fits g w e = (⊎-elim (λ z. omega (arith, e)) (λ z. omega (arith, e)) (sheet-gives (g .proper) .word), omega (arith, e, word-low (g .proper)))

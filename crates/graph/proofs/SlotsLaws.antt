@@ -21,11 +21,11 @@ use Rattle.readers.specs.declared.state.State.{State}
 use Rattle.readers.specs.declared.state.Count.{Count}
 use Rattle.readers.specs.declared.state.Count.the-variants.{Is, Refused as CountRefused}
 use Rattle.readers.specs.Views.{Lent, mem, seenCount, objectsIs, slotsIs}
-use Rattle.readers.specs.Index.{Indexed, Single}
+use Rattle.readers.specs.Index.{Indexed}
 use Rattle.readers.specs.Item.{slotOf}
 use Rattle.readers.proofs.ViewLaws.{count-is, count-no, then-got, then-no, nothing}
 use Rattle.readers.proofs.ItemLaws.{Added, slot-added}
-use Rattle.readers.proofs.WaiterLaws.{indexed-plain, single-plain}
+use Rattle.readers.proofs.WaiterLaws.{indexed-plain}
 
 -- ---- an item's value
 
@@ -89,14 +89,14 @@ pub record Adding (o : ℕ) (f : Fields) (index n : ℕ) (s : State) (ot₀ st�
   pub below : i ≤ n
   pub objects-length : length ot ≡ length ot₀
   pub slots-length : length st ≡ length st₀
-  pub right : (sc : List ℕ) → Indexed st₀ (s .slots) sc → Single st₀ (s .slots) (s .waiting) → Indexed st (t .slots) sc × Single st (t .slots) (t .waiting)
+  pub right : (sc : List ℕ) → Indexed st₀ (s .slots) sc → Indexed st (t .slots) sc
 
 module _ (o : ℕ) (f : Fields) (index n : ℕ) (s : State) (ot₀ st₀ : List ℕ) where
   pub adding-start : field 4 ot₀ o 3 ≤ s .slots → s .slots ≤ room 6 st₀ → index ≤ s .slots + 1 → Adding o f index n s ot₀ st₀ s 0 ot₀ st₀
   adding-start c r p =
       let z : index + 0 ≡ index = omega arith in
       let n-0 : n - 0 ≡ n = omega arith in
-      record { same = λ l. rw (z, n-0); counts = c; fits = r; waits = refl; place = omega arith; below = omega arith; objects-length = refl; slots-length = refl; right = λ sc i q. (i, q) }
+      record { same = λ l. rw (z, n-0); counts = c; fits = r; waits = refl; place = omega arith; below = omega arith; objects-length = refl; slots-length = refl; right = λ sc i. i }
 
   module _ (t : State) (i : ℕ) (ot st : List ℕ) (w : Adding o f index n s ot₀ st₀ t i ot st) where
     pub adding-end : n ≤ i → (l : Lent) → got tt (mem t (objectsIs ot (slotsIs st l))) ≡ addSlots o f index n (mem s (objectsIs ot₀ (slotsIs st₀ l)))
@@ -137,5 +137,5 @@ module _ (o : ℕ) (f : Fields) (index n : ℕ) (s : State) (ot₀ st₀ : List 
               below = omega arith;
               objects-length = a ∙ w .objects-length;
               slots-length = b ∙ w .slots-length;
-              right = λ sc y u. let z = w .right sc y u in rw (d .rows-are, count, waits) (indexed-plain st (t .slots) o (index + i) f 0 (d .roomy) refl sc (z .0), single-plain st (t .slots) o (index + i) f 0 (d .roomy) refl (t .waiting) (z .1));
+              right = λ sc y. rw (d .rows-are, count) (indexed-plain st (t .slots) o (index + i) f 0 (d .roomy) refl sc (w .right sc y));
             }

@@ -6,6 +6,7 @@ use Prim.Native.Nat.{ℕ, _-_, _<_, _≤_}
 use native.Mathlib.Omega.{arith}
 use borrow.Author.Tests.{leb-true}
 use lib.Dec.{leb, ltb}
+use lib.ListN.{length}
 use Rattle.sheet.specs.Names.{kNewObject, kBackref}
 use Rattle.sheet.specs.Sheet.{number, isLegacy}
 use Rattle.sheet.specs.Tests.{opens}
@@ -23,9 +24,8 @@ use Rattle.readers.specs.declared.state.State.{State}
 use Rattle.readers.specs.declared.state.Step.{Step}
 use Rattle.readers.specs.declared.state.Step.the-variants.{Got, Refused}
 use Rattle.readers.specs.Views.{Lent, mem, seen}
-use Rattle.readers.specs.Index.{StepIndexed}
 use Rattle.readers.proofs.ViewLaws.{then-got, then-no}
-use Rattle.walker.specs.Ready.{Ready}
+use Rattle.walker.specs.Ready.{OutIndex, Ready}
 use Rattle.walker.proofs.ReadyLaws.{Went, Free, ready-after, object-went}
 use Rattle.walker.proofs.ReferenceLaws.{byte-still}
 use Rattle.graph.specs.Driver.{topObject, StepReady}
@@ -66,8 +66,8 @@ pub byte-ready : {x : Input} {h sc : List ℕ} {m : Mem} → Ready x h m sc → 
 byte-ready {x} {m = m} g e = idle-ready g (Passed 256) (λ I W R w. by w (byte-keeps (g .proper) R)) (byte-still x m) e
 
 -- after the top object
-pub object-ready : {x : Input} {h sc : List ℕ} {m : Mem} → Ready x h m sc → (sc1 : List ℕ) (space : ℕ) → space < 256 → (r : Step) (l : Lent) → seen r l ≡ object x (refAt x 64) space 0 m → StepIndexed r (l .slots) sc1 → StepReady x h r l sc1
-object-ready {x} {m = m} g sc1 space b (Got v s) l e i = let z : Went x m (Referred x m) Free v (mem s l) = object-went g 64 space 0 b e in ready-after g (z .kept) (z .numbered) (i .0) (i .1)
+pub object-ready : {x : Input} {h sc : List ℕ} {m : Mem} → Ready x h m sc → (sc1 : List ℕ) (space : ℕ) → space < 256 → (r : Step) (l : Lent) → seen r l ≡ object x (refAt x 64) space 0 m → OutIndex (length (x .payload)) (seen r l) sc1 → StepReady x h r l sc1
+object-ready {x} {m = m} g sc1 space b (Got v s) l e i = let z : Went x m (Referred x m) Free v (mem s l) = object-went g 64 space 0 b e in ready-after g (z .kept) (z .numbered) (z .ascending) i
 object-ready g sc1 space b (Refused n q s) l e i = tt
 
 pub step-ready : {x : Input} {h sc : List ℕ} {r : Step} {v : SlotValue} {s : State} (l : Lent) → r ≡ Got v s → StepReady x h r l sc → Ready x h (mem s l) sc

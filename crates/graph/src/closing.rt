@@ -4,9 +4,9 @@ use crate::padding::padding;
 use readers::state::State;
 use readers::state::Step;
 use readers::state::Went;
+use sheet::numbers::legacy;
 use sheet::tests::Closing;
 use sheet::tests::closing_entry;
-use sheet::usable::legacy;
 use stream::bytes::peek;
 use walker::walk::parse_ref;
 ghost use mathlib.Core.Path.{_≡_};
@@ -15,8 +15,7 @@ ghost use Prim.Native.Nat.{ℕ, _+_, _-_};
 ghost use lib.ListN.{length};
 ghost use Rattle.definition.specs.Closing.{endsLegacy, entries as entriesFrom, closing as closingSection};
 ghost use Rattle.readers.specs.Views.{input, mem, seenWent};
-ghost use Rattle.readers.specs.Index.{WentIndexed};
-ghost use Rattle.walker.specs.Ready.{lent, Ready};
+ghost use Rattle.walker.specs.Ready.{lent, OutIndex, Ready};
 ghost use Rattle.graph.specs.Driver.{oneEntry, InLegacy};
 
 // In a legacy closing section any fault but 3 and 16 only ends it.
@@ -47,7 +46,7 @@ fn one_entry(
     requires { ⌜ Ready (input (now v) (now p) k (now tr)) (now h) (mem s (lent (now ot) (now st) (now vt) (now dt) (now hr) (now c) (now u))) (now sc) ⌝ }
     requires { ⌜ InLegacy (now v) e ⌝ }
     ensures { λ r. ⌜ seenWent r (lent (now (ot .exit)) (now (st .exit)) (now (vt .exit)) (now (dt .exit)) (now (hr .exit)) (now (c .exit)) (now (u .exit))) ≡ oneEntry (input (now (v .entry)) (now (p .entry)) k (now (tr .entry))) e (mem s (lent (now (ot .entry)) (now (st .entry)) (now (vt .entry)) (now (dt .entry)) (now (hr .entry)) (now (c .entry)) (now (u .entry)))) ⌝ }
-    ensures index { λ r. ⌜ WentIndexed r (now (st .exit)) (now (sc .exit)) ⌝ }
+    ensures index { λ r. ⌜ OutIndex (length (now (p .entry))) (seenWent r (lent (now (ot .exit)) (now (st .exit)) (now (vt .exit)) (now (dt .exit)) (now (hr .exit)) (now (c .exit)) (now (u .exit)))) (now (sc .exit)) ⌝ }
 {
     if let Closing::Deferred(space) = e {
         return entry(v, h, tr, p, ot, st, vt, dt, hr, c, u, sc, k, s, space);

@@ -7,7 +7,7 @@ use readers::state::Count;
 use readers::state::State;
 use readers::state::Step;
 use readers::state::Went;
-use sheet::usable::word_bytes;
+use sheet::numbers::word_bytes;
 use tables::records::field;
 use tables::records::value_fields;
 use tables::values::Fields;
@@ -20,13 +20,16 @@ ghost use mathlib.Core.Bool.{true};
 ghost use mathlib.Core.Path.{_≡_};
 ghost use mathlib.Core.List.{List};
 ghost use Prim.Native.Nat.{ℕ, _+_, _^_, _<_, _≤_, max};
+ghost use lib.ListN.{length, drop};
 ghost use Rattle.sheet.specs.Sheet.{usable, isLegacy};
 ghost use Rattle.tables.specs.Records.{room, field as fieldOf};
+ghost use Rattle.address_index.specs.Links.{Linked};
+ghost use Rattle.address_index.specs.Sorted.{Sorted};
 ghost use Rattle.definition.specs.Memory.{Input, word as wordOf, table};
 ghost use Rattle.definition.specs.Closing as Closing;
 ghost use Rattle.readers.specs.Views.{Lent, input, mem, seenCount, seenWent, objectsIs, slotsIs, addressesIs, hotIs};
-ghost use Rattle.readers.specs.Index.{Indexed, Single, WentIndexed};
-ghost use Rattle.walker.specs.Ready.{lent, Ready};
+ghost use Rattle.readers.specs.Index.{Indexed, WentIndexed};
+ghost use Rattle.walker.specs.Ready.{lent, OutIndex, Ready};
 ghost use Rattle.graph.specs.Driver.{entryObject};
 
 // A slot's value in an entry: what a repeat holds, else the value itself.
@@ -75,7 +78,7 @@ fn add_slots(
 ) -> Went
     requires { ⌜ (fieldOf 4 (now objects) o 3 ≤ s .slots) × (s .slots ≤ room 6 (now slots)) × (s .waiting < 2 ^ 63) × (index ≤ s .slots + 1) ⌝ }
     ensures { λ r. ⌜ ((l : Lent) → seenWent r (objectsIs (now (objects .exit)) (slotsIs (now (slots .exit)) l)) ≡ Closing.addSlots o f index n (mem s (objectsIs (now (objects .entry)) (slotsIs (now (slots .entry)) l)))) ⌝ }
-    ensures index { λ r. ⌜ ((sc : List ℕ) → Indexed (now (slots .entry)) (s .slots) sc → Single (now (slots .entry)) (s .slots) (s .waiting) → WentIndexed r (now (slots .exit)) sc) ⌝ }
+    ensures index { λ r. ⌜ ((sc : List ℕ) → Indexed (now (slots .entry)) (s .slots) sc → WentIndexed r (now (slots .exit)) sc) ⌝ }
 {
     let mut t = s;
     let mut i: u64 = 0;
@@ -123,7 +126,7 @@ fn entry_items(
     requires { ⌜ Ready (input (now v) (now p) k (now tr)) (now h) (mem s (lent (now ot) (now st) (now vt) (now dt) (now hr) (now c) (now u))) (now sc) ⌝ }
     requires { ⌜ (isLegacy (now v) ≡ true) × (size < 2 ^ 30) ⌝ }
     ensures { λ r. ⌜ seenWent r (lent (now (ot .exit)) (now (st .exit)) (now (vt .exit)) (now (dt .exit)) (now (hr .exit)) (now (c .exit)) (now (u .exit))) ≡ Closing.entryBody (input (now (v .entry)) (now (p .entry)) k (now (tr .entry))) o size (mem s (lent (now (ot .entry)) (now (st .entry)) (now (vt .entry)) (now (dt .entry)) (now (hr .entry)) (now (c .entry)) (now (u .entry)))) ⌝ }
-    ensures index { λ r. ⌜ WentIndexed r (now (st .exit)) (now (sc .exit)) ⌝ }
+    ensures index { λ r. ⌜ OutIndex (length (now (p .entry))) (seenWent r (lent (now (ot .exit)) (now (st .exit)) (now (vt .exit)) (now (dt .exit)) (now (hr .exit)) (now (c .exit)) (now (u .exit)))) (now (sc .exit)) ⌝ }
 {
     let word = word_bytes(v);
     let mut index = first_index(ot, o);
@@ -153,13 +156,22 @@ fn entry_items(
 }
 
 // The object that an entry names: a new-object byte, then a back-reference of its space.
-fn entry_object(v: &[u16], p: &[u8], dt: &[u64], hr: &mut [u64; 25], s: State, space: u64) -> Count
+fn entry_object(
+    v: &[u16],
+    p: &[u8],
+    dt: &[u64],
+    sc: &[u64],
+    hr: &mut [u64; 25],
+    s: State,
+    space: u64,
+) -> Count
     requires { ⌜ (s .addresses ≤ room 5 (now dt)) × (usable (now v) ≡ true) ⌝ }
+    requires { ⌜ Linked (now dt) (s .addresses) (drop (length (now p)) (now sc)) × Sorted (now dt) (s .addresses) ⌝ }
     ensures { λ r. ⌜ ((tr : List ℕ) (sp : ℕ) (l : Lent) → seenCount r (addressesIs (now (dt .entry)) (hotIs (now (hr .exit)) l)) ≡ entryObject (input (now (v .entry)) (now (p .entry)) sp tr) space (mem s (addressesIs (now (dt .entry)) (hotIs (now (hr .entry)) l)))) ⌝ }
 {
     match read_byte(p, s) {
         Count::Refused(n, q, t) => Count::Refused(n, q, t),
-        Count::Is(_, t) => match legacy_ref(v, p, dt, hr, t, space) {
+        Count::Is(_, t) => match legacy_ref(v, p, dt, sc, hr, t, space) {
             Step::Refused(n, q, y) => Count::Refused(n, q, y),
             Step::Got(x, y) => {
                 let at = y.at;
@@ -195,9 +207,9 @@ pub fn entry(
     requires { ⌜ Ready (input (now v) (now p) k (now tr)) (now h) (mem s (lent (now ot) (now st) (now vt) (now dt) (now hr) (now c) (now u))) (now sc) ⌝ }
     requires { ⌜ isLegacy (now v) ≡ true ⌝ }
     ensures { λ r. ⌜ seenWent r (lent (now (ot .exit)) (now (st .exit)) (now (vt .exit)) (now (dt .exit)) (now (hr .exit)) (now (c .exit)) (now (u .exit))) ≡ Closing.entry (input (now (v .entry)) (now (p .entry)) k (now (tr .entry))) space (mem s (lent (now (ot .entry)) (now (st .entry)) (now (vt .entry)) (now (dt .entry)) (now (hr .entry)) (now (c .entry)) (now (u .entry)))) ⌝ }
-    ensures index { λ r. ⌜ WentIndexed r (now (st .exit)) (now (sc .exit)) ⌝ }
+    ensures index { λ r. ⌜ OutIndex (length (now (p .entry))) (seenWent r (lent (now (ot .exit)) (now (st .exit)) (now (vt .exit)) (now (dt .exit)) (now (hr .exit)) (now (c .exit)) (now (u .exit)))) (now (sc .exit)) ⌝ }
 {
-    match entry_object(v, p, dt, hr, s, space) {
+    match entry_object(v, p, dt, sc, hr, s, space) {
         Count::Refused(n, q, t) => Went::Refused(n, q, t),
         Count::Is(o, t) => match read_int(p, t) {
             Count::Refused(n, q, y) => Went::Refused(n, q, y),

@@ -2,8 +2,8 @@
 use readers::state::State;
 use readers::state::Went;
 use sheet::names::K_NOP;
+use sheet::numbers::legacy;
 use sheet::tests::is_tag;
-use sheet::usable::legacy;
 use stream::bytes::peek;
 ghost use mathlib.Core.Path.{_≡_};
 ghost use mathlib.Core.List.{List};

@@ -140,7 +140,7 @@ module _ {x : Input} {I : List Frame → Mem → Type 0} {W : Mem → SlotValue 
 
 -- ---- a call starts in order
 
-zero-at : (n i : ℕ) → _≡_ {A = ℕ} (getD (replicate n 0) i 0) 0
+pub zero-at : (n i : ℕ) → _≡_ {A = ℕ} (getD (replicate n 0) i 0) 0
 zero-at zero i = refl
 zero-at (suc n) zero = refl
 zero-at (suc n) (suc i) = zero-at n i

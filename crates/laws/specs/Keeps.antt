@@ -228,15 +228,15 @@ module _ {x : Input} {I : List Frame → Mem → Type 0} {W : Mem → SlotValue 
   -- ---- an object that is being read
 
   module _ {S : List Frame} {o size done : ℕ} where
-    pub allocate-ends : {m : Mem} → Good x I (frame o size done ∷ S) m m → (space bytes : ℕ) → Ends x I m (λ _. frame o size done ∷ S) (Besides m) (allocate x space bytes o m)
+    pub allocate-ends : {m : Mem} → Good x I (frame o size done ∷ S) m m → (space : ℕ) → space < 256 → Ends x I m (λ _. frame o size done ∷ S) (Besides m) (allocate x space size o m)
     unfolding allocate
-    allocate-ends {m} w space bytes = after _ refl (allocate-grants (m .addresses .rows) (m .addresses .count) (x .spaces) _ (m .alloc))
+    allocate-ends {m} w space low = after _ refl (allocate-grants (m .addresses .rows) (m .addresses .count) (x .spaces) _ (m .alloc))
       where
-        after : (r : Outcome) → r ≡ allocateOf (m .addresses .rows) (m .addresses .count) (x .spaces) (record { space = space; size = bytes; object = o; alignment = m .alignment; word = word x }) (m .alloc) → (r .number ≡ 0 → Allocates (m .addresses .rows) (m .addresses .count) (m .alloc) r) → Ends x I m (λ _. frame o size done ∷ S) (Besides m) (afterAllocation r m)
+        after : (r : Outcome) → r ≡ allocateOf (m .addresses .rows) (m .addresses .count) (x .spaces) (record { space = space; size = size; object = o; alignment = m .alignment; word = word x }) (m .alloc) → (r .number ≡ 0 → Allocates (m .addresses .rows) (m .addresses .count) (m .alloc) r) → Ends x I m (λ _. frame o size done ∷ S) (Besides m) (afterAllocation r m)
         after r q h =
             either (eqb (r .number) 0) _ _
             (λ e. let z : r .number ≡ 0 = eqb-true _ _ e in
-            gives (record { kept = kept-allocated (w .kept) (r .alignment) r (h z); has = R .on-allocate S m o size done space bytes (w .kept .sound) (w .has) (w .listed .0) r q z; listed = w .listed }) refl)
+            gives (record { kept = kept-allocated (w .kept) (r .alignment) r (h z); has = R .on-allocate S m o size done space (w .kept .sound) (w .has) (w .listed .0) low r q z; listed = w .listed }) refl)
             (λ _. refuses w)
 
     flag-ends : {m : Mem} → Good x I (frame o size done ∷ S) m m → (v : SlotValue) → W m v → Ends x I m (λ _. frame o size done ∷ S) (λ _ m′. (Aside m m′) × (m′ .at ≡ m .at) × (m′ .skip ≡ m .skip)) (flagObject x o v m)
@@ -308,26 +308,26 @@ module _ {x : Input} {I : List Frame → Mem → Type 0} {W : Mem → SlotValue 
 
   module _ {r : Reader SlotValue} (k : Keeping x I (Refers x W) r) where
     module _ {S : List Frame} {o size : ℕ} where
-      first-ends : {m : Mem} → Good x I (frame o size 0 ∷ S) m m → (space bytes : ℕ) → space < 256 → Ends x I m (λ _. frame o size 0 ∷ S) (Refers x W m) (mapFirst x r space bytes o m)
+      first-ends : {m : Mem} → Good x I (frame o size 0 ∷ S) m m → (space : ℕ) → space < 256 → Ends x I m (λ _. frame o size 0 ∷ S) (Refers x W m) (mapFirst x r space size o m)
       unfolding mapFirst
-      first-ends {m} w space bytes h =
+      first-ends {m} w space h =
           then₁ w (by w k) _
           (λ v m1 w1 k1 p. let w2 = good-aligned R w1 (m .alignment) in
           then₃ w2 (by w2 alignment-keeps) _ _ _
           (λ _ m3 w3 k3 a3. then₂ w3 (by w3 (chunks-keep space h)) _ _
-          (λ _ m4 w4 k4 a4. then₁ w4 (allocate-ends (here w4) space bytes) _
+          (λ _ m4 w4 k4 a4. then₁ w4 (allocate-ends (here w4) space h) _
           (λ _ m5 w5 k5 a5. gives w5 (record { reads = omega (arith, p .reads, k3 .onward, k4 .onward, k5 .onward); narrow = p .narrow; has = R .aside m1 m5 v (a5 ∙ a4 ∙ a3) (p .has) })))))
 
-      then-ends : {m : Mem} → Good x I (frame o size 0 ∷ S) m m → (space bytes : ℕ) → Ends x I m (λ _. frame o size 0 ∷ S) (Refers x W m) (mapThenAllocate x r space bytes o m)
-      then-ends w space bytes =
+      then-ends : {m : Mem} → Good x I (frame o size 0 ∷ S) m m → (space : ℕ) → space < 256 → Ends x I m (λ _. frame o size 0 ∷ S) (Refers x W m) (mapThenAllocate x r space size o m)
+      then-ends w space h =
           then₁ w (by w k) _
-          (λ v m1 w1 k1 p. then₁ w1 (allocate-ends (here w1) space bytes) _
+          (λ v m1 w1 k1 p. then₁ w1 (allocate-ends (here w1) space h) _
           (λ _ m2 w2 k2 a2. gives w2 (record { reads = omega (arith, p .reads, k2 .onward); narrow = p .narrow; has = R .aside m1 m2 v a2 (p .has) })))
 
-      pub map-ends : {m : Mem} → Good x I (frame o size 0 ∷ S) m m → (space bytes : ℕ) → space < 256 → Ends x I m (λ _. frame o size 0 ∷ S) (Refers x W m) (readMap x r space bytes o m)
-      map-ends w space bytes h =
-          either (isMapFirst (x .sheet)) _ _ (λ _. first-ends w space bytes h)
-          (λ _. either (isLegacy (x .sheet)) _ _ (λ _. then-ends w space bytes) (λ _. by w k))
+      pub map-ends : {m : Mem} → Good x I (frame o size 0 ∷ S) m m → (space : ℕ) → space < 256 → Ends x I m (λ _. frame o size 0 ∷ S) (Refers x W m) (readMap x r space size o m)
+      map-ends w space h =
+          either (isMapFirst (x .sheet)) _ _ (λ _. first-ends w space h)
+          (λ _. either (isLegacy (x .sheet)) _ _ (λ _. then-ends w space h) (λ _. by w k))
 
       pub items-end : (n done : ℕ) {m : Mem} → Good x I (frame o size done ∷ S) m m → Ends x I m (λ d. frame o size d ∷ S) (Filled size done m) (items x r o size n done m)
       unfolding items
@@ -347,7 +347,7 @@ module _ {x : Input} {I : List Frame → Mem → Type 0} {W : Mem → SlotValue 
     pub body-ends : {S : List Frame} {o : ℕ} {m : Mem} (words : ℕ) → Good x I (frame o (words * word x) 0 ∷ S) m m → (space tag : ℕ) → space < 256 → Ends x I m (λ _. S) (Refers x W m) (body x r space tag words o m)
     unfolding body
     body-ends words w space tag h =
-        then₄ w (map-ends w space _ h) _ _ _ _
+        then₄ w (map-ends w space h) _ _ _ _
         (λ v m1 w1 k1 p. then₃ w1 (keepMap-ends (here w1) v (p .has)) _ _ _
         (λ _ m2 w2 k2 q. then₂ w2 (resolves-end _ (here w2)) _ _
         (λ _ m3 w3 k3 _. then₁ w3 (items-end _ _ (here w3)) _

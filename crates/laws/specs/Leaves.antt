@@ -20,9 +20,9 @@ use Rattle.stream.specs.Bytes.{peekAt, littleEndian, rawAt, pickRange}
 use Rattle.stream.specs.PutInt.{pickInt, intLength, intAt}
 use Rattle.stream.proofs.ByteLaws.{Bytes, le-below, peek-byte}
 use Rattle.sheet.specs.Names.{kNewObject, kSynchronize, kAlignmentPrefix, kNewMetaMap}
-use Rattle.sheet.specs.Kinds.{newObject}
+use Rattle.heads.specs.Kinds.{newObject}
 use Rattle.sheet.specs.Sheet.{pickℕ, number, present, numberOfSpaces, rootMask, wordBytes, isLegacy, isSixX}
-use Rattle.sheet.specs.Heads.{Row, order, argumentOf, Head, claims, firstOf, headOf, pickHead, nothing, offset, fromOne, fromTwo, andSeven}
+use Rattle.heads.specs.Heads.{Row, order, argumentOf, Head, claims, firstOf, headOf, pickHead, nothing, offset, fromOne, fromTwo, andSeven}
 use Rattle.sheet.specs.declared.tests.Closing.the-variants.{Synchronize, Alignment, Deferred, Reference}
 use Rattle.sheet.specs.Tests.{inSpan, alignmentOf, pickClosing, isEntry, closingOf}
 use Rattle.sheet.specs.Usable.{Usable}
@@ -205,7 +205,7 @@ pub record Allocates (t : List ℕ) (n : ℕ) (c : LegacyAlloc) (r : Outcome) : 
   pub cur-same : r .alloc .cur ≡ c .cur
   pub used-length : length (r .alloc .used) ≡ length (c .used)
 
-pickOutcome-case : (P : Outcome → Type 0) (t : Bool) (a b : Outcome) → (t ≡ true → P a) → (t ≡ false → P b) → P (pickOutcome t a b)
+pub pickOutcome-case : (P : Outcome → Type 0) (t : Bool) (a b : Outcome) → (t ≡ true → P a) → (t ≡ false → P b) → P (pickOutcome t a b)
 pickOutcome-case P true a b y n = y refl
 pickOutcome-case P false a b y n = n refl
 

@@ -9,3 +9,4 @@ pub mod ClosingKeeps
 pub mod Theorems
 pub mod Numbered
 pub mod Fuel
+pub mod Addresses

@@ -118,7 +118,7 @@ numbered-rules x =
       on-close = λ S m o size i b. (i, tt);
       on-aligned = λ S m a i. i;
       on-chunk = λ S m space i. i;
-      on-allocate = λ S m o size done space bytes s i b r e z. i;
+      on-allocate = λ S m o size done space s i b h r e z. i;
       on-drop = λ m v i h. i;
       on-synchronize = λ m i h e. i;
       on-entry = λ m o index f s e i l. waits-added i o index f 0 l (λ e. never e) (omega arith);
@@ -153,7 +153,7 @@ module _ {x : Input} (g : Proper x) where
     -- an object o that has a record
     module _ (o size done : ℕ) (l : o < m .objects .count) where
       pub map-numbered : (k space bytes : ℕ) → space < 256 → Ordered (λ v m′. FreshValue m′ v) (readMap x (refAt x k) space bytes o m)
-      map-numbered k space bytes h = orders (map-ends g (numbered-rules x) (ref-keeping g (numbered-rules x) k) (good (frame o size 0 ∷ []) (l, tt)) space bytes h) (λ v m′ p. p .has)
+      map-numbered k space bytes h = orders (map-ends g (numbered-rules x) (ref-keeping g (numbered-rules x) k) (good (frame o bytes 0 ∷ []) (l, tt)) space h) (λ v m′ p. p .has)
 
       pub keepMap-numbered : (v : SlotValue) → FreshValue m v → Ordered (λ _ m′. Unit {0}) (keepMap x o v m)
       keepMap-numbered v h = orders (keepMap-ends g (numbered-rules x) (good (frame o size 0 ∷ []) (l, tt)) v h) (λ _ m′ p. tt)

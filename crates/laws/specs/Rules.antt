@@ -10,8 +10,8 @@ use lib.ListN.{length}
 use Rattle.sheet.specs.Sheet.{isLegacy}
 use Rattle.sheet.specs.declared.tests.Closing.the-variants.{Synchronize}
 use Rattle.sheet.specs.Tests.{isDeferred, closingOf}
-use Rattle.sheet.specs.Kinds.{legacyBackrefWithSkip, hotWithSkip, rootConstantWithSkip, internal, deoptimizer, streamBytes, embedderFields, offHeapTarget, api, skip, repeatPrevious, variableRepeatPrevious}
-use Rattle.sheet.specs.Heads.{headOf}
+use Rattle.heads.specs.Kinds.{legacyBackrefWithSkip, hotWithSkip, rootConstantWithSkip, internal, deoptimizer, streamBytes, embedderFields, offHeapTarget, api, skip, repeatPrevious, variableRepeatPrevious}
+use Rattle.heads.specs.Heads.{headOf}
 use Rattle.tables.specs.declared.values.Ref.{Ref}
 use Rattle.tables.specs.declared.values.Ref.the-variants.{Object, Root, RoRef, Attached}
 use Rattle.tables.specs.declared.values.SlotValue.{SlotValue}
@@ -166,8 +166,8 @@ pub record Rules (x : Input) (I : List Frame → Mem → Type 0) (W : Mem → Sl
   -- legacy allocation
   pub on-aligned : (S : List Frame) (m : Mem) (a : ℕ) → I S m → I S (aligned a m)
   pub on-chunk : (S : List Frame) (m : Mem) (space : ℕ) → I S m → I S (changeChunk x space m)
-  pub on-allocate : (S : List Frame) (m : Mem) (o size done space bytes : ℕ) → Sound x m → I (frame o size done ∷ S) m → o < m .objects .count →
-      (r : Outcome) → r ≡ allocateOf (m .addresses .rows) (m .addresses .count) (x .spaces) (record { space = space; size = bytes; object = o; alignment = m .alignment; word = word x }) (m .alloc) → r .number ≡ 0 →
+  pub on-allocate : (S : List Frame) (m : Mem) (o size done space : ℕ) → Sound x m → I (frame o size done ∷ S) m → o < m .objects .count → space < 256 →
+      (r : Outcome) → r ≡ allocateOf (m .addresses .rows) (m .addresses .count) (x .spaces) (record { space = space; size = size; object = o; alignment = m .alignment; word = word x }) (m .alloc) → r .number ≡ 0 →
       I (frame o size done ∷ S) (withAlloc (table (r .table) (m .addresses .count + 1)) (r .alignment) (r .alloc) m)
   -- the closing section; a fault may end it in legacy, with objects left open
   pub on-drop : (m : Mem) (v : SlotValue) → I [] m → W m v → I [] (noted (value (fieldsOf v) dropped) m)

@@ -56,7 +56,7 @@ module _ (x : Input) where
         on-close = λ S m o size i b. (tt, tt);
         on-aligned = λ S m a i. tt;
         on-chunk = λ S m space i. tt;
-        on-allocate = λ S m o size done space bytes s i b r e z. tt;
+        on-allocate = λ S m o size done space s i b h r e z. tt;
         on-drop = λ m v i h. tt;
         on-synchronize = λ m i h e. tt;
         on-entry = λ m o index f s e i l. tt;
@@ -154,8 +154,8 @@ module _ {x : Input} (g : Proper x) where
     at : (size done : ℕ) → Good x Nothing (frame o size done ∷ []) m m
     at size done = begin x s c (l, tt)
 
-    pub allocate-keeps : (space bytes : ℕ) → Holds x m (λ _ m′. Aside m m′) (allocate x space bytes o m)
-    allocate-keeps space bytes = holds x (allocate-ends g (rules x) (at 0 0) space bytes)
+    pub allocate-keeps : (space bytes : ℕ) → space < 256 → Holds x m (λ _ m′. Aside m m′) (allocate x space bytes o m)
+    allocate-keeps space bytes h = holds x (allocate-ends g (rules x) (at bytes 0) space h)
 
     pub keepMap-keeps : (v : SlotValue) → Holds x m (λ _ m′. More (λ m. m .slots) m m′) (keepMap x o v m)
     keepMap-keeps v = holds x (keepMap-ends g (rules x) (at 0 0) v tt)
@@ -168,7 +168,7 @@ module _ {x : Input} (g : Proper x) where
 
     module _ (r : Reader SlotValue) (k : Keeps x (Referred x) r) where
       pub map-keeps : (space bytes : ℕ) → space < 256 → Holds x m (Referred x m) (readMap x r space bytes o m)
-      map-keeps space bytes h = referred x (map-ends g (rules x) (keeping x r k) (at 0 0) space bytes h)
+      map-keeps space bytes h = referred x (map-ends g (rules x) (keeping x r k) (at bytes 0) space h)
 
       pub items-keep : (size n done : ℕ) → Holds x m (Filled size done m) (items x r o size n done m)
       items-keep size n done = holds x (items-end g (rules x) (keeping x r k) n done (at size done))

@@ -4,10 +4,10 @@ use alloc::legacy_alloc::LegacyAlloc;
 use alloc::legacy_alloc::Request;
 use alloc::resolve::Found;
 use alloc::resolve::resolve;
+use heads::heads::decode;
 use libc::STDOUT_FILENO;
-use sheet::heads::decode;
-use sheet::usable::plain;
-use sheet::usable::usable;
+use raw_slots::view::View;
+use raw_slots::view::raw_range;
 use stream::putint::Int;
 use stream::putint::putint;
 use stream::smi::Smi;
@@ -16,8 +16,8 @@ use tables::records::add_slot;
 use tables::values::Raw;
 use tables::values::SlotValue;
 use tables::values::fields_of;
-use tables::view::View;
-use tables::view::raw_range;
+use usable_sheets::usable::plain;
+use usable_sheets::usable::usable;
 
 fn text(s: &[u8]) {
     io::write_all(STDOUT_FILENO, s);
@@ -127,7 +127,7 @@ fn wide(x: u16) -> u64 {
     x as u64
 }
 
-// What a head byte means: its kind and argument (crates/sheet/specs/Kinds.antt).
+// What a head byte means: its kind and argument (crates/heads/specs/Kinds.antt).
 fn show_head(heads: &[u16; 512], b: usize) {
     if b < 256 {
         line2(b"head", wide(heads[b]), wide(heads[256 + b]));

@@ -9,10 +9,10 @@ use native.Mathlib.Omega.{arith}
 use borrow.Author.Tests.{eq-eqb, eqb-true, leb-true}
 use lib.Bits.{and-le-r}
 use lib.Dec.{leb, ltb, eqb}
-use Rattle.sheet.specs.Kinds.{newObject, hot, hotWithSkip}
+use Rattle.heads.specs.Kinds.{newObject, hot, hotWithSkip}
 use Rattle.sheet.specs.Sheet.{number, present, rootMask}
-use Rattle.sheet.specs.Heads.{nothing, offset, andSeven, argumentOf, spanOf, tests, Row, order, Head, head, claims, pickHead, firstOf, headOf}
-use Rattle.sheet.proofs.Rules.{argument-offset, argument-none, argument-and-seven, argument-small}
+use Rattle.heads.specs.Heads.{nothing, offset, andSeven, argumentOf, spanOf, tests, Row, order, Head, head, claims, pickHead, firstOf, headOf}
+use Rattle.heads.proofs.Rules.{argument-offset, argument-none, argument-and-seven, argument-small}
 use Rattle.sheet.proofs.UsableSheet.{and-left, and-right, implies, one-of}
 use Rattle.readers.specs.Simple.{Simple}
 use Rattle.readers.specs.Prefix.{Holdless}

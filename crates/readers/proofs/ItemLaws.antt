@@ -21,10 +21,10 @@ use Rattle.readers.specs.declared.state.State.{State}
 use Rattle.readers.specs.declared.state.Count.{Count}
 use Rattle.readers.specs.declared.state.Count.the-variants.{Is, Refused as CountRefused}
 use Rattle.readers.specs.Views.{Lent, mem, seenCount, objectsIs, slotsIs, valuesIs}
-use Rattle.readers.specs.Index.{Indexed, Single, Fresh}
+use Rattle.readers.specs.Index.{Indexed}
 use Rattle.readers.specs.Item.{slotOf}
 use Rattle.readers.proofs.ViewLaws.{count-is, count-no, nothing}
-use Rattle.readers.proofs.WaiterLaws.{indexed-plain, single-plain, indexed-waits, single-waits}
+use Rattle.readers.proofs.WaiterLaws.{indexed-plain, indexed-waits}
 
 -- ---- a slot record
 
@@ -138,22 +138,17 @@ module _ (s : State) (o index : ℕ) (v : SlotValue) (waits : ℕ) (ot st ot′ 
   pub kept-room : k < room 6 st
   kept-room = let d = kept in rw (d .number-is) (d .roomy)
 
-  module _ (sc : List ℕ) (x : Indexed st (s .slots) sc) (q : Single st (s .slots) (s .waiting)) where
-    pub kept-plain : waits ≡ 0 → Indexed st′ (t .slots) sc × Single st′ (t .slots) (t .waiting)
-    kept-plain z =
-        let d = kept in
-        rw (d .rows-are, d .count-is, d .waiting-is)
-        (indexed-plain st (s .slots) o index (fieldsOf v) waits (d .roomy) z sc x, single-plain st (s .slots) o index (fieldsOf v) waits (d .roomy) z (s .waiting) q)
+  module _ (sc : List ℕ) (x : Indexed st (s .slots) sc) where
+    pub kept-plain : waits ≡ 0 → Indexed st′ (t .slots) sc
+    kept-plain z = let d = kept in rw (d .rows-are, d .count-is) (indexed-plain st (s .slots) o index (fieldsOf v) waits (d .roomy) z sc x)
 
-    pub kept-waits : {n : ℕ} {sc′ : List ℕ} → v ≡ PendingRef n → waits ≡ waitsOf v → Fresh st (s .slots) v → sc′ ≡ set sc n (k + 1) → Indexed st′ (t .slots) sc′ × Single st′ (t .slots) (t .waiting)
-    kept-waits {n} {sc′} p w f g =
+    pub kept-waits : {n : ℕ} {sc′ : List ℕ} → v ≡ PendingRef n → waits ≡ waitsOf v → sc′ ≡ set sc n (k + 1) → Indexed st′ (t .slots) sc′
+    kept-waits {n} {sc′} p w g =
         let d = kept in
         let on : waits ≡ 1 = w ∙ ap waitsOf p in
         let a : fieldsOf v .a ≡ n = ap (λ (v : SlotValue). fieldsOf v .a) p in
-        let fresh : waiter st (fieldsOf v .a) (s .slots) ≡ 0 = rw a (subst (Fresh st (s .slots)) p f) in
         let note : sc′ ≡ set sc (fieldsOf v .a) (s .slots + 1) = rw (a, ← d .number-is) g in
-        rw (d .rows-are, d .count-is, d .waiting-is, note)
-        (indexed-waits st (s .slots) o index (fieldsOf v) waits (d .roomy) on sc x, single-waits st (s .slots) o index (fieldsOf v) waits (d .roomy) on (s .waiting) q fresh)
+        rw (d .rows-are, d .count-is, note) (indexed-waits st (s .slots) o index (fieldsOf v) waits (d .roomy) on sc x)
 
 -- an item that makes no slot
 module _ (x : Input) (o done : ℕ) {v : SlotValue} (s : State) (l : Lent) {n : ℕ} where
@@ -177,11 +172,11 @@ module _ (x : Input) (o done : ℕ) {v : SlotValue} {n : ℕ} (e : v ≡ RepeatP
 
 -- what the item with it then asks
 module _ (s : State) (st vt vt′ : List ℕ) {r : Count} (h : (l : Lent) → seenCount r (slotsIs st (valuesIs vt′ l)) ≡ repeatPrevious (mem s (slotsIs st (valuesIs vt l)))) {k : ℕ} {t : State} (g : r ≡ Is k t) where
-  pub previous-asks : (sc : List ℕ) → Indexed st (s .slots) sc → Single st (s .slots) (s .waiting) → {most limit : ℕ} → s .waiting < most → (done ts : ℕ) {v : SlotValue} {n : ℕ} → v ≡ RepeatPrev n → done + s .skip + widthOf ts v < limit → (t .waiting < most) × (done + t .skip + n * ts < limit) × Indexed st (t .slots) sc × Single st (t .slots) (t .waiting)
-  previous-asks sc x q w done ts p f =
+  pub previous-asks : (sc : List ℕ) → Indexed st (s .slots) sc → {most limit : ℕ} → s .waiting < most → (done ts : ℕ) {v : SlotValue} {n : ℕ} → v ≡ RepeatPrev n → done + s .skip + widthOf ts v < limit → (t .waiting < most) × (done + t .skip + n * ts < limit) × Indexed st (t .slots) sc
+  previous-asks sc x w done ts p f =
       let d = value-added _ (mem s (slotsIs st (valuesIs vt nothing))) (count-is (slotsIs st (valuesIs vt′ nothing)) g (h nothing)) in
       let n : t .slots ≡ s .slots = ap (λ (t : Table). t .count) (d .slots-same) in
-      rw (n, d .waiting-same, d .skip-same) (w, rw p at f, x, q)
+      rw (n, d .waiting-same, d .skip-same) (w, rw p at f, x)
 
 pub skip-fits : (done skip ts : ℕ) {v : SlotValue} {n limit : ℕ} → v ≡ Skip n → done + skip + widthOf ts v < limit → done + n < limit
 skip-fits done skip ts p f = let h = rw p at f in omega (arith, h)

@@ -9,3 +9,4 @@ pub mod MapSteps
 pub mod WaiterLaws
 pub mod ResolveLaws
 pub mod ItemLaws
+pub mod PartLaws

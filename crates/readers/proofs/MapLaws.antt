@@ -1,5 +1,5 @@
 -- What follows an object's map, at each way out of the code. Assumes nothing.
-use mathlib.Core.Path.{_≡_, refl, sym, ap, _∙_}
+use mathlib.Core.Path.{_≡_, refl, sym, ap, subst, _∙_}
 use mathlib.Core.Bool.{Bool, true, false, not, _&&_}
 use mathlib.Core.List.{List, [], _∷_}
 use mathlib.Core.Logic.{⊎-elim}
@@ -26,13 +26,20 @@ use Rattle.sheet.specs.Sheet.{number, isLegacy, isMapFirst, usable}
 use Rattle.sheet.specs.Tests.{inSpan, isNextChunk, alignmentOf}
 use Rattle.sheet.proofs.UsableSheet.{usable-gives}
 use Rattle.sheet.proofs.TestsLaws.{span-from, span-below, alignment-out}
-use Rattle.tables.specs.Records.{room, field}
+use Rattle.tables.specs.Records.{room, field, addressRow, written}
+use Rattle.tables.proofs.RecordLaws.{written-length}
+use Rattle.alloc.specs.declared.legacy_alloc.LegacyAlloc.{LegacyAlloc}
+use Rattle.alloc.specs.declared.legacy_alloc.Request.{Request}
 use Rattle.alloc.specs.declared.legacy_alloc.Allocated.{Allocated}
-use Rattle.alloc.specs.Allocation.{nextChunk, allocateOf, seen}
+use Rattle.alloc.specs.Fill.{fillToAlign}
+use Rattle.alloc.specs.Allocation.{nextChunk, Outcome, allocateOf, seen}
 use Rattle.alloc.proofs.AllocationLaws.{next-chunk-cur, allocate-refused, allocate-room}
+use Rattle.address_index.specs.Links.{spaceOf, Linked}
+use Rattle.address_index.proofs.LinkLaws.{linked-same}
 use Rattle.definition.specs.Memory.{Input, word, inMap, Mem, Out, got, no, Reader, choose, hasRoom, table, moved, withAlloc, aligned}
 use Rattle.definition.specs.Slots.{addSlot}
 use Rattle.definition.specs.Object.{peek, changeChunk, allocate, alignmentByte, chunkChanges, flags, flagObject, keepMap}
+use Rattle.laws.specs.Addresses.{Shape, bare, seated, allocate-shape, old-space, new-space}
 use Rattle.readers.specs.declared.state.State.{State}
 use Rattle.readers.specs.Views.{Lent, input, mem, objectsIs, addressesIs, countersIs}
 use Rattle.readers.specs.Item.{slotOf}
@@ -73,6 +80,35 @@ module _ (x : Input) (s : State) (space bytes o : ℕ) (addresses cur used : Lis
   refused-table : (r .number ≡ 0 → ⊥) → after ≡ addresses
   refused-table h = ap (λ a. a .table) (e ∙ allocate-refused addresses (s .addresses) (x .spaces) _ _ (λ z. h (ap (λ a. a .number) e ∙ z)))
 
+  -- the record that was added
+  abbrev want : Request
+  want = record { space = space; size = bytes; object = o; alignment = s .alignment; word = w }
+
+  abbrev counters : LegacyAlloc
+  counters = record { cur = cur; used = used }
+
+  record Row : Type 0 where
+    row : List ℕ
+    five : length row ≡ 5
+    of-space : getD row 0 0 ≡ space
+    is : after ≡ written addresses (s .addresses) row
+
+  added-row : r .number ≡ 0 → Row
+  added-row h = of (subst (λ (a : Outcome). a .number ≡ 0 → (s .addresses < room 5 addresses) × (Shape addresses (s .addresses) (x .spaces) want counters a)) (sym e) (allocate-shape addresses (s .addresses) (x .spaces) want counters) h .1)
+    where
+      of : Shape addresses (s .addresses) (x .spaces) want counters (seen r after) → Row
+      of (bare a q b) = record { row = addressRow space 0 0 o 0; five = refl; of-space = refl; is = q }
+      of (seated a q b c) = record { row = addressRow space (getD cur space 0) (getD used space 0 + fillToAlign (getD used space 0) (s .alignment) w) o 1; five = refl; of-space = refl; is = q }
+
+  -- what its entering the index asks
+  pub enter-asks : r .number ≡ 0 → space < 256 → (ix : List ℕ) → Linked addresses (s .addresses) ix → (s .addresses < room 5 after) × (spaceOf after (s .addresses) < 256) × Linked after (s .addresses) ix
+  enter-asks h low ix i =
+      let d = added-row h in
+      let roomy = allocated-room h in
+      let same : length (written addresses (s .addresses) (d .row)) ≡ length addresses = written-length addresses (d .row) (s .addresses) in
+      rw (d .is)
+      (omega (arith, same, roomy), rw (new-space addresses (d .row) (s .addresses) (d .five) roomy, d .of-space) low, linked-same addresses _ (s .addresses) ix (λ i l. old-space addresses (d .row) (s .addresses) (d .five) roomy i l) i)
+
   module _ (l : Lent) (ew : w ≡ word x) where
     pub allocated-no : (r .number ≡ 0 → ⊥) → no (r .number) (s .at) (mem s (addressesIs after (countersIs cur used l))) ≡ allocate x space bytes o (mem s (addressesIs addresses (countersIs cur used l)))
     unfolding allocate
@@ -106,11 +142,12 @@ pub record Changes (sheet p : List ℕ) (spaces space : ℕ) (cur₀ used₀ : L
   pub enough : length p ≤ t .at + fuel
   pub within : t .at ≤ length p
   pub below : getD cur space 0 ≤ t .at
+  pub records : t .addresses ≡ s .addresses
   pub same : (tr : List ℕ) (l : Lent) → chunkChanges (input sheet p spaces tr) space fuel (mem t (countersIs cur used l)) ≡ chunkChanges (input sheet p spaces tr) space (length p - s .at) (mem s (countersIs cur₀ used₀ l))
 
 module _ (sheet p : List ℕ) (spaces space : ℕ) (cur₀ used₀ : List ℕ) (s : State) where
   pub changes-start : s .at ≤ length p → getD cur₀ space 0 ≤ s .at → Changes sheet p spaces space cur₀ used₀ s cur₀ used₀ s
-  changes-start h b = record { fuel = length p - s .at; enough = omega arith; within = h; below = b; same = λ tr l. refl }
+  changes-start h b = record { fuel = length p - s .at; enough = omega arith; within = h; below = b; records = refl; same = λ tr l. refl }
 
   module _ {cur used : List ℕ} {t : State} (i : Changes sheet p spaces space cur₀ used₀ s cur used t) {b : ℕ} (eb : b ≡ peekAt p (t .at)) {tag : Bool} (et : tag ≡ eqb (number sheet kNextChunk) b) where
     first : {value : Bool} → tag ≡ value → isNextChunk sheet (peekAt p (t .at)) ≡ value
@@ -137,6 +174,7 @@ module _ (sheet p : List ℕ) (spaces space : ℕ) (cur₀ used₀ : List ℕ) (
             enough = omega (arith, i .enough);
             within = ends;
             below = omega (arith, i .below);
+            records = i .records;
             same = λ tr l.
                 let x = input sheet p spaces tr in
                 let m = mem t (countersIs cur used l) in
@@ -152,6 +190,7 @@ module _ (sheet p : List ℕ) (spaces space : ℕ) (cur₀ used₀ : List ℕ) (
 pub record Prefixed (sheet p : List ℕ) (before : ℕ) (s t : State) : Type 0 where
   pub within : t .at ≤ length p
   pub from : s .at ≤ t .at
+  pub records : t .addresses ≡ s .addresses
   pub same : (spaces : ℕ) (tr : List ℕ) (l : Lent) → got tt (mem t l) ≡ alignmentByte (input sheet p spaces tr) (aligned before (mem s l))
 
 abbrev placed : ℕ → ℕ → State → State
@@ -167,10 +206,10 @@ module _ (sheet p : List ℕ) (before : ℕ) (s : State) (h : s .at ≤ length p
   prefixed-on u n e =
       let there : s .at < length p = peek-within p (s .at) eb (alignment-there sheet u b ea n) in
       rw e
-      (record { within = omega arith; from = omega arith; same = λ spaces tr l. rw (← alignment-is, ne-eqb a 0 n, ← alignment-is) })
+      (record { within = omega arith; from = omega arith; records = refl; same = λ spaces tr l. rw (← alignment-is, ne-eqb a 0 n, ← alignment-is) })
 
   pub prefixed-none : {t : State} → a ≡ 0 → t ≡ placed (s .at) before s → Prefixed sheet p before s t
-  prefixed-none z e = rw e (record { within = h; from = omega arith; same = λ spaces tr l. rw (← alignment-is, eq-eqb a 0 z) })
+  prefixed-none z e = rw e (record { within = h; from = omega arith; records = refl; same = λ spaces tr l. rw (← alignment-is, eq-eqb a 0 z) })
 
 module _ (x : Input) (before space bytes o : ℕ) (m : Mem) where
   pub after-none : {legacy : Bool} → legacy ≡ isLegacy (x .sheet) → legacy ≡ false → got tt m ≡ afterMap x before space bytes o m

@@ -1,5 +1,5 @@
 -- The search for a slot that waits, a resolve, and the resolves after an object's map, at each way out of the code. Assumes nothing.
-use mathlib.Core.Path.{_≡_, refl, sym, ap, _∙_}
+use mathlib.Core.Path.{_≡_, refl, sym, ap, subst, _∙_}
 use mathlib.Core.Bool.{Bool, true, false}
 use mathlib.Core.List.{List, []}
 use mathlib.Core.Logic.{_≢_, ⊎-elim}
@@ -7,7 +7,7 @@ use Prim.Native.Nat.{ℕ, zero, suc, _+_, _-_, _<_, _≤_}
 use native.Mathlib.Omega.{arith}
 use borrow.Author.Tests.{eqb-true, eq-eqb, ne-eqb, lt-ltb, ltb-true, ltb-false}
 use lib.Dec.{eqb, ltb}
-use lib.ListN.{length, set}
+use lib.ListN.{length, set, take, drop}
 use Rattle.stream.specs.declared.putint.Int.{Int}
 use Rattle.stream.specs.declared.putint.Int.the-variants.{Is as IntIs, Cut}
 use Rattle.stream.specs.Bytes.{peekAt}
@@ -23,13 +23,15 @@ use Rattle.tables.proofs.RecordLaws.{filled-length}
 use Rattle.definition.specs.Memory.{Input, Mem, got, no, moved, byte, int, afterInt}
 use Rattle.definition.specs.Slots.{waitsFor, waiter, renumbered, fillWaiter, resolved}
 use Rattle.definition.specs.Object.{peek, resolves}
+use Rattle.laws.specs.Waiting.{Waits, some-wait, waiter-found as waits-found}
+use Rattle.laws.specs.Numbered.{Numbered as Waiting, resolved-numbered}
 use Rattle.readers.specs.declared.state.State.{State}
 use Rattle.readers.specs.declared.state.Count.{Count}
 use Rattle.readers.specs.declared.state.Count.the-variants.{Is, Refused}
 use Rattle.readers.specs.Views.{Lent, input, mem, seenCount, slotsIs}
-use Rattle.readers.specs.Index.{Indexed, Single}
+use Rattle.readers.specs.Index.{Indexed}
 use Rattle.readers.proofs.ViewLaws.{count-is, count-no, nothing}
-use Rattle.readers.proofs.WaiterLaws.{by-case, waiter-no, waiter-yes, waiter-zero, waiter-found, single-some, indexed-filled, single-filled}
+use Rattle.readers.proofs.WaiterLaws.{by-case, waiter-no, waiter-yes, waiter-zero, waiter-found, indexed-filled}
 
 -- ---- the search, from the newest slot on
 
@@ -68,8 +70,8 @@ module _ (s : State) (st : List ℕ) (n o : ℕ) where
     pub resolve-below : s .slots ≤ room 6 st → k - 1 < room 6 st
     resolve-below h = omega (arith, waiter-found st n (s .slots) (k - 1) found .0)
 
-    pub resolve-waits : Single st (s .slots) (s .waiting) → 1 ≤ s .waiting
-    resolve-waits q = single-some st (s .slots) (s .waiting) q n (k - 1) found
+    pub resolve-waits : Waits st (s .slots) (s .pending) (s .waiting) → 1 ≤ s .waiting
+    resolve-waits w = let f = waits-found st n (s .slots) (k - 1) found in some-wait w (k - 1) (f .0) (f .1)
 
     module _ {st′ : List ℕ} (f : st′ ≡ filled st (k - 1) o) where
       pub resolve-fill : {pending : ℕ} → pending ≡ renumbered (s .pending) (s .waiting - 1) → (l : Lent) → mem (counts pending (s .waiting - 1) s) (slotsIs st′ l) ≡ resolved n o (mem s (slotsIs st l))
@@ -79,9 +81,8 @@ module _ (s : State) (st : List ℕ) (n o : ℕ) where
       pub resolve-length : length st′ ≡ length st
       resolve-length = rw f (filled-length st (k - 1) o)
 
-      pub resolve-index : (sc : List ℕ) {sc′ : List ℕ} → s .slots ≤ room 6 st → Indexed st (s .slots) sc → Single st (s .slots) (s .waiting) → sc′ ≡ set sc n 0 → Indexed st′ (s .slots) sc′ × Single st′ (s .slots) (s .waiting - 1)
-      resolve-index sc h x q g =
-          (rw (f, g) (indexed-filled st (s .slots) h n (k - 1) o found (s .waiting) q sc x), rw f (single-filled st (s .slots) h n (k - 1) o found (s .waiting) q))
+      pub resolve-index : (sc : List ℕ) {sc′ : List ℕ} → s .slots ≤ room 6 st → Indexed st (s .slots) sc → Waits st (s .slots) (s .pending) (s .waiting) → sc′ ≡ set sc n 0 → Indexed st′ (s .slots) sc′
+      resolve-index sc h x w g = rw (f, g) (indexed-filled st (s .slots) h n (k - 1) o found w sc x)
 
 fill-at : (k o : ℕ) (m : Mem) → fillWaiter k o m .at ≡ m .at
 fill-at zero o m = refl
@@ -154,6 +155,7 @@ passed s =
 -- the state when the number has been read
 pub record Numbered (p : List ℕ) (s t : State) : Type 0 where
   pub slots-same : t .slots ≡ s .slots
+  pub pending-same : t .pending ≡ s .pending
   pub waiting-same : t .waiting ≡ s .waiting
   pub more : s .at + 2 ≤ t .at
   pub within : t .at ≤ length p
@@ -166,6 +168,7 @@ module _ (p : List ℕ) (s : State) {r : Count} (i : (v tr : List ℕ) (sp : ℕ
       let a : t .at ≡ s .at + 1 + d .count = ap (λ (m : Mem). m .at) (d .moves) in
       record {
         slots-same = ap (λ (m : Mem). m .slots .count) (d .moves);
+        pending-same = ap (λ (m : Mem). m .pending) (d .moves);
         waiting-same = ap (λ (m : Mem). m .waiting) (d .moves);
         more = omega (arith, w .least);
         within = omega (arith, w .ends);
@@ -180,23 +183,24 @@ pub record Resolving (v p : List ℕ) (o : ℕ) (s₀ : State) (st₀ sc₀ : Li
   pub slots-length : length st ≡ length st₀
   pub scratch-length : length sc ≡ length sc₀
   pub same : (tr : List ℕ) (sp : ℕ) (l : Lent) → resolves (input v p sp tr) o left (mem s (slotsIs st l)) ≡ resolves (input v p sp tr) o (length p - s₀ .at) (mem s₀ (slotsIs st₀ l))
-  pub indexed : Indexed st (s .slots) sc
-  pub single : Single st (s .slots) (s .waiting)
+  pub indexed : Indexed st (s .slots) (take (length p) sc)
+  pub rest : drop (length p) sc ≡ drop (length p) sc₀
+  pub waits : Waits st (s .slots) (s .pending) (s .waiting)
 
 module _ (v p : List ℕ) (o : ℕ) (s₀ : State) (st₀ sc₀ : List ℕ) where
-  pub resolving-start : s₀ .at ≤ length p → s₀ .slots ≤ room 6 st₀ → Indexed st₀ (s₀ .slots) sc₀ → Single st₀ (s₀ .slots) (s₀ .waiting) → Resolving v p o s₀ st₀ sc₀ s₀ st₀ sc₀
-  resolving-start h g x q =
-      record { left = length p - s₀ .at; enough = omega arith; within = h; fits = g; slots-length = refl; scratch-length = refl; same = λ tr sp l. refl; indexed = x; single = q }
+  pub resolving-start : s₀ .at ≤ length p → s₀ .slots ≤ room 6 st₀ → Indexed st₀ (s₀ .slots) (take (length p) sc₀) → Waits st₀ (s₀ .slots) (s₀ .pending) (s₀ .waiting) → Resolving v p o s₀ st₀ sc₀ s₀ st₀ sc₀
+  resolving-start h g x w =
+      record { left = length p - s₀ .at; enough = omega arith; within = h; fits = g; slots-length = refl; scratch-length = refl; same = λ tr sp l. refl; indexed = x; rest = refl; waits = w }
 
   module _ (s : State) (st sc : List ℕ) (k : Resolving v p o s₀ st₀ sc₀ s st sc) where
     pub resolving-stop : isResolve v (peekAt p (s .at)) ≡ false → (tr : List ℕ) (sp : ℕ) (l : Lent) → got tt (mem s (slotsIs st l)) ≡ resolves (input v p sp tr) o (length p - s₀ .at) (mem s₀ (slotsIs st₀ l))
     resolving-stop e tr sp l = resolves-stop (input v p sp tr) o (mem s (slotsIs st l)) (k .left) e ∙ k .same tr sp l
 
     -- what a resolve of the number asks
-    pub resolving-asks : {r : Count} → ((v tr : List ℕ) (sp : ℕ) (l : Lent) → seenCount r l ≡ int (input v p sp tr) (mem (passed s) l)) → {n : ℕ} {t : State} → r ≡ Is n t → (t .slots ≤ room 6 st) × Indexed st (t .slots) sc × Single st (t .slots) (t .waiting)
+    pub resolving-asks : {r : Count} → ((v tr : List ℕ) (sp : ℕ) (l : Lent) → seenCount r l ≡ int (input v p sp tr) (mem (passed s) l)) → {n : ℕ} {t : State} → r ≡ Is n t → (t .slots ≤ room 6 st) × Indexed st (t .slots) (take (length p) sc) × Waits st (t .slots) (t .pending) (t .waiting)
     resolving-asks i g =
         let b = numbered p s i g in
-        rw (b .slots-same, b .waiting-same) (k .fits, k .indexed, k .single)
+        rw (b .slots-same, b .pending-same, b .waiting-same) (k .fits, k .indexed, k .waits)
 
     -- a turn is left where a byte is left
     one-more : s .at < length p → k .left ≡ suc (k .left - 1)
@@ -220,9 +224,10 @@ module _ (v p : List ℕ) (o : ℕ) (s₀ : State) (st₀ sc₀ : List ℕ) wher
         pub resolving-less : length p - s′ .at < length p - s .at
         resolving-less = let b = numbered p s i g in omega (arith, b .more, b .within, turn-at)
 
-        pub resolving-turn : (sc′ : List ℕ) → length st′ ≡ length st → length sc′ ≡ length sc → Indexed st′ (s′ .slots) sc′ × Single st′ (s′ .slots) (s′ .waiting) → Resolving v p o s₀ st₀ sc₀ s′ st′ sc′
-        resolving-turn sc′ et ec x =
+        pub resolving-turn : (sc′ : List ℕ) → length st′ ≡ length st → length sc′ ≡ length sc → Indexed st′ (s′ .slots) (take (length p) sc′) → drop (length p) sc′ ≡ drop (length p) sc → Resolving v p o s₀ st₀ sc₀ s′ st′ sc′
+        resolving-turn sc′ et ec x er =
             let b = numbered p s i g in
+            let c = resolving-asks i g in
             record {
               left = k .left - 1;
               enough = omega (arith, b .more, turn-at, k .enough);
@@ -236,6 +241,7 @@ module _ (v p : List ℕ) (o : ℕ) (s₀ : State) (st₀ sc₀ : List ℕ) wher
                   ∙ resolves-turn y o (mem s (slotsIs st l)) (k .left - 1) h e (mem t (slotsIs st l)) (count-is (slotsIs st l) g (i v tr sp (slotsIs st l)))
                   ∙ ap (λ (n : ℕ). resolves y o n (mem s (slotsIs st l))) (sym (one-more h))
                   ∙ k .same tr sp l;
-              indexed = x .0;
-              single = x .1;
+              indexed = x;
+              rest = er ∙ k .rest;
+              waits = subst Waiting (sym (a nothing)) (resolved-numbered (mem t (slotsIs st nothing)) o n (omega (arith, c .0)) (c .2));
             }

@@ -11,13 +11,15 @@ use lib.ListN.{length, getD}
 use Rattle.stream.specs.declared.bytes.Range.{Range}
 use Rattle.stream.specs.declared.bytes.Range.the-variants.{To as RangeTo, Past}
 use Rattle.stream.specs.Bytes.{rawAt}
-use Rattle.sheet.specs.Kinds.{internal, embedderFields, offHeapTarget}
+use Rattle.heads.specs.Kinds.{internal, embedderFields, offHeapTarget}
 use Rattle.sheet.specs.Sheet.{pickℕ, isLegacy, wordBytes}
 use Rattle.tables.specs.declared.values.Ref.{Ref}
 use Rattle.tables.specs.declared.values.Ref.the-variants.{Object, RoRef}
 use Rattle.tables.specs.declared.values.SlotValue.{SlotValue}
 use Rattle.tables.specs.declared.values.SlotValue.the-variants.{Ref as IsRef, RepeatPrev, Skip, StreamBytes, Raw as IsRaw, PendingRef}
 use Rattle.tables.specs.Values.{refFields}
+use Rattle.address_index.specs.Links.{Linked}
+use Rattle.address_index.specs.Sorted.{Sorted}
 use Rattle.backref.specs.declared.hot_ring.Hot.{Hot}
 use Rattle.backref.specs.declared.hot_ring.Hot.the-variants.{Is, Empty}
 use Rattle.backref.specs.HotRing.{entered, hotAt}
@@ -65,6 +67,10 @@ module _ (x : Input) (space : ℕ) (m : Mem) {b : Backref} (e : b ≡ backrefOf 
   pub legacy-unknown : {next : ℕ} → b ≡ Unknown next → no 15 next (withHot hot (moved next m)) ≡ legacyReference x space m
   unfolding legacyReference
   legacy-unknown k = rw (← e, g, k)
+
+-- an index serves as long as there are as many addresses
+pub index-stays : (t ix : List ℕ) {n k : ℕ} → k ≡ n → Linked t n ix × Sorted t n → Linked t k ix × Sorted t k
+index-stays t ix e h = rw e h
 
 -- ---- raw data
 

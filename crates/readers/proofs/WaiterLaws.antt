@@ -1,5 +1,4 @@
--- Which slot waits under each number, and how many slots wait, after a slot record is added and after one is filled; and the index with
--- them. Assumes nothing.
+-- Which slot waits under each number after a slot record is added and after one is filled, and the index with it. Assumes nothing.
 use mathlib.Core.Path.{_≡_, refl, sym, ap, subst, _∙_}
 use mathlib.Core.Bool.{Bool, true, false, _&&_}
 use mathlib.Core.List.{List}
@@ -16,7 +15,8 @@ use Rattle.tables.specs.declared.values.Fields.{Fields}
 use Rattle.tables.specs.Records.{room, field, slotRow, written, filled}
 use Rattle.tables.proofs.RecordLaws.{written-same, written-else, filled-same, filled-else}
 use Rattle.definition.specs.Slots.{waitsFor, waiter}
-use Rattle.readers.specs.Index.{Indexed, Single, waitingCount}
+use Rattle.laws.specs.Waiting.{Waits, waiter-one}
+use Rattle.readers.specs.Index.{Indexed}
 
 pub by-case : (P : Type 0) (t : Bool) → (t ≡ true → P) → (t ≡ false → P) → P
 by-case P true y n = y refl
@@ -67,30 +67,12 @@ module _ (st : List ℕ) (n c : ℕ) where
   unfolding waiter
   waiter-zero = refl
 
-module _ (st : List ℕ) (c : ℕ) where
-  count-no : field 6 st c 5 ≢ 1 → waitingCount st (suc c) ≡ waitingCount st c
-  unfolding waitingCount
-  count-no h = rw (ne-eqb (field 6 st c 5) 1 h)
-
-  count-yes : field 6 st c 5 ≡ 1 → waitingCount st (suc c) ≡ suc (waitingCount st c)
-  unfolding waitingCount
-  count-yes h = rw (eq-eqb (field 6 st c 5) 1 h)
-
-  count-zero : waitingCount st 0 ≡ 0
-  unfolding waitingCount
-  count-zero = refl
-
 -- two tables that agree
 module _ (st st′ : List ℕ) where
   waiter-agree : (n c : ℕ) → ((i : ℕ) → i < c → waitsFor st′ n i ≡ waitsFor st n i) → waiter st′ n c ≡ waiter st n c
   unfolding waiter
   waiter-agree n zero h = refl
   waiter-agree n (suc c) h = rw (h c (omega arith), waiter-agree n c (λ i l. h i (omega arith)))
-
-  count-agree : (c : ℕ) → ((i : ℕ) → i < c → field 6 st′ i 5 ≡ field 6 st i 5) → waitingCount st′ c ≡ waitingCount st c
-  unfolding waitingCount
-  count-agree zero h = refl
-  count-agree (suc c) h = rw (h c (omega arith), count-agree c (λ i l. h i (omega arith)))
 
 module _ (st : List ℕ) (n : ℕ) where
   waiter-none : (c : ℕ) → ((i : ℕ) → i < c → waitsFor st n i ≡ false) → waiter st n c ≡ 0
@@ -105,26 +87,6 @@ module _ (st : List ℕ) (n : ℕ) where
       by-case _ (waitsFor st n c)
       (λ t. let z : suc j ≡ suc c = sym e ∙ waiter-yes st n c t in let y : c ≡ j = omega arith in (omega arith, subst (λ (k : ℕ). waitsFor st n k ≡ true) y t))
       (λ f. let r = waiter-found c j (sym (waiter-no st n c f) ∙ e) in (omega (arith, r .0), r .1))
-
-  none-waits : (c : ℕ) → waitingCount st c ≡ 0 → waiter st n c ≡ 0
-  none-waits zero e = waiter-zero st n 0
-  none-waits (suc c) e =
-      same-or _ (field 6 st c 5) 1
-      (λ y. absurd (let z = sym (count-yes st c y) ∙ e in omega (arith, z)))
-      (λ h. waiter-no st n c (waits-off st n c h) ∙ none-waits c (sym (count-no st c h) ∙ e))
-
-module _ (st : List ℕ) (c w : ℕ) (s : Single st c w) where
-  -- where the count is 0 no slot waits
-  pub single-none : w ≡ 0 → (n : ℕ) → waiter st n c ≡ 0
-  single-none e n = none-waits st n c (sym (s .all) ∙ e)
-
-  -- where a slot waits the count is not 0
-  pub single-some : (n j : ℕ) → waiter st n c ≡ suc j → 0 < w
-  single-some n j e = same-or _ w 0 (λ z. absurd (let y = sym (single-none z n) ∙ e in omega (arith, y))) (λ h. omega arith)
-
--- at the start nothing waits
-pub single-start : (st : List ℕ) → Single st 0 0
-single-start st = record { one = λ n i h e. absurd (omega arith); all = sym (count-zero st 0) }
 
 pub indexed-start : (st sc : List ℕ) → sc ≡ replicate (length sc) 0 → Indexed st 0 sc
 indexed-start st sc e n h = ap (λ (l : List ℕ). getD l n 0) e ∙ getD-replicate (length sc) n 0 0 h ∙ sym (waiter-zero st n 0)
@@ -147,9 +109,6 @@ module _ (st : List ℕ) (c o i : ℕ) (f : Fields) (w : ℕ) where
   row-waiter : (n : ℕ) → waiter after n c ≡ waiter st n c
   row-waiter n = waiter-agree st after n c (λ j h. row-same n j h)
 
-  row-count : waitingCount after c ≡ waitingCount st c
-  row-count = count-agree st after c (λ j h. row-else j 5 (omega arith) (λ e. omega arith))
-
   module _ (fits : c < room 6 st) where
     row-waits : field 6 after c 5 ≡ w
     row-waits = written-same st row c 5 (omega arith) fits
@@ -171,15 +130,6 @@ module _ (st : List ℕ) (c o i : ℕ) (f : Fields) (w : ℕ) where
       pub indexed-plain : (sc : List ℕ) → Indexed st c sc → Indexed after (c + 1) sc
       indexed-plain sc x n h = x n h ∙ sym (added-plain n)
 
-      pub single-plain : (wt : ℕ) → Single st c wt → Single after (c + 1) (wt + w)
-      single-plain wt s =
-          record {
-            one = λ n j h e. same-or _ j c
-                (λ y. clash (waitsFor after n c) (subst (λ (x : ℕ). waitsFor after n x ≡ true) y e) (waits-off after n c plain-off))
-                (λ ne. s .one n j (omega arith) (sym (row-same n j (omega arith)) ∙ e) ∙ sym (added-plain n));
-            all = let z = count-no after c plain-off in let y = row-count in rw (add-one c) (omega (arith, z, y, s .all));
-          }
-
     -- one that waits
     module _ (on : w ≡ 1) where
       added-yes : waiter after (f .a) (suc c) ≡ suc c
@@ -197,16 +147,6 @@ module _ (st : List ℕ) (c o i : ℕ) (f : Fields) (w : ℕ) where
           (λ y. rw y (getD-set-same sc (f .a) (c + 1) 0 (omega (arith, length-set sc (f .a) (c + 1))) ∙ sym added-own))
           (λ ne. getD-set-other sc (f .a) n (c + 1) 0 ne ∙ x n (omega (arith, length-set sc (f .a) (c + 1))) ∙ sym (added-others n ne))
 
-      pub single-waits : (wt : ℕ) → Single st c wt → waiter st (f .a) c ≡ 0 → Single after (c + 1) (wt + w)
-      single-waits wt s fresh =
-          record {
-            one = λ n j h e. same-or _ j c
-                (λ y. let t : waitsFor after n c ≡ true = subst (λ (x : ℕ). waitsFor after n x ≡ true) y e in rw (add-one c) (ap suc y ∙ sym (waiter-yes after n c t)))
-                (λ ne. let z : suc j ≡ waiter st n c = s .one n j (omega arith) (sym (row-same n j (omega arith)) ∙ e) in
-                z ∙ sym (added-others n (λ y. let u : suc j ≡ 0 = z ∙ ap (λ (x : ℕ). waiter st x c) y ∙ fresh in omega arith)));
-            all = let z = count-yes after c (row-waits ∙ on) in let y = row-count in rw (add-one c) (omega (arith, z, y, s .all));
-          }
-
 -- ---- a slot is filled
 
 module _ (st : List ℕ) (j o : ℕ) where
@@ -219,19 +159,6 @@ module _ (st : List ℕ) (j o : ℕ) where
 
     fill-off : (n : ℕ) → waitsFor (filled st j o) n j ≡ false
     fill-off n = waits-off (filled st j o) n j fill-at
-
-    fill-count : field 6 st j 5 ≡ 1 → (c : ℕ) → j < c → waitingCount st c ≡ suc (waitingCount (filled st j o) c)
-    fill-count on zero h = absurd (omega arith)
-    fill-count on (suc c) h =
-        same-or _ c j
-        (λ y. count-yes st c (rw y on)
-        ∙ ap suc (sym (count-agree st (filled st j o) c (λ i l. filled-else st j o i 5 (omega arith) (λ e. absurd (omega arith))))
-        ∙ sym (count-no (filled st j o) c (rw y fill-at))))
-        (λ ne. let s : field 6 (filled st j o) c 5 ≡ field 6 st c 5 = filled-else st j o c 5 (omega arith) (λ e. absurd (ne e)) in
-        let ih = fill-count on c (omega arith) in
-        same-or _ (field 6 st c 5) 1
-        (λ y. count-yes st c y ∙ ap suc (ih ∙ sym (count-yes (filled st j o) c (s ∙ y))))
-        (λ h. count-no st c h ∙ ih ∙ ap suc (sym (count-no (filled st j o) c (λ e. h (sym s ∙ e))))))
 
 module _ (st : List ℕ) (c : ℕ) (fits : c ≤ room 6 st) (n j o : ℕ) (e : waiter st n c ≡ suc j) where
   below : j < room 6 st
@@ -246,13 +173,13 @@ module _ (st : List ℕ) (c : ℕ) (fits : c ≤ room 6 st) (n j o : ℕ) (e : w
       (λ y. rw y (fill-off st j o below m ∙ sym (waits-other st m j (λ z. h (sym z ∙ said .1)))))
       (λ ne. fill-same st j o m i ne))
 
-  module _ (w : ℕ) (s : Single st c w) where
+  module _ {pending waiting : ℕ} (w : Waits st c pending waiting) where
     pub filled-gone : waiter (filled st j o) n c ≡ 0
     filled-gone =
         waiter-none (filled st j o) n c (λ i l. same-or _ i j
         (λ y. rw y (fill-off st j o below n))
         (λ ne. by-case _ (waitsFor st n i)
-        (λ t. absurd (let z : suc i ≡ suc j = s .one n i l t ∙ e in ne (omega arith)))
+        (λ t. absurd (let z : suc i ≡ suc j = waiter-one w n i l t ∙ e in ne (omega arith)))
         (λ t. fill-same st j o n i ne ∙ t)))
 
     pub indexed-filled : (sc : List ℕ) → Indexed st c sc → Indexed (filled st j o) c (set sc n 0)
@@ -260,13 +187,3 @@ module _ (st : List ℕ) (c : ℕ) (fits : c ≤ room 6 st) (n j o : ℕ) (e : w
         same-or _ m n
         (λ y. rw y (getD-set-same sc n 0 0 (omega (arith, length-set sc n 0)) ∙ sym filled-gone))
         (λ ne. getD-set-other sc n m 0 0 ne ∙ x m (omega (arith, length-set sc n 0)) ∙ sym (filled-other m ne))
-
-    pub single-filled : Single (filled st j o) c (w - 1)
-    single-filled =
-        record {
-          one = λ m i l t. same-or _ i j
-              (λ y. clash (waitsFor (filled st j o) m j) (rw y at t) (fill-off st j o below m))
-              (λ ne. let z : suc i ≡ waiter st m c = s .one m i l (sym (fill-same st j o m i ne) ∙ t) in
-              z ∙ sym (filled-other m (λ y. let u : suc i ≡ suc j = z ∙ ap (λ (x : ℕ). waiter st x c) y ∙ e in ne (omega arith))));
-          all = let z = fill-count st j o below (said .0) c (waiter-found st n c j e .0) in omega (arith, z, s .all);
-        }

@@ -1,7 +1,7 @@
 -- What stands before another reference, as data: how the value that follows is held. Assumes nothing: these are definitions.
 use mathlib.Core.Path.{_≡_}
 use Prim.Native.Nat.{ℕ, zero, suc, _^_, _<_}
-use Rattle.sheet.specs.Kinds.{nextChunk, alignment, weakPrefix, pointerPrefix, fixedRepeat, fixedRepeatRoot, variableRepeat, variableRepeatRoot}
+use Rattle.heads.specs.Kinds.{nextChunk, alignment, weakPrefix, pointerPrefix, fixedRepeat, fixedRepeatRoot, variableRepeat, variableRepeatRoot}
 use Rattle.tables.specs.declared.values.Ref.the-variants.{Root}
 use Rattle.tables.specs.declared.values.SlotValue.{SlotValue}
 use Rattle.tables.specs.declared.values.SlotValue.the-variants.{Ref as IsRef}

@@ -3,7 +3,7 @@ use mathlib.Core.Path.{_≡_}
 use mathlib.Core.Bool.{Bool, true, false}
 use Prim.Native.Nat.{ℕ, _^_, _-_, _<_}
 use lib.Dec.{eqb}
-use Rattle.sheet.specs.Kinds.{newObject, legacyBackrefWithSkip, nextChunk, alignment, hot, hotWithSkip, rootConstantWithSkip, readOnly, attached, builtin, external, api, internal, deoptimizer, streamBytes, offHeapTarget, cache, weakPrefix, pointerPrefix, dispatchEntry, skip, fixedRepeat, fixedRepeatRoot, variableRepeat, variableRepeatRoot}
+use Rattle.heads.specs.Kinds.{newObject, legacyBackrefWithSkip, nextChunk, alignment, hot, hotWithSkip, rootConstantWithSkip, readOnly, attached, builtin, external, api, internal, deoptimizer, streamBytes, offHeapTarget, cache, weakPrefix, pointerPrefix, dispatchEntry, skip, fixedRepeat, fixedRepeatRoot, variableRepeat, variableRepeatRoot}
 use Rattle.tables.specs.declared.values.Ref.{Ref}
 use Rattle.tables.specs.declared.values.Ref.the-variants.{Root, RoRef, Attached}
 use Rattle.tables.specs.declared.values.SlotValue.{SlotValue}

@@ -11,12 +11,13 @@ use tables::values::fields_of;
 use tables::values::width;
 ghost use mathlib.Core.Path.{_≡_};
 ghost use Prim.Native.Nat.{_+_, _^_, _<_, _≤_};
+ghost use lib.ListN.{take, drop};
 ghost use Rattle.tables.specs.Records.{room, field};
 ghost use Rattle.tables.specs.Values.{widthOf};
 ghost use Rattle.definition.specs.Memory.{Input, word as wordOf};
 ghost use Rattle.definition.specs.Slots.{waitsOf, repeatPrevious, keepItem, placeItem};
 ghost use Rattle.readers.specs.Views.{Lent, mem, seenCount, objectsIs, slotsIs, valuesIs};
-ghost use Rattle.readers.specs.Index.{Indexed, Single, Fresh, CountIndexed};
+ghost use Rattle.readers.specs.Index.{Indexed, CountIndexed};
 ghost use Rattle.readers.specs.Item.{slotOf};
 
 // A slot record of object o, if there is room, and the object's slot count with it: the record's number, or refusal 3.
@@ -61,11 +62,12 @@ fn keep_previous(slots: &[u64], values: &mut [u64], s: State) -> Count
     Count::Is(n as u64, t)
 }
 
-// An item that becomes a slot, after the with-skip amount that stands: the bytes read then.
+// An item that becomes a slot, after the with-skip amount that stands: the bytes read then. The first part of scratch ends at `size`.
 fn keep_item(
     objects: &mut [u64],
     slots: &mut [u64],
     scratch: &mut [u64],
+    size: usize,
     s: State,
     o: usize,
     done: u64,
@@ -73,9 +75,10 @@ fn keep_item(
     word: u64,
 ) -> Count
     requires { ⌜ (o < room 4 (now objects)) × (field 4 (now objects) o 3 < 2 ^ 63) × (s .waiting < 2 ^ 63) × (word ≤ 8) × (0 < word) × (done + s .skip + widthOf word v < 2 ^ 64) ⌝ }
-    requires { ⌜ Indexed (now slots) (s .slots) (now scratch) × Single (now slots) (s .slots) (s .waiting) × Fresh (now slots) (s .slots) v ⌝ }
+    requires { ⌜ Indexed (now slots) (s .slots) (take size (now scratch)) ⌝ }
     ensures { λ r. ⌜ ((x : Input) (l : Lent) → wordOf x ≡ word → seenCount r (objectsIs (now (objects .exit)) (slotsIs (now (slots .exit)) l)) ≡ keepItem x o done v (mem s (objectsIs (now (objects .entry)) (slotsIs (now (slots .entry)) l)))) ⌝ }
-    ensures index { λ r. ⌜ CountIndexed r (now (slots .exit)) (now (scratch .exit)) ⌝ }
+    ensures index { λ r. ⌜ CountIndexed r (now (slots .exit)) (take size (now (scratch .exit))) ⌝ }
+    ensures rest { λ _. ⌜ drop size (now (scratch .exit)) ≡ drop size (now (scratch .entry)) ⌝ }
 {
     let start = done + s.skip;
     let end = start + width(v, word);
@@ -92,7 +95,7 @@ fn keep_item(
         Count::Refused(n, q, t) => Count::Refused(n, q, t),
         Count::Is(k, t) => {
             if let SlotValue::PendingRef(number) = v {
-                note(scratch, number, k + 1);
+                note(scratch, size, number, k + 1);
             }
             let mut u = t;
             u.skip = 0;
@@ -118,6 +121,7 @@ pub fn place_item(
     slots: &mut [u64],
     values: &mut [u64],
     scratch: &mut [u64],
+    size: usize,
     s: State,
     o: usize,
     done: u64,
@@ -126,9 +130,10 @@ pub fn place_item(
 ) -> Count
     requires { ⌜ (o < room 4 (now objects)) × (field 4 (now objects) o 3 < 2 ^ 63) × (s .waiting < 2 ^ 63) × (word ≤ 8) × (0 < word) × (done + s .skip + widthOf word v < 2 ^ 64) ⌝ }
     requires { ⌜ (0 < s .slots) × (s .slots ≤ room 6 (now slots)) ⌝ }
-    requires { ⌜ Indexed (now slots) (s .slots) (now scratch) × Single (now slots) (s .slots) (s .waiting) × Fresh (now slots) (s .slots) v ⌝ }
+    requires { ⌜ Indexed (now slots) (s .slots) (take size (now scratch)) ⌝ }
     ensures { λ r. ⌜ ((x : Input) (l : Lent) → wordOf x ≡ word → seenCount r (objectsIs (now (objects .exit)) (slotsIs (now (slots .exit)) (valuesIs (now (values .exit)) l))) ≡ placeItem x o done v (mem s (objectsIs (now (objects .entry)) (slotsIs (now (slots .entry)) (valuesIs (now (values .entry)) l))))) ⌝ }
-    ensures index { λ r. ⌜ CountIndexed r (now (slots .exit)) (now (scratch .exit)) ⌝ }
+    ensures index { λ r. ⌜ CountIndexed r (now (slots .exit)) (take size (now (scratch .exit))) ⌝ }
+    ensures rest { λ _. ⌜ drop size (now (scratch .exit)) ≡ drop size (now (scratch .entry)) ⌝ }
 {
     let mut t = s;
     match v {
@@ -146,6 +151,7 @@ pub fn place_item(
                 objects,
                 slots,
                 scratch,
+                size,
                 u,
                 o,
                 done,
@@ -153,6 +159,6 @@ pub fn place_item(
                 word,
             ),
         },
-        _ => keep_item(objects, slots, scratch, s, o, done, v, word),
+        _ => keep_item(objects, slots, scratch, size, s, o, done, v, word),
     }
 }

@@ -3,6 +3,7 @@ pub mod head;
 pub mod ints;
 pub mod item;
 pub mod map;
+pub mod parts;
 pub mod pending;
 pub mod prefix;
 pub mod simple;

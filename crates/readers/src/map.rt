@@ -4,14 +4,15 @@ use crate::prefix::change_chunk;
 use crate::state::Count;
 use crate::state::State;
 use crate::state::Went;
+use address_index::links::enter;
 use alloc::legacy_alloc::LegacyAlloc;
 use alloc::legacy_alloc::Request;
 use sheet::names::K_NEXT_CHUNK;
+use sheet::numbers::legacy;
+use sheet::numbers::map_first;
+use sheet::numbers::word_bytes;
 use sheet::tests::alignment;
 use sheet::tests::is_tag;
-use sheet::usable::legacy;
-use sheet::usable::map_first;
-use sheet::usable::word_bytes;
 use stream::bytes::peek;
 use tables::records::set_raw_len;
 use tables::values::Ref;
@@ -20,18 +21,33 @@ use tables::values::fields_of;
 ghost use mathlib.Core.Bool.{true};
 ghost use mathlib.Core.Path.{_≡_};
 ghost use mathlib.Core.List.{List};
-ghost use Prim.Native.Nat.{ℕ, _-_, _*_, _^_, _<_, _≤_};
-ghost use lib.ListN.{length, getD};
+ghost use Prim.Native.Nat.{ℕ, _+_, _-_, _*_, _^_, _<_, _≤_};
+ghost use lib.ListN.{length, getD, take, drop};
 ghost use Rattle.sheet.specs.Sheet.{usable};
 ghost use Rattle.tables.specs.Records.{room, field};
+ghost use Rattle.address_index.specs.Links.{spaceOf, Linked};
 ghost use Rattle.definition.specs.Object.{allocate, chunkChanges};
 ghost use Rattle.readers.specs.Views.{Lent, input, mem, seenWent, objectsIs, slotsIs, addressesIs, countersIs};
+ghost use Rattle.readers.specs.Index.{WentLinked};
 ghost use Rattle.readers.specs.Map.{afterMap, mapKept, isFlagged};
 
-// An address record of object o.
+// Address record n enters the index in the second part of scratch, which starts at `size`.
+fn enter_record(addresses: &[u64], scratch: &mut [u64], size: usize, n: usize)
+    requires { ⌜ (n < room 5 (now addresses)) × (spaceOf (now addresses) n < 256) × Linked (now addresses) n (drop size (now scratch)) ⌝ }
+    ensures { λ _. ⌜ Linked (now (addresses .entry)) (n + 1) (drop size (now (scratch .exit))) ⌝ }
+    ensures front { λ _. ⌜ take size (now (scratch .exit)) ≡ take size (now (scratch .entry)) ⌝ }
+{
+    if size <= scratch.len() {
+        enter(addresses, &mut scratch[size..], n);
+    }
+}
+
+// An address record of object o, and its entry in the index.
 fn allocate_object(
     sheet: &[u16],
     addresses: &mut [u64],
+    scratch: &mut [u64],
+    size: usize,
     cur: &mut [u32; 256],
     used: &mut [u32; 256],
     spaces: u64,
@@ -41,7 +57,10 @@ fn allocate_object(
     o: u64,
 ) -> Went
     requires { ⌜ (usable (now sheet) ≡ true) × (space < 256) × (bytes < 2 ^ 33) ⌝ }
+    requires { ⌜ Linked (now addresses) (s .addresses) (drop size (now scratch)) ⌝ }
     ensures { λ r. ⌜ ((p tr : List ℕ) (l : Lent) → seenWent r (addressesIs (now (addresses .exit)) (countersIs (now (cur .exit)) (now (used .exit)) l)) ≡ allocate (input (now (sheet .entry)) p spaces tr) space bytes o (mem s (addressesIs (now (addresses .entry)) (countersIs (now (cur .entry)) (now (used .entry)) l)))) ⌝ }
+    ensures linked { λ r. ⌜ WentLinked r (now (addresses .exit)) (drop size (now (scratch .exit))) ⌝ }
+    ensures front { λ _. ⌜ take size (now (scratch .exit)) ≡ take size (now (scratch .entry)) ⌝ }
 {
     let c = *cur;
     let u = *used;
@@ -64,6 +83,7 @@ fn allocate_object(
     let nu = next.used;
     *cur = nc;
     *used = nu;
+    enter_record(addresses, scratch, size, n);
     let mut t = s;
     t.addresses = n + 1;
     t.alignment = done.alignment;
@@ -82,6 +102,7 @@ fn chunk_changes(
 ) -> State
     requires { ⌜ (space < 256) × (s .at ≤ length (now p)) × (getD (now cur) space 0 ≤ s .at) × (length (now p) ≤ 16777216) ⌝ }
     ensures { λ r. ⌜ ((tr : List ℕ) (l : Lent) → seenWent (Went.On r) (countersIs (now (cur .exit)) (now (used .exit)) l) ≡ chunkChanges (input (now (sheet .entry)) (now (p .entry)) spaces tr) space (length (now (p .entry)) - s .at) (mem s (countersIs (now (cur .entry)) (now (used .entry)) l))) ⌝ }
+    ensures records { λ r. ⌜ r .addresses ≡ s .addresses ⌝ }
 {
     let mut t = s;
     loop {
@@ -103,6 +124,7 @@ pub fn after_map(
     sheet: &[u16],
     p: &[u8],
     addresses: &mut [u64],
+    scratch: &mut [u64],
     cur: &mut [u32; 256],
     used: &mut [u32; 256],
     spaces: u64,
@@ -113,14 +135,28 @@ pub fn after_map(
     o: u64,
 ) -> Went
     requires { ⌜ (usable (now sheet) ≡ true) × (space < 256) × (bytes < 2 ^ 33) × (s .at ≤ length (now p)) × (length (now p) ≤ 16777216) ⌝ }
-    requires { ⌜ getD (now cur) space 0 ≤ s .at ⌝ }
+    requires { ⌜ (getD (now cur) space 0 ≤ s .at) × Linked (now addresses) (s .addresses) (drop (length (now p)) (now scratch)) ⌝ }
     ensures { λ r. ⌜ ((tr : List ℕ) (l : Lent) → seenWent r (addressesIs (now (addresses .exit)) (countersIs (now (cur .exit)) (now (used .exit)) l)) ≡ afterMap (input (now (sheet .entry)) (now (p .entry)) spaces tr) before space bytes o (mem s (addressesIs (now (addresses .entry)) (countersIs (now (cur .entry)) (now (used .entry)) l)))) ⌝ }
+    ensures linked { λ r. ⌜ WentLinked r (now (addresses .exit)) (drop (length (now (p .entry))) (now (scratch .exit))) ⌝ }
+    ensures front { λ _. ⌜ take (length (now (p .entry))) (now (scratch .exit)) ≡ take (length (now (p .entry))) (now (scratch .entry)) ⌝ }
 {
     if !legacy(sheet) {
         return Went::On(s);
     }
     if !map_first(sheet) {
-        return allocate_object(sheet, addresses, cur, used, spaces, s, space, bytes, o);
+        return allocate_object(
+            sheet,
+            addresses,
+            scratch,
+            p.len(),
+            cur,
+            used,
+            spaces,
+            s,
+            space,
+            bytes,
+            o,
+        );
     }
     let mut t = s;
     t.alignment = before;
@@ -131,7 +167,19 @@ pub fn after_map(
         t.at = at + 1;
     }
     let u = chunk_changes(sheet, p, cur, used, spaces, t, space);
-    allocate_object(sheet, addresses, cur, used, spaces, u, space, bytes, o)
+    allocate_object(
+        sheet,
+        addresses,
+        scratch,
+        p.len(),
+        cur,
+        used,
+        spaces,
+        u,
+        space,
+        bytes,
+        o,
+    )
 }
 
 // A map that is a root which the trusted list flags.

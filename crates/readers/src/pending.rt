@@ -11,21 +11,25 @@ ghost use mathlib.Core.Path.{_≡_};
 ghost use mathlib.Core.Bool.{true};
 ghost use mathlib.Core.List.{List};
 ghost use Prim.Native.Nat.{ℕ, _-_, _<_, _≤_};
-ghost use lib.ListN.{length, set};
+ghost use lib.ListN.{length, set, take, drop};
 ghost use Rattle.sheet.specs.Sheet.{usable};
 ghost use Rattle.tables.specs.Records.{room};
 ghost use Rattle.definition.specs.Slots.{waitsFor, waiter, renumbered, resolved};
 ghost use Rattle.definition.specs.Object.{resolves as resolvesFrom};
+ghost use Rattle.laws.specs.Waiting.{Waits};
 ghost use Rattle.readers.specs.Views.{Lent, input, mem, seenWent, slotsIs};
-ghost use Rattle.readers.specs.Index.{Indexed, Single, WentIndexed};
+ghost use Rattle.readers.specs.Index.{Indexed, WentIndexed};
 
-// x at place i of scratch, where scratch has that place.
-pub fn note(scratch: &mut [u64], i: u64, x: u64)
-    ensures { λ _. ⌜ now (scratch .exit) ≡ set (now (scratch .entry)) i x ⌝ }
+// x at place i of the first part of scratch, which ends at `size`, where scratch has that place.
+pub fn note(scratch: &mut [u64], size: usize, i: u64, x: u64)
+    ensures { λ _. ⌜ take size (now (scratch .exit)) ≡ set (take size (now (scratch .entry))) i x ⌝ }
+    ensures rest { λ _. ⌜ drop size (now (scratch .exit)) ≡ drop size (now (scratch .entry)) ⌝ }
 {
-    if i < scratch.len() as u64 {
-        let k = i as usize;
-        scratch[k] = x;
+    if i < size as u64 {
+        if i < scratch.len() as u64 {
+            let k = i as usize;
+            scratch[k] = x;
+        }
     }
 }
 
@@ -52,14 +56,19 @@ fn find_waiter(slots: &[u64], number: u64, n: usize) -> u64
     0
 }
 
-// The same, by the index where it has room; and with no search where no slot waits.
-fn lookup(slots: &[u64], scratch: &[u64], s: State, number: u64) -> u64
-    requires { ⌜ (s .slots ≤ room 6 (now slots)) × Indexed (now slots) (s .slots) (now scratch) × Single (now slots) (s .slots) (s .waiting) ⌝ }
+// The same, by the index where it has room; and with no search under a number that was not given out, or where no slot waits.
+fn lookup(slots: &[u64], scratch: &[u64], size: usize, s: State, number: u64) -> u64
+    requires { ⌜ (s .slots ≤ room 6 (now slots)) × Indexed (now slots) (s .slots) (take size (now scratch)) × Waits (now slots) (s .slots) (s .pending) (s .waiting) ⌝ }
     ensures { λ r. ⌜ r ≡ waiter (now (slots .entry)) number (s .slots) ⌝ }
 {
-    if number < scratch.len() as u64 {
-        let k = number as usize;
-        return scratch[k];
+    if s.pending <= number {
+        return 0;
+    }
+    if number < size as u64 {
+        if number < scratch.len() as u64 {
+            let k = number as usize;
+            return scratch[k];
+        }
     }
     if s.waiting == 0 {
         return 0;
@@ -75,19 +84,27 @@ fn renumber(pending: u64, waiting: u64) -> u64
 }
 
 // A resolve of a number, after the map of object o.
-fn resolve(slots: &mut [u64], scratch: &mut [u64], s: State, number: u64, o: u64) -> State
-    requires { ⌜ (s .slots ≤ room 6 (now slots)) × Indexed (now slots) (s .slots) (now scratch) × Single (now slots) (s .slots) (s .waiting) ⌝ }
+fn resolve(
+    slots: &mut [u64],
+    scratch: &mut [u64],
+    size: usize,
+    s: State,
+    number: u64,
+    o: u64,
+) -> State
+    requires { ⌜ (s .slots ≤ room 6 (now slots)) × Indexed (now slots) (s .slots) (take size (now scratch)) × Waits (now slots) (s .slots) (s .pending) (s .waiting) ⌝ }
     ensures { λ r. ⌜ ((l : Lent) → mem r (slotsIs (now (slots .exit)) l) ≡ resolved number o (mem s (slotsIs (now (slots .entry)) l))) ⌝ }
-    ensures index { λ r. ⌜ Indexed (now (slots .exit)) (r .slots) (now (scratch .exit)) × Single (now (slots .exit)) (r .slots) (r .waiting) ⌝ }
+    ensures index { λ r. ⌜ Indexed (now (slots .exit)) (r .slots) (take size (now (scratch .exit))) ⌝ }
+    ensures rest { λ _. ⌜ drop size (now (scratch .exit)) ≡ drop size (now (scratch .entry)) ⌝ }
 {
-    let k = lookup(slots, scratch, s, number);
+    let k = lookup(slots, scratch, size, s, number);
     let mut t = s;
     if k == 0 {
         t.pending = renumber(s.pending, s.waiting);
         return t;
     }
     fill_slot(slots, (k - 1) as usize, o);
-    note(scratch, number, 0);
+    note(scratch, size, number, 0);
     t.waiting = s.waiting - 1;
     t.pending = renumber(s.pending, s.waiting - 1);
     t
@@ -103,9 +120,10 @@ pub fn resolves(
     o: u64,
 ) -> Went
     requires { ⌜ usable (now sheet) ≡ true ⌝ }
-    requires { ⌜ (s .at ≤ length (now p)) × (s .slots ≤ room 6 (now slots)) × Indexed (now slots) (s .slots) (now scratch) × Single (now slots) (s .slots) (s .waiting) ⌝ }
+    requires { ⌜ (s .at ≤ length (now p)) × (s .slots ≤ room 6 (now slots)) × Indexed (now slots) (s .slots) (take (length (now p)) (now scratch)) × Waits (now slots) (s .slots) (s .pending) (s .waiting) ⌝ }
     ensures { λ r. ⌜ ((tr : List ℕ) (sp : ℕ) (l : Lent) → seenWent r (slotsIs (now (slots .exit)) l) ≡ resolvesFrom (input (now (sheet .entry)) (now (p .entry)) sp tr) o (length (now (p .entry)) - s .at) (mem s (slotsIs (now (slots .entry)) l))) ⌝ }
-    ensures index { λ r. ⌜ WentIndexed r (now (slots .exit)) (now (scratch .exit)) ⌝ }
+    ensures index { λ r. ⌜ WentIndexed r (now (slots .exit)) (take (length (now (p .entry))) (now (scratch .exit))) ⌝ }
+    ensures rest { λ _. ⌜ drop (length (now (p .entry))) (now (scratch .exit)) ≡ drop (length (now (p .entry))) (now (scratch .entry)) ⌝ }
 {
     let mut cur = s;
     loop {
@@ -119,7 +137,7 @@ pub fn resolves(
                 return Went::Refused(n, q, t);
             }
             Count::Is(number, t) => {
-                cur = resolve(slots, scratch, t, number, o);
+                cur = resolve(slots, scratch, p.len(), t, number, o);
             }
         }
     }

@@ -1,6 +1,7 @@
 // References that hold no other.
 use crate::ints::read_int;
 use crate::ints::read_skip;
+use crate::parts::index_start;
 use crate::state::Count;
 use crate::state::State;
 use crate::state::Step;
@@ -10,9 +11,9 @@ use backref::hot_ring::add;
 use backref::hot_ring::get;
 use backref::legacy::Backref;
 use backref::legacy::legacy_backref;
-use sheet::usable::legacy;
-use sheet::usable::raw_advances;
-use sheet::usable::word_bytes;
+use sheet::numbers::legacy;
+use sheet::numbers::raw_advances;
+use sheet::numbers::word_bytes;
 use stream::bytes::Range;
 use stream::bytes::raw;
 use tables::values::Raw;
@@ -22,9 +23,12 @@ ghost use mathlib.Core.Bool.{true};
 ghost use mathlib.Core.Path.{_≡_};
 ghost use mathlib.Core.List.{List};
 ghost use Prim.Native.Nat.{ℕ, _^_, _<_, _≤_};
+ghost use lib.ListN.{length, drop};
 ghost use Rattle.sheet.specs.Sheet.{usable};
 ghost use Rattle.tables.specs.declared.values.SlotValue.{SlotValue};
 ghost use Rattle.tables.specs.Records.{room};
+ghost use Rattle.address_index.specs.Links.{Linked};
+ghost use Rattle.address_index.specs.Sorted.{Sorted};
 ghost use Rattle.definition.specs.Memory.{Reader};
 ghost use Rattle.definition.specs.Reference.{hotPlace, legacyReference, pendingReference, rawData, byHead};
 ghost use Rattle.readers.specs.Views.{Lent, input, mem, seen, hotIs, addressesIs};
@@ -78,19 +82,23 @@ pub fn legacy_ref(
     sheet: &[u16],
     p: &[u8],
     addresses: &[u64],
+    scratch: &[u64],
     hot: &mut [u64; 25],
     s: State,
     space: u64,
 ) -> Step
     requires { ⌜ (s .addresses ≤ room 5 (now addresses)) × (usable (now sheet) ≡ true) ⌝ }
+    requires { ⌜ Linked (now addresses) (s .addresses) (drop (length (now p)) (now scratch)) × Sorted (now addresses) (s .addresses) ⌝ }
     ensures { λ r. ⌜ ((tr : List ℕ) (sp : ℕ) (l : Lent) → seen r (addressesIs (now (addresses .entry)) (hotIs (now (hot .exit)) l)) ≡ legacyReference (input (now (sheet .entry)) (now (p .entry)) sp tr) space (mem s (addressesIs (now (addresses .entry)) (hotIs (now (hot .entry)) l)))) ⌝ }
 {
     let at = s.at;
+    let start = index_start(p, scratch);
     let mut t = s;
     match legacy_backref(
         sheet,
         p,
         addresses,
+        &scratch[start..],
         hot,
         s.addresses,
         s.alignment,
@@ -223,18 +231,20 @@ fn with_skip(
     sheet: &[u16],
     p: &[u8],
     addresses: &[u64],
+    scratch: &[u64],
     hot: &mut [u64; 25],
     s: State,
     kind: u64,
     a: u64,
 ) -> Step
     requires { ⌜ (s .addresses ≤ room 5 (now addresses)) × (usable (now sheet) ≡ true) × (s .skip < 2 ^ 63) × (kind ≡ 8 → a < 8) ⌝ }
+    requires { ⌜ Linked (now addresses) (s .addresses) (drop (length (now p)) (now scratch)) × Sorted (now addresses) (s .addresses) ⌝ }
     ensures { λ r. ⌜ ((tr : List ℕ) (sp : ℕ) (l : Lent) → seen r (addressesIs (now (addresses .entry)) (hotIs (now (hot .exit)) l)) ≡ readSkipped (input (now (sheet .entry)) (now (p .entry)) sp tr) kind a (mem s (addressesIs (now (addresses .entry)) (hotIs (now (hot .entry)) l)))) ⌝ }
 {
     match read_skip(p, s) {
         Went::Refused(n, q, t) => Step::Refused(n, q, t),
         Went::On(t) => match kind {
-            4 => legacy_ref(sheet, p, addresses, hot, t, a),
+            4 => legacy_ref(sheet, p, addresses, scratch, hot, t, a),
             8 => hot_ref(hot, t, a),
             11 => Step::Got(SlotValue::Ref(Ref::Root(a)), t),
             _ => one_int(p, t, kind),
@@ -247,6 +257,7 @@ pub fn simple_ref(
     sheet: &[u16],
     p: &[u8],
     addresses: &[u64],
+    scratch: &[u64],
     hot: &mut [u64; 25],
     s: State,
     tag: usize,
@@ -255,27 +266,28 @@ pub fn simple_ref(
 ) -> Step
     requires { ⌜ (s .addresses ≤ room 5 (now addresses)) × (usable (now sheet) ≡ true) × (s .skip < 2 ^ 63) × (s .pending < 2 ^ 63) ⌝ }
     requires { ⌜ Simple kind a ⌝ }
+    requires { ⌜ Linked (now addresses) (s .addresses) (drop (length (now p)) (now scratch)) × Sorted (now addresses) (s .addresses) ⌝ }
     ensures { λ r. ⌜ ((tr : List ℕ) (sp : ℕ) (l : Lent) (inner : Reader SlotValue) → seen r (addressesIs (now (addresses .entry)) (hotIs (now (hot .exit)) l)) ≡ byHead (input (now (sheet .entry)) (now (p .entry)) sp tr) inner tag kind a (mem s (addressesIs (now (addresses .entry)) (hotIs (now (hot .entry)) l)))) ⌝ }
 {
     match kind {
         2 => back_ref(p, hot, s),
-        3 => legacy_ref(sheet, p, addresses, hot, s, a),
-        4 => with_skip(sheet, p, addresses, hot, s, 4, a),
+        3 => legacy_ref(sheet, p, addresses, scratch, hot, s, a),
+        4 => with_skip(sheet, p, addresses, scratch, hot, s, 4, a),
         7 => hot_ref(hot, s, a),
-        8 => with_skip(sheet, p, addresses, hot, s, 8, a),
+        8 => with_skip(sheet, p, addresses, scratch, hot, s, 8, a),
         9 => root_array(p, hot, s),
         10 => Step::Got(SlotValue::Ref(Ref::Root(a)), s),
-        11 => with_skip(sheet, p, addresses, hot, s, 11, a),
+        11 => with_skip(sheet, p, addresses, scratch, hot, s, 11, a),
         12 => two_ints(p, s, 12),
         13 => one_int(p, s, 13),
         14 => one_int(p, s, 14),
         15 => one_int(p, s, 15),
-        16 => with_skip(sheet, p, addresses, hot, s, 16, a),
+        16 => with_skip(sheet, p, addresses, scratch, hot, s, 16, a),
         17 => two_ints(p, s, 17),
         18 => one_int(p, s, 18),
         19 => one_int(p, s, 19),
         20 => two_ints(p, s, 20),
-        21 => with_skip(sheet, p, addresses, hot, s, 21, a),
+        21 => with_skip(sheet, p, addresses, scratch, hot, s, 21, a),
         22 => one_int(p, s, 22),
         23 => pending_ref(s),
         24 => Step::Got(SlotValue::ClearedWeak, s),

@@ -1,6 +1,4 @@
-// The version sheet: its numbers, which sheets are usable and plain, and what each head byte means.
-pub mod heads;
-pub mod kinds;
+// The version sheet: its numbers, and what objects and the closing section test by them.
 pub mod names;
+pub mod numbers;
 pub mod tests;
-pub mod usable;

@@ -156,7 +156,7 @@ fn compare(
     values: &mut [u64],
     addresses: &mut [u64],
 ) -> Ran {
-    let mut scratch = [7u64; 16];
+    let mut scratch = [7u64; 512];
     let o = parse_with(
         sheet,
         payload,

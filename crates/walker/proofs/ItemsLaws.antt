@@ -7,14 +7,14 @@ use Prim.Native.Nat.{ℕ, suc, _+_, _-_, _^_, _<_, _≤_}
 use native.Mathlib.Omega.{arith}
 use borrow.Author.Tests.{lt-ltb, le-leb, lt-leb, eq-eqb, ne-eqb}
 use lib.Dec.{eqb}
-use lib.ListN.{length}
+use lib.ListN.{length, take}
 use Rattle.stream.specs.Bytes.{peekAt}
 use Rattle.sheet.specs.Names.{kDeferred}
 use Rattle.sheet.specs.Sheet.{number}
 use Rattle.sheet.specs.Tests.{isDeferred}
 use Rattle.tables.specs.declared.values.Ref.the-variants.{Object}
 use Rattle.tables.specs.declared.values.SlotValue.{SlotValue}
-use Rattle.tables.specs.declared.values.SlotValue.the-variants.{Ref, Repeat, RepeatPrev, Skip, StreamBytes, Raw, ClearedWeak, WeakRef, PendingRef}
+use Rattle.tables.specs.declared.values.SlotValue.the-variants.{Ref}
 use Rattle.tables.specs.Values.{widthOf}
 use Rattle.tables.specs.Records.{room, field}
 use Rattle.definition.specs.Memory.{Input, word, Mem, Out, got, no, Reader, andThen, moved, byte}
@@ -25,47 +25,13 @@ use Rattle.laws.specs.Sound.{Onward, Referred}
 use Rattle.laws.specs.Leaves.{tag-inside}
 use Rattle.laws.specs.Keeps.{sheet-gives, word-low, Placed}
 use Rattle.laws.specs.Theorems.{ref-keeps, placeItem-keeps}
-use Rattle.laws.specs.Numbered.{Numbered, FreshValue, placeItem-numbered}
-use Rattle.laws.specs.Waiting.{waiter-fresh}
+use Rattle.laws.specs.Numbered.{placeItem-numbered}
 use Rattle.laws.specs.Fuel.{items-fuel}
-use Rattle.readers.specs.declared.state.State.{State}
-use Rattle.readers.specs.declared.state.Step.{Step}
-use Rattle.readers.specs.declared.state.Step.the-variants.{Got}
-use Rattle.readers.specs.declared.state.Count.{Count}
-use Rattle.readers.specs.declared.state.Count.the-variants.{Is}
-use Rattle.readers.specs.Index.{Indexed, Single, Fresh, StepIndexed, CountIndexed}
+use Rattle.readers.specs.Index.{Indexed}
 use Rattle.readers.proofs.ViewLaws.{then-got, then-no}
-use Rattle.walker.specs.Ready.{Ready, slotIn, filledFrom}
-use Rattle.walker.proofs.ReadyLaws.{Went, went, Free, None, ready-after, moved-ready, ref-went}
-
--- one level less is left, as the code counts it and as the definition does
-pub one-less : (d : ℕ) → 65 - (d + 1) ≡ 64 - d
-one-less d = omega arith
-
--- a value whose number is free waits under no number that a slot waits under
-pub fresh-index : (m : Mem) (v : SlotValue) → Numbered m → FreshValue m v → Fresh (m .slots .rows) (m .slots .count) v
-fresh-index m (PendingRef n) w f = waiter-fresh w n f
-fresh-index m (Ref r) w f = tt
-fresh-index m (Repeat n k) w f = tt
-fresh-index m (RepeatPrev n) w f = tt
-fresh-index m (Skip n) w f = tt
-fresh-index m (StreamBytes n) w f = tt
-fresh-index m (Raw r) w f = tt
-fresh-index m ClearedWeak w f = tt
-fresh-index m (WeakRef k) w f = tt
-
--- the index is right
-pub record Right (slots : List ℕ) (count waiting : ℕ) (scratch : List ℕ) : Type 0 where
-  pub index : Indexed slots count scratch
-  pub single : Single slots count waiting
-
--- ---- answers, once their variant is known
-
-pub step-indexed : {r : Step} {v : SlotValue} {t : State} (slots scratch : List ℕ) → r ≡ Got v t → StepIndexed r slots scratch → Right slots (t .slots) (t .waiting) scratch
-step-indexed slots scratch e h = let z = subst (λ (r : Step). StepIndexed r slots scratch) e h in record { index = z .0; single = z .1 }
-
-pub count-indexed : {r : Count} {n : ℕ} {t : State} (slots scratch : List ℕ) → r ≡ Is n t → CountIndexed r slots scratch → Right slots (t .slots) (t .waiting) scratch
-count-indexed slots scratch e h = let z = subst (λ (r : Count). CountIndexed r slots scratch) e h in record { index = z .0; single = z .1 }
+use Rattle.walker.specs.Ready.{Index, Ready, slotIn, filledFrom}
+use Rattle.walker.proofs.GroundLaws.{ground-ascends, placeItem-ground}
+use Rattle.walker.proofs.ReadyLaws.{one-less, Went, went, Free, None, ready-after, moved-ready, ref-went}
 
 -- the code's test of the byte at the cursor
 module _ (v p : List ℕ) (at : ℕ) {b : ℕ} {t : Bool} (eb : b ≡ peekAt p at) (et : t ≡ eqb (number v kDeferred) b) where
@@ -84,16 +50,16 @@ module _ (x : Input) (d o done : ℕ) (m : Mem) where
   pub slot-got : {v : SlotValue} {m1 : Mem} {out : Out ℕ} → got v m1 ≡ refAt x (65 - (d + 1)) m → out ≡ placeItem x o done v m1 → out ≡ slotIn x (refAt x (64 - d)) o done m
   slot-got e h = rw (← one-less d) (then-got (placeItem x o done) e h)
 
-word-some : {x : Input} {h sc : List ℕ} {m : Mem} → Ready x h m sc → (word x ≤ 8) × (0 < word x)
+pub word-some : {x : Input} {h sc : List ℕ} {m : Mem} → Ready x h m sc → (word x ≤ 8) × (0 < word x)
 word-some g = (word-low (g .proper), ⊎-elim (λ e. omega arith) (λ e. omega arith) (sheet-gives (g .proper) .word))
 
 -- what `place_item` asks, after a reference one level down
 module _ {x : Input} {h sc : List ℕ} {m : Mem} (g : Ready x h m sc) (d o done : ℕ) (b : o < m .objects .count) (s : 0 < m .slots .count) where
   pub place-asks : {v : SlotValue} {m1 : Mem} {sc1 : List ℕ} → got v m1 ≡ refAt x (65 - (d + 1)) m → done < 2 ^ 60 → length (m .slots .rows) < 2 ^ 64
-      → Right (m1 .slots .rows) (m1 .slots .count) (m1 .waiting) sc1 → (w : ℕ) → w ≡ word x
+      → Index (length (x .payload)) (m1 .slots) (m1 .addresses) sc1 → (w : ℕ) → w ≡ word x
       → ((o < room 4 (m1 .objects .rows)) × (field 4 (m1 .objects .rows) o 3 < 2 ^ 63) × (m1 .waiting < 2 ^ 63) × (w ≤ 8) × (0 < w) × (done + m1 .skip + widthOf w v < 2 ^ 64))
       × (((0 < m1 .slots .count) × (m1 .slots .count ≤ room 6 (m1 .slots .rows)))
-      × (Indexed (m1 .slots .rows) (m1 .slots .count) sc1 × Single (m1 .slots .rows) (m1 .slots .count) (m1 .waiting) × Fresh (m1 .slots .rows) (m1 .slots .count) v))
+      × Indexed (m1 .slots .rows) (m1 .slots .count) (take (length (x .payload)) sc1))
   place-asks {v} {m1} e low len i w ew =
       let z : Went x m (Referred x m) Free v m1 = ref-went g (65 - (d + 1)) e in
       let so = z .kept .sound in
@@ -101,7 +67,7 @@ module _ {x : Input} {h sc : List ℕ} {m : Mem} (g : Ready x h m sc) (d o done 
       let ws = word-some g in
       let count-fits : m1 .slots .count < 2 ^ 63 = omega (arith, so .slots-fit, up .slots-size) in
       let wide : widthOf w v ≤ 2 ^ 34 = rw ew (z .more .narrow) in
-      ((omega (arith, so .objects-fit, up .objects-up), omega (arith, z .kept .counted .count-low o), omega (arith, so .waiting-low), omega (arith, ws .0), omega (arith, ws .1), omega (arith, so .skip-low, so .within, g .proper .short)), ((omega (arith, up .slots-up), omega (arith, so .slots-fit)), (i .index, i .single, fresh-index m1 v (z .numbered) (z .fresh))))
+      ((omega (arith, so .objects-fit, up .objects-up), omega (arith, z .kept .counted .count-low o), omega (arith, so .waiting-low), omega (arith, ws .0), omega (arith, ws .1), omega (arith, so .skip-low, so .within, g .proper .short)), ((omega (arith, up .slots-up), omega (arith, so .slots-fit)), i .pending))
 
 -- what an item keeps
 pub record Added (done : ℕ) (m : Mem) (d : ℕ) (m′ : Mem) : Type 0 where
@@ -112,8 +78,8 @@ slot-keeps : {x : Input} {h sc : List ℕ} {m : Mem} → Ready x h m sc → (k o
 slot-keeps {x} {h} {sc} {m} g k o done b (got v m2) e {d1} {m1} f =
     let z : Went x m (Referred x m) Free v m2 = ref-went g k e in
     let b2 : o < m2 .objects .count = omega (arith, z .kept .onward .objects-up) in
-    let y : Went x m2 (Placed done m2) None d1 m1 = went (placeItem-keeps (g .proper) m2 (z .kept .sound) (z .kept .counted) o b2 done v (z .more .narrow)) (placeItem-numbered (g .proper) m2 (z .kept .sound) (z .kept .counted) (z .numbered) o (done + 1) done b2 v (z .fresh) (z .more .narrow) (omega arith)) f in
-    record { kept = record { sound = y .kept .sound; counted = y .kept .counted; onward = omega (arith, z .kept .onward, y .kept .onward) }; more = record { reads = omega (arith, z .more .reads, y .more .at-same); bound = omega (arith, y .more .bound, z .kept .sound .skip-low, z .kept .sound .within, g .proper .short) }; numbered = y .numbered; fresh = tt }
+    let y : Went x m2 (Placed done m2) None d1 m1 = went (placeItem-keeps (g .proper) m2 (z .kept .sound) (z .kept .counted) o b2 done v (z .more .narrow)) (placeItem-numbered (g .proper) m2 (z .kept .sound) (z .kept .counted) (z .numbered) o (done + 1) done b2 v (z .fresh) (z .more .narrow) (omega arith)) (ground-ascends x m2 (z .ascending) (placeItem x o done v m2) (placeItem-ground x o done v m2)) f in
+    record { kept = record { sound = y .kept .sound; counted = y .kept .counted; onward = omega (arith, z .kept .onward, y .kept .onward) }; more = record { reads = omega (arith, z .more .reads, y .more .at-same); bound = omega (arith, y .more .bound, z .kept .sound .skip-low, z .kept .sound .within, g .proper .short) }; numbered = y .numbered; ascending = y .ascending; fresh = tt }
 slot-keeps g k o done b (no n q m2) e f = absurd (let z : _≡_ {A = ℕ} 0 1 = cc in omega arith)
 
 -- ---- the loop
@@ -188,10 +154,10 @@ module _ (x : Input) (h : List ℕ) (d o tag n : ℕ) where
           pub slot-went : Went x m (Added done m) None d1 m1
           slot-went = slot-keeps (w .ready) (64 - d) o done (w .below) (refAt x (64 - d) m) refl f
 
-          pub loop-turn : {sc1 : List ℕ} → Right (m1 .slots .rows) (m1 .slots .count) (m1 .waiting) sc1 → Loop x h d o tag n m₀ d1 m1 sc1
+          pub loop-turn : {sc1 : List ℕ} → Index (length (x .payload)) (m1 .slots) (m1 .addresses) sc1 → Loop x h d o tag n m₀ d1 m1 sc1
           loop-turn i =
               let z = slot-went in
               let r = refAt x (64 - d) in
               let k = z .kept in
               let fuel : itemsFrom x r o n d1 m1 ≡ items x r o n (length (x .payload) - m .at) d1 m1 = items-fuel (w .ready .proper) r (ref-keeps (w .ready .proper) (64 - d)) o n _ _ d1 m1 (k .sound) (k .counted) (omega (arith, w .below, k .onward .objects-up)) (omega arith) (omega (arith, z .more .reads, k .sound .within)) in
-              record { ready = ready-after (w .ready) k (z .numbered) (i .index) (i .single); same = closes (ap (λ (u : Out ℕ). andThen u (closed o tag n)) (fuel ∙ items-next x r o n done m l e f)); onward = omega (arith, w .onward, k .onward); below = omega (arith, w .below, k .onward .objects-up); some = omega (arith, w .some, k .onward .slots-up); less = omega (arith, z .more .bound, z .more .reads, w .ready .sound .skip-low, k .sound .within, w .ready .proper .short) }
+              record { ready = ready-after (w .ready) k (z .numbered) (z .ascending) i; same = closes (ap (λ (u : Out ℕ). andThen u (closed o tag n)) (fuel ∙ items-next x r o n done m l e f)); onward = omega (arith, w .onward, k .onward); below = omega (arith, w .below, k .onward .objects-up); some = omega (arith, w .some, k .onward .slots-up); less = omega (arith, z .more .bound, z .more .reads, w .ready .sound .skip-low, k .sound .within, w .ready .proper .short) }

@@ -7,16 +7,16 @@ use Prim.Native.Nat.{ℕ, zero, suc, _+_, _-_, _*_, _^_, _<_, _≤_}
 use native.Mathlib.Omega.{arith}
 use borrow.Author.Tests.{lt-ltb, le-ltb, ltb-true, eqb-true}
 use lib.Dec.{ltb, eqb}
-use lib.ListN.{length, getD}
+use lib.ListN.{length, getD, drop}
 use Rattle.stream.specs.declared.bytes.Range.{Range}
 use Rattle.stream.specs.declared.bytes.Range.the-variants.{To as RangeTo, Past}
 use Rattle.stream.specs.Bytes.{rawAt}
 use Rattle.stream.specs.declared.putint.Int.{Int}
 use Rattle.stream.specs.declared.putint.Int.the-variants.{Is as IntIs, Cut as IntCut}
 use Rattle.stream.specs.PutInt.{intAt}
-use Rattle.sheet.specs.Kinds.{newObject, backref, legacyBackref, legacyBackrefWithSkip, nextChunk, alignment, hot, hotWithSkip, rootArray, rootConstant, rootConstantWithSkip, readOnly, attached, builtin, external, api, internal, deoptimizer, streamBytes, embedderFields, offHeapTarget, cache, registerPending, clearedWeak, weakPrefix, pointerPrefix, dispatchEntry, fixedRaw, variableRaw, skip, fixedRepeat, fixedRepeatRoot, repeatPrevious, variableRepeat, variableRepeatPrevious, variableRepeatRoot, metaMap}
+use Rattle.heads.specs.Kinds.{newObject, backref, legacyBackref, legacyBackrefWithSkip, nextChunk, alignment, hot, hotWithSkip, rootArray, rootConstant, rootConstantWithSkip, readOnly, attached, builtin, external, api, internal, deoptimizer, streamBytes, embedderFields, offHeapTarget, cache, registerPending, clearedWeak, weakPrefix, pointerPrefix, dispatchEntry, fixedRaw, variableRaw, skip, fixedRepeat, fixedRepeatRoot, repeatPrevious, variableRepeat, variableRepeatPrevious, variableRepeatRoot, metaMap}
 use Rattle.sheet.specs.Sheet.{usable}
-use Rattle.sheet.specs.Heads.{Row, order, Head, claims, pickHead, firstOf, headOf}
+use Rattle.heads.specs.Heads.{Row, order, Head, claims, pickHead, firstOf, headOf}
 use Rattle.sheet.proofs.UsableSheet.{and-left, and-right}
 use Rattle.tables.specs.declared.values.Ref.the-variants.{Root}
 use Rattle.tables.specs.declared.values.SlotValue.{SlotValue}
@@ -30,6 +30,8 @@ use Rattle.backref.specs.HotRing.{hotAt}
 use Rattle.backref.specs.declared.legacy.Backref.{Backref}
 use Rattle.backref.specs.declared.legacy.Backref.the-variants.{To, Cut, Unknown}
 use Rattle.backref.specs.Legacy.{backrefOf}
+use Rattle.address_index.specs.Links.{Linked}
+use Rattle.address_index.specs.Sorted.{Sorted}
 use Rattle.definition.specs.Memory.{Input, Table, Mem, Out, got, no, Reader, andThen, _>>=_, _>>_, choose, change, moved, aligned, afterInt, byte, int, hasRoom}
 use Rattle.definition.specs.Slots.{addValue}
 use Rattle.definition.specs.Object.{changeChunk, object}
@@ -37,82 +39,66 @@ use Rattle.definition.specs.Reference.{skipAmount, backrefTo, ofHot, hotPlace, 
 use Rattle.laws.specs.Sound.{Kept, Holds, Referred}
 use Rattle.laws.specs.Theorems.{ref-keeps}
 use Rattle.laws.specs.Numbered.{Numbered, Ordered, ref-numbered}
+use Rattle.laws.specs.Addresses.{StaysAscending, ascending-sorted, ref-ascending}
 use Rattle.readers.specs.declared.state.State.{State}
 use Rattle.readers.specs.declared.state.Step.{Step}
 use Rattle.readers.specs.declared.state.Step.the-variants.{Got, Refused as StepRefused}
 use Rattle.readers.specs.declared.prefix.Prefix.{Prefix}
 use Rattle.readers.specs.declared.prefix.Prefix.the-variants.{Inner, Value, Refused, Other}
 use Rattle.readers.specs.Views.{Lent, mem, seen, valuesIs, addressesIs, hotIs, countersIs}
-use Rattle.readers.specs.Index.{Indexed, Single, StepIndexed}
 use Rattle.readers.specs.Simple.{Simple}
 use Rattle.readers.specs.Prefix.{held, Holdless, Begins, HeldSmall}
 use Rattle.readers.proofs.ViewLaws.{then-got, then-no}
 use Rattle.readers.proofs.HeadFacts.{head-fits, head-simple}
-use Rattle.walker.specs.Ready.{Ready}
-use Rattle.walker.proofs.ReadyLaws.{Free, ready-after}
+use Rattle.walker.specs.Ready.{Index, OutIndex, Ready}
+use Rattle.walker.proofs.SameLaws.{Same, Leaves, same-choose, then-leaves, next-leaves, same-no}
+use Rattle.walker.proofs.ReadyLaws.{one-less, Free, ready-after, moved-ready}
 
--- ---- readers that leave the slots as they are
+-- ---- readers that leave the slots and the address records as they are
 
--- the slots, and how many of them wait
-abbrev pub Unmoved : Mem → Mem → Type 0
-Unmoved m m′ = (m′ .slots ≡ m .slots) × (m′ .waiting ≡ m .waiting)
+pub record Records : Type 0 where
+  pub slots : Table
+  pub addresses : Table
+
+abbrev pub recordsOf : Mem → Records
+recordsOf m = record { slots = m .slots; addresses = m .addresses }
 
 abbrev pub Idle : {A : Type 0} → Mem → Out A → Type 0
-Idle m (got v m′) = Unmoved m m′
-Idle m (no n q m′) = Unmoved m m′
+Idle m o = Same recordsOf m o
 
 abbrev pub Still : {A : Type 0} → Reader A → Type 0
-Still r = (m : Mem) → Idle m (r m)
-
-idle-from : {A : Type 0} (m m′ : Mem) → Unmoved m m′ → (o : Out A) → Idle m′ o → Idle m o
-idle-from m m′ u (got v w) h = (h .0 ∙ u .0, h .1 ∙ u .1)
-idle-from m m′ u (no n q w) h = (h .0 ∙ u .0, h .1 ∙ u .1)
-
-idle-then : {A B : Type 0} (m : Mem) (f : A → Reader B) (o : Out A) → Idle m o → ((a : A) → Still (f a)) → Idle m (andThen o f)
-idle-then m f (got a m′) u h = idle-from m m′ u (f a m′) (h a m′)
-idle-then m f (no n q m′) u h = u
-
-pub idle-choose : {A : Type 0} (t : Bool) (f g : Reader A) (m : Mem) → (t ≡ true → Idle m (f m)) → Idle m (g m) → Idle m (choose t f g m)
-idle-choose true f g m h k = h refl
-idle-choose false f g m h k = k
-
-module _ {A B : Type 0} where
-  pub then-still : (r : Reader A) (f : A → Reader B) → Still r → ((a : A) → Still (f a)) → Still (r >>= f)
-  then-still r f h k m = idle-then m f (r m) (h m) k
-
-  pub next-still : (r : Reader A) (s : Reader B) → Still r → Still s → Still (r >> s)
-  next-still r s h k m = idle-then m (λ _. s) (r m) (h m) (λ _. k)
+Still r = Leaves recordsOf r
 
 -- ---- steps
 
 module _ (x : Input) where
   pub byte-still : Still (byte x)
   unfolding byte
-  byte-still m = idle-choose (ltb (m .at) (length (x .payload))) _ _ m (λ _. (refl, refl)) (refl, refl)
+  byte-still m = same-choose recordsOf (ltb (m .at) (length (x .payload))) _ _ m (λ _. refl) refl
 
   int-of : (i : Int) → Still (afterInt x i)
-  int-of (IntIs v count) m = (refl, refl)
-  int-of IntCut m = (refl, refl)
+  int-of (IntIs v count) m = refl
+  int-of IntCut m = refl
 
   pub int-still : Still (int x)
   unfolding int
   int-still m = int-of (intAt (x .payload) (m .at)) m
 
   amount-still : Still (skipAmount x)
-  amount-still = then-still (int x) _ int-still (λ n m. (refl, refl))
+  amount-still = then-leaves recordsOf (int x) _ int-still (λ n m. refl)
 
   backref-of : (b : Backref) → Still (ofBackref x b)
-  backref-of (To r next) m = (refl, refl)
-  backref-of Cut m = (refl, refl)
-  backref-of (Unknown next) m = (refl, refl)
+  backref-of (To r next) m = refl
+  backref-of Cut m = refl
+  backref-of (Unknown next) m = refl
 
   pub legacy-still : (space : ℕ) → Still (legacyReference x space)
   unfolding legacyReference
   legacy-still space m = backref-of (backrefOf (x .sheet) (x .payload) (m .addresses .rows) (m .addresses .count) (m .alignment) space (m .at)) m
 
   raw-of : (n : ℕ) (advances : Bool) (r : Range) → Still (afterRaw n advances r)
-  raw-of n advances (RangeTo end) m = (refl, refl)
-  raw-of n advances Past m = (refl, refl)
+  raw-of n advances (RangeTo end) m = refl
+  raw-of n advances Past m = refl
 
   raw-still : (n : ℕ) (advances : Bool) → Still (rawData x n advances)
   unfolding rawData
@@ -120,35 +106,35 @@ module _ (x : Input) where
 
 backrefTo-still : (i : ℕ) → Still (backrefTo i)
 unfolding backrefTo
-backrefTo-still i m = idle-choose (ltb i (m .objects .count)) _ _ m (λ _. (refl, refl)) (refl, refl)
+backrefTo-still i m = same-choose recordsOf (ltb i (m .objects .count)) _ _ m (λ _. refl) refl
 
 hot-of : (h : Hot) → Still (ofHot h)
-hot-of (HotIs r) m = (refl, refl)
-hot-of Empty m = (refl, refl)
+hot-of (HotIs r) m = refl
+hot-of Empty m = refl
 
 hot-still : (i : ℕ) → Still (hotPlace i)
 hot-still i m = hot-of (hotAt (m .hot) i) m
 
 pending-still : Still pendingReference
 unfolding pendingReference
-pending-still m = (refl, refl)
+pending-still m = refl
 
 value-still : (f : Fields) → Still (addValue f)
 unfolding addValue
-value-still f m = idle-choose (hasRoom 3 (m .values)) _ _ m (λ _. (refl, refl)) (refl, refl)
+value-still f m = same-choose recordsOf (hasRoom 3 (m .values)) _ _ m (λ _. refl) refl
 
 pub held-still : (h : ℕ) (v : SlotValue) → Still (held h v)
-held-still zero v m = (refl, refl)
-held-still (suc zero) v m = then-still (addValue (fieldsOf v)) _ (value-still (fieldsOf v)) (λ k m. (refl, refl)) m
-held-still (suc (suc n)) v m = then-still (addValue (fieldsOf v)) _ (value-still (fieldsOf v)) (λ k m. (refl, refl)) m
+held-still zero v m = refl
+held-still (suc zero) v m = then-leaves recordsOf (addValue (fieldsOf v)) _ (value-still (fieldsOf v)) (λ k m. refl) m
+held-still (suc (suc n)) v m = then-leaves recordsOf (addValue (fieldsOf v)) _ (value-still (fieldsOf v)) (λ k m. refl) m
 
 root-still : (x : Input) (n : ℕ) → Still (repeatRoot x n)
-root-still x n = then-still (byte x) _ (byte-still x) (λ i. held-still (suc (suc n)) (IsRef (Root i)))
+root-still x n = then-leaves recordsOf (byte x) _ (byte-still x) (λ i. held-still (suc (suc n)) (IsRef (Root i)))
 
 -- no levels left
 none-still : (x : Input) → Still (refAt x 0)
 unfolding refAt
-none-still x m = (refl, refl)
+none-still x m = refl
 
 -- ---- by the head
 
@@ -157,59 +143,58 @@ module _ (x : Input) (r : Reader SlotValue) (s : Still r) (tag kind a : ℕ) (ot
   unfolding byHead
   byHead-still m =
       by newObject _ _ (λ e. absurd (other e))
-      (by backref _ _ (λ _. then-still (int x) _ (int-still x) backrefTo-still m)
+      (by backref _ _ (λ _. then-leaves recordsOf (int x) _ (int-still x) backrefTo-still m)
       (by legacyBackref _ _ (λ _. legacy-still x a m)
-      (by legacyBackrefWithSkip _ _ (λ _. next-still (skipAmount x) _ (amount-still x) (legacy-still x a) m)
-      (by nextChunk _ _ (λ _. next-still (byte x >>= (λ space. change (changeChunk x space))) r (then-still (byte x) (λ space. change (changeChunk x space)) (byte-still x) (λ space m. (refl, refl))) s m)
-      (by alignment _ _ (λ _. next-still (change (aligned a)) r (λ m. (refl, refl)) s m)
+      (by legacyBackrefWithSkip _ _ (λ _. next-leaves recordsOf (skipAmount x) _ (amount-still x) (legacy-still x a) m)
+      (by nextChunk _ _ (λ _. next-leaves recordsOf (byte x >>= (λ space. change (changeChunk x space))) r (then-leaves recordsOf (byte x) (λ space. change (changeChunk x space)) (byte-still x) (λ space m. refl)) s m)
+      (by alignment _ _ (λ _. next-leaves recordsOf (change (aligned a)) r (λ m. refl) s m)
       (by hot _ _ (λ _. hot-still a m)
-      (by hotWithSkip _ _ (λ _. next-still (skipAmount x) _ (amount-still x) (hot-still a) m)
-      (by rootArray _ _ (λ _. then-still (int x) _ (int-still x) (λ i m. (refl, refl)) m)
-      (by rootConstant _ _ (λ _. (refl, refl))
-      (by rootConstantWithSkip _ _ (λ _. next-still (skipAmount x) _ (amount-still x) (λ m. (refl, refl)) m)
-      (by readOnly _ _ (λ _. then-still (int x) _ (int-still x) (λ c. then-still (int x) _ (int-still x) (λ o m. (refl, refl))) m)
-      (by attached _ _ (λ _. then-still (int x) _ (int-still x) (λ i m. (refl, refl)) m)
-      (by builtin _ _ (λ _. then-still (int x) _ (int-still x) (λ i m. (refl, refl)) m)
-      (by external _ _ (λ _. then-still (int x) _ (int-still x) (λ i m. (refl, refl)) m)
-      (by api _ _ (λ _. next-still (skipAmount x) _ (amount-still x) (then-still (int x) _ (int-still x) (λ i m. (refl, refl))) m)
-      (by internal _ _ (λ _. next-still (int x >> int x) _ (next-still (int x) (int x) (int-still x) (int-still x)) (λ m. (refl, refl)) m)
-      (by deoptimizer _ _ (λ _. next-still (int x) _ (int-still x) (λ m. (refl, refl)) m)
-      (by streamBytes _ _ (λ _. then-still (int x) _ (int-still x) (λ n m. (refl, refl)) m)
-      (by embedderFields _ _ (λ _. then-still (int x >> int x) _ (next-still (int x) (int x) (int-still x) (int-still x)) (λ n m. (refl, refl)) m)
-      (by offHeapTarget _ _ (λ _. next-still (skipAmount x >> int x) _ (next-still (skipAmount x) (int x) (amount-still x) (int-still x)) (λ m. (refl, refl)) m)
-      (by cache _ _ (λ _. then-still (int x) _ (int-still x) (λ i m. (refl, refl)) m)
+      (by hotWithSkip _ _ (λ _. next-leaves recordsOf (skipAmount x) _ (amount-still x) (hot-still a) m)
+      (by rootArray _ _ (λ _. then-leaves recordsOf (int x) _ (int-still x) (λ i m. refl) m)
+      (by rootConstant _ _ (λ _. refl)
+      (by rootConstantWithSkip _ _ (λ _. next-leaves recordsOf (skipAmount x) _ (amount-still x) (λ m. refl) m)
+      (by readOnly _ _ (λ _. then-leaves recordsOf (int x) _ (int-still x) (λ c. then-leaves recordsOf (int x) _ (int-still x) (λ o m. refl)) m)
+      (by attached _ _ (λ _. then-leaves recordsOf (int x) _ (int-still x) (λ i m. refl) m)
+      (by builtin _ _ (λ _. then-leaves recordsOf (int x) _ (int-still x) (λ i m. refl) m)
+      (by external _ _ (λ _. then-leaves recordsOf (int x) _ (int-still x) (λ i m. refl) m)
+      (by api _ _ (λ _. next-leaves recordsOf (skipAmount x) _ (amount-still x) (then-leaves recordsOf (int x) _ (int-still x) (λ i m. refl)) m)
+      (by internal _ _ (λ _. next-leaves recordsOf (int x >> int x) _ (next-leaves recordsOf (int x) (int x) (int-still x) (int-still x)) (λ m. refl) m)
+      (by deoptimizer _ _ (λ _. next-leaves recordsOf (int x) _ (int-still x) (λ m. refl) m)
+      (by streamBytes _ _ (λ _. then-leaves recordsOf (int x) _ (int-still x) (λ n m. refl) m)
+      (by embedderFields _ _ (λ _. then-leaves recordsOf (int x >> int x) _ (next-leaves recordsOf (int x) (int x) (int-still x) (int-still x)) (λ n m. refl) m)
+      (by offHeapTarget _ _ (λ _. next-leaves recordsOf (skipAmount x >> int x) _ (next-leaves recordsOf (skipAmount x) (int x) (amount-still x) (int-still x)) (λ m. refl) m)
+      (by cache _ _ (λ _. then-leaves recordsOf (int x) _ (int-still x) (λ i m. refl) m)
       (by registerPending _ _ (λ _. pending-still m)
-      (by clearedWeak _ _ (λ _. (refl, refl))
-      (by weakPrefix _ _ (λ _. then-still r _ s (held-still 1) m)
+      (by clearedWeak _ _ (λ _. refl)
+      (by weakPrefix _ _ (λ _. then-leaves recordsOf r _ s (held-still 1) m)
       (by pointerPrefix _ _ (λ _. s m)
-      (by dispatchEntry _ _ (λ _. next-still (int x) _ (int-still x) (λ m. (refl, refl)) m)
+      (by dispatchEntry _ _ (λ _. next-leaves recordsOf (int x) _ (int-still x) (λ m. refl) m)
       (by fixedRaw _ _ (λ _. raw-still x _ _ m)
-      (by variableRaw _ _ (λ _. then-still (int x) _ (int-still x) (λ n. raw-still x _ _) m)
-      (by skip _ _ (λ _. then-still (int x) _ (int-still x) (λ n m. (refl, refl)) m)
-      (by fixedRepeat _ _ (λ _. then-still r _ s (held-still (suc (suc a))) m)
+      (by variableRaw _ _ (λ _. then-leaves recordsOf (int x) _ (int-still x) (λ n. raw-still x _ _) m)
+      (by skip _ _ (λ _. then-leaves recordsOf (int x) _ (int-still x) (λ n m. refl) m)
+      (by fixedRepeat _ _ (λ _. then-leaves recordsOf r _ s (held-still (suc (suc a))) m)
       (by fixedRepeatRoot _ _ (λ _. root-still x a m)
-      (by repeatPrevious _ _ (λ _. (refl, refl))
-      (by variableRepeat _ _ (λ _. then-still (int x) _ (int-still x) (λ n. then-still r _ s (held-still (suc (suc (n + 18))))) m)
-      (by variableRepeatPrevious _ _ (λ _. then-still (int x) _ (int-still x) (λ n m. (refl, refl)) m)
-      (by variableRepeatRoot _ _ (λ _. then-still (int x) _ (int-still x) (λ n. root-still x (n + 18)) m)
-      (by metaMap _ _ (λ _. (refl, refl))
-      (refl, refl)))))))))))))))))))))))))))))))))))))
+      (by repeatPrevious _ _ (λ _. refl)
+      (by variableRepeat _ _ (λ _. then-leaves recordsOf (int x) _ (int-still x) (λ n. then-leaves recordsOf r _ s (held-still (suc (suc (n + 18))))) m)
+      (by variableRepeatPrevious _ _ (λ _. then-leaves recordsOf (int x) _ (int-still x) (λ n m. refl) m)
+      (by variableRepeatRoot _ _ (λ _. then-leaves recordsOf (int x) _ (int-still x) (λ n. root-still x (n + 18)) m)
+      (by metaMap _ _ (λ _. refl)
+      refl))))))))))))))))))))))))))))))))))))
     where
       by : (k : ℕ) (f g : Reader SlotValue) → (kind ≡ k → Idle m (f m)) → Idle m (g m) → Idle m (choose (eqb kind k) f g m)
-      by k f g h j = idle-choose (eqb kind k) f g m (λ e. h (eqb-true kind k e)) j
+      by k f g h j = same-choose recordsOf (eqb kind k) f g m (λ e. h (eqb-true kind k e)) j
 
--- what a step that left the slots as they were says of the index
-pub step-indexed : (r : Step) (l : Lent) (m : Mem) (sc : List ℕ) {o : Out SlotValue} → seen r l ≡ o → Idle m o → Indexed (m .slots .rows) (m .slots .count) sc → Single (m .slots .rows) (m .slots .count) (m .waiting) → StepIndexed r (l .slots) sc
-step-indexed (Got v t) l m sc e u i s =
-    let k = subst (Idle m) (sym e) u in (
-      subst (λ (t : Table). Indexed (t .rows) (t .count) sc) (sym (k .0)) i,
-      subst (λ (n : ℕ). Single (l .slots) (t .slots) n) (sym (k .1)) (subst (λ (t : Table). Single (t .rows) (t .count) (m .waiting)) (sym (k .0)) s),
-    )
-step-indexed (StepRefused n q t) l m sc e u i s = tt
+-- so is scratch, after a step that left them
+module _ (size : ℕ) (m : Mem) (sc : List ℕ) (i : Index size (m .slots) (m .addresses) sc) where
+  pub idle-of : (m′ : Mem) → recordsOf m′ ≡ recordsOf m → Index size (m′ .slots) (m′ .addresses) sc
+  idle-of m′ e = subst (λ (r : Records). Index size (r .slots) (r .addresses) sc) (sym e) i
 
--- and a step that the match has found to be a value
-pub step-got : {r : Step} {v : SlotValue} {t : State} (st sc : List ℕ) → r ≡ Got v t → StepIndexed r st sc → Indexed st (t .slots) sc × Single st (t .slots) (t .waiting)
-step-got st sc e h = subst (λ (r : Step). StepIndexed r st sc) e h
+  idle-out : {A : Type 0} (o : Out A) → Idle m o → OutIndex size o sc
+  idle-out (got v m′) e = idle-of m′ e
+  idle-out (no n q m′) e = tt
+
+  pub idle-index : {A : Type 0} {r o : Out A} → r ≡ o → Idle m o → OutIndex size r sc
+  idle-index {r = r} {o} e u = subst (λ (o : Out _). OutIndex size o sc) (sym e) (idle-out o u)
 
 -- ---- how a prefix holds its value, once the match knows its variant
 
@@ -243,10 +228,6 @@ head-object : (x : Input) (r : Reader SlotValue) (tag kind a : ℕ) (m : Mem) �
 unfolding byHead
 head-object x r tag kind a m e = rw e
 
--- one level less is left, as the code counts it and as the definition does
-pub one-less : (d : ℕ) → 65 - (d + 1) ≡ 64 - d
-one-less d = omega arith
-
 module _ {x : Input} {h sc : List ℕ} {m : Mem} (g : Ready x h m sc) (l : m .at < length (x .payload)) (b : ℕ) (e : (b ≡ getD (x .payload) (m .at) 0) × (b < 256)) where
   -- the head byte's kind and argument
   pub ref-head : (d : ℕ) → d ≤ 64 → byHead x (refAt x (64 - d)) (m .at) (getD h b 0) (getD h (256 + b) 0) (moved (m .at + 1) m) ≡ refAt x (65 - d) m
@@ -271,8 +252,8 @@ module _ {x : Input} {h sc : List ℕ} {m : Mem} (g : Ready x h m sc) (l : m .at
     pub head-idle : Idle (moved (m .at + 1) m) (byHead x (refAt x 0) (m .at) (getD h b 0) (getD h (256 + b) 0) (moved (m .at + 1) m))
     head-idle = byHead-still x (refAt x 0) (none-still x) (m .at) _ _ other (moved (m .at + 1) m)
 
-    pub head-indexed : (r : Step) (l′ : Lent) → seen r l′ ≡ byHead x (refAt x 0) (m .at) (getD h b 0) (getD h (256 + b) 0) (moved (m .at + 1) m) → StepIndexed r (l′ .slots) sc
-    head-indexed r l′ q = step-indexed r l′ (moved (m .at + 1) m) sc q head-idle (g .index) (g .single)
+    pub head-indexed : {r : Out SlotValue} → r ≡ byHead x (refAt x 0) (m .at) (getD h b 0) (getD h (256 + b) 0) (moved (m .at + 1) m) → OutIndex (length (x .payload)) r sc
+    head-indexed q = idle-index (length (x .payload)) (moved (m .at + 1) m) sc (moved-ready g l .index) q head-idle
 
     -- an inner reference may start where a prefix has been read: with no levels left it is refused there
     pub inner-ready : (k : ℕ) (m′ : Mem) → ((r : Reader SlotValue) → (r >>= held k) m′ ≡ byHead x r (m .at) (getD h b 0) (getD h (256 + b) 0) (moved (m .at + 1) m)) → Ready x h m′ sc
@@ -280,11 +261,10 @@ module _ {x : Input} {h sc : List ℕ} {m : Mem} (g : Ready x h m sc) (l : m .at
     inner-ready k m′ q =
         let z : no 6 (m′ .at) m′ ≡ byHead x (refAt x 0) (m .at) (getD h b 0) (getD h (256 + b) 0) (moved (m .at + 1) m) = q (refAt x 0) in
         let w : no 6 (m′ .at) m′ ≡ refAt x 1 m = z ∙ ref-head 64 (omega arith) in
-        let u = subst (Idle (moved (m .at + 1) m)) (sym z) head-idle in
         ready-after g (subst (Holds x m (Referred x m)) (sym w) (ref-keeps (g .proper) 1 m (g .sound) (g .counted)))
         (subst (Ordered Free) (sym w) (ref-numbered (g .proper) m (g .sound) (g .counted) (g .numbered) 1))
-        (subst (λ (t : Table). Indexed (t .rows) (t .count) sc) (sym (u .0)) (g .index))
-        (subst (λ (n : ℕ). Single (m′ .slots .rows) (m′ .slots .count) n) (sym (u .1)) (subst (λ (t : Table). Single (t .rows) (t .count) (m .waiting)) (sym (u .0)) (g .single)))
+        (subst (StaysAscending x) (sym w) (ref-ascending (g .proper) m (g .sound) (g .counted) (g .ascending) 1))
+        (idle-of (length (x .payload)) (moved (m .at + 1) m) sc (moved-ready g l .index) m′ (same-no recordsOf z head-idle))
 
 -- ---- kinds are small, by one computed test over the order of heads
 
@@ -306,7 +286,7 @@ first-low v b [] t = omega arith
 first-low v b (r ∷ rs) t =
     picked-low (claims v r b) _ _ (ltb-true (r .kind) 64 (and-left (ltb (r .kind) 64) (kindsLow rs) t)) (first-low v b rs (and-right (ltb (r .kind) 64) (kindsLow rs) t))
 
-head-low : (v : List ℕ) (b : ℕ) → headOf v b .kind < 64
+pub head-low : (v : List ℕ) (b : ℕ) → headOf v b .kind < 64
 unfolding headOf
 head-low v b = first-low v b order order-low
 
@@ -320,6 +300,10 @@ module _ {x : Input} {h sc : List ℕ} {m : Mem} (g : Ready x h m sc) where
   module _ (l : m .at < length (x .payload)) where
     pub simple-fits : (m .addresses .count ≤ room 5 (m .addresses .rows)) × (usable (x .sheet) ≡ true) × (m .skip < 2 ^ 63) × (m .pending < 2 ^ 63)
     simple-fits = (omega (arith, g .sound), g .proper .sheet-usable, omega (arith, g .sound, g .proper), omega (arith, g .sound, g .proper))
+
+  -- legacy addresses may be looked up
+  pub found-by : Linked (m .addresses .rows) (m .addresses .count) (drop (length (x .payload)) sc) × Sorted (m .addresses .rows) (m .addresses .count)
+  found-by = (g .index .linked, ascending-sorted x (m .addresses) (m .alloc) (g .ascending))
 
   pub kind-low : (b : ℕ) → b < 256 → getD h b 0 < 2 ^ 64
   kind-low b l = omega (arith, head-low (x .sheet) b, g .decoded .kind b l)
@@ -358,16 +342,16 @@ module _ (x : Input) (h sc : List ℕ) (s : State) (l : Lent) (g : Ready x h (me
 
     pub ref-simple : (r : Step) (ring : List ℕ) → p ≡ Other
         → ((l₁ : Lent) (inner : Reader SlotValue) → seen r (addressesIs (l .addresses) (hotIs ring l₁)) ≡ byHead x inner (s .at) (getD h b 0) (getD h (256 + b) 0) (mem (next s) (addressesIs (l .addresses) (hotIs (l .hot) l₁))))
-        → (seen r (hotIs ring l′) ≡ refAt x (65 - d) (mem s l)) × StepIndexed r (l .slots) sc
+        → (seen r (hotIs ring l′) ≡ refAt x (65 - d) (mem s l)) × OutIndex (length (x .payload)) (seen r (hotIs ring l′)) sc
     ref-simple r ring q w =
         let w′ : (inner : Reader SlotValue) → seen r (hotIs ring l′) ≡ byHead x inner (s .at) (getD h b 0) (getD h (256 + b) 0) (mem (next s) l) = subst (λ (l₁ : Lent). (inner : Reader SlotValue) → seen r (hotIs ring l′) ≡ byHead x inner (s .at) (getD h b 0) (getD h (256 + b) 0) (mem (next s) l₁)) (is Other q .1) (w l′) in
-        (w′ (refAt x (64 - d)) ∙ ref-head g low b e d deep, head-indexed g low b e other r (hotIs ring l′) (w′ (refAt x 0)))
+        (w′ (refAt x (64 - d)) ∙ ref-head g low b e d deep, head-indexed g low b e other (w′ (refAt x 0)))
 
     pub ref-value : (r : Step) (values : List ℕ) {k i : ℕ} {t : State} → p ≡ Value k i t → ((l₁ : Lent) → seen r (valuesIs values l₁) ≡ held k (IsRef (Root i)) (mem t (valuesIs (l .values) l₁)))
-        → (seen r (valuesIs values l′) ≡ refAt x (65 - d) (mem s l)) × StepIndexed r (l .slots) sc
+        → (seen r (valuesIs values l′) ≡ refAt x (65 - d) (mem s l)) × OutIndex (length (x .payload)) (seen r (valuesIs values l′)) sc
     ref-value r values {k} {i} {t} q w =
         let v = is (Value k i t) q in
-        (w l′ ∙ v (refAt x (64 - d)) ∙ ref-head g low b e d deep, head-indexed g low b e other r (valuesIs values l′) (w l′ ∙ v (refAt x 0)))
+        (w l′ ∙ v (refAt x (64 - d)) ∙ ref-head g low b e d deep, head-indexed g low b e other (w l′ ∙ v (refAt x 0)))
 
     module _ {k : ℕ} {t : State} (q : p ≡ Inner k t) where
       ref-inner : {out : Out SlotValue} → out ≡ andThen (refAt x (65 - (d + 1)) (mem t l′)) (held k) → out ≡ refAt x (65 - d) (mem s l)
@@ -377,7 +361,7 @@ module _ (x : Input) (h sc : List ℕ) (s : State) (l : Lent) (g : Ready x h (me
       ref-inner-no w = ref-inner (then-no (held k) w)
 
       -- what is held is that of the inner reference, or a value record
-      pub ref-inner-got : (r : Step) (values : List ℕ) (l₂ : Lent) (sc′ : List ℕ) {v : SlotValue} {t₂ : State} → got v (mem t₂ l₂) ≡ refAt x (65 - (d + 1)) (mem t l′) → Indexed (l₂ .slots) (t₂ .slots) sc′ × Single (l₂ .slots) (t₂ .slots) (t₂ .waiting)
-          → ((l₁ : Lent) → seen r (valuesIs values l₁) ≡ held k v (mem t₂ (valuesIs (l₂ .values) l₁))) → (seen r (valuesIs values l₂) ≡ refAt x (65 - d) (mem s l)) × StepIndexed r (l₂ .slots) sc′
+      pub ref-inner-got : (r : Step) (values : List ℕ) (l₂ : Lent) (sc′ : List ℕ) {v : SlotValue} {t₂ : State} → got v (mem t₂ l₂) ≡ refAt x (65 - (d + 1)) (mem t l′) → Index (length (x .payload)) (mem t₂ l₂ .slots) (mem t₂ l₂ .addresses) sc′
+          → ((l₁ : Lent) → seen r (valuesIs values l₁) ≡ held k v (mem t₂ (valuesIs (l₂ .values) l₁))) → (seen r (valuesIs values l₂) ≡ refAt x (65 - d) (mem s l)) × OutIndex (length (x .payload)) (seen r (valuesIs values l₂)) sc′
       ref-inner-got r values l₂ sc′ {v} {t₂} w i f =
-          (ref-inner (then-got (held k) w (f l₂)), step-indexed r (valuesIs values l₂) (mem t₂ l₂) sc′ (f l₂) (held-still k v (mem t₂ l₂)) (i .0) (i .1))
+          (ref-inner (then-got (held k) w (f l₂)), idle-index (length (x .payload)) (mem t₂ l₂) sc′ i (f l₂) (held-still k v (mem t₂ l₂)))

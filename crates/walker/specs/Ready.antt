@@ -2,30 +2,42 @@
 -- definitions.
 use mathlib.Core.List.{List}
 use Prim.Native.Nat.{ℕ, _+_, _-_}
-use lib.ListN.{length}
-use Rattle.sheet.specs.Heads.{Heads}
+use lib.ListN.{length, take, drop}
+use Rattle.heads.specs.Heads.{Heads}
 use Rattle.tables.specs.declared.values.SlotValue.{SlotValue}
-use Rattle.definition.specs.Memory.{Input, word, Mem, Reader, _>>=_, _>>_}
+use Rattle.address_index.specs.Links.{Linked}
+use Rattle.definition.specs.Memory.{Input, word, Table, Mem, Out, got, no, Reader, _>>=_, _>>_}
 use Rattle.definition.specs.Slots.{placeItem}
 use Rattle.definition.specs.Object.{readMap, keepMap, resolves, items, closed}
 use Rattle.laws.specs.Sound.{Proper, Sound, Counted}
 use Rattle.laws.specs.Numbered.{Numbered}
+use Rattle.laws.specs.Addresses.{Ascending}
 use Rattle.readers.specs.Views.{Lent}
-use Rattle.readers.specs.Index.{Indexed, Single}
+use Rattle.readers.specs.Index.{Indexed}
 
 abbrev pub lent : List ℕ → List ℕ → List ℕ → List ℕ → List ℕ → List ℕ → List ℕ → Lent
 lent objects slots values addresses hot cur used =
     record { objects = objects; slots = slots; values = values; addresses = addresses; hot = hot; cur = cur; used = used }
 
--- the input is one that the walk takes, the 256 heads are the sheet's, what the reader has is in order, and the index is right
+-- scratch: up to `size` the slots that wait, by their numbers; from there on the index of address records
+pub record Index (size : ℕ) (slots addresses : Table) (scratch : List ℕ) : Type 0 where
+  pub pending : Indexed (slots .rows) (slots .count) (take size scratch)
+  pub linked : Linked (addresses .rows) (addresses .count) (drop size scratch)
+
+-- with a value both are right
+abbrev pub OutIndex : {A : Type 0} → ℕ → Out A → List ℕ → Type 0
+OutIndex size (got v m) scratch = Index size (m .slots) (m .addresses) scratch
+OutIndex size (no n q m) scratch = Unit {0}
+
+-- the input is one that the walk takes, the 256 heads are the sheet's, what the reader has is in order, and so is scratch
 pub record Ready (x : Input) (heads : List ℕ) (m : Mem) (scratch : List ℕ) : Type 0 where
   pub proper : Proper x
   pub decoded : Heads (x .sheet) heads
   pub sound : Sound x m
   pub counted : Counted m
   pub numbered : Numbered m
-  pub index : Indexed (m .slots .rows) (m .slots .count) scratch
-  pub single : Single (m .slots .rows) (m .slots .count) (m .waiting)
+  pub ascending : Ascending x (m .addresses) (m .alloc)
+  pub index : Index (length (x .payload)) (m .slots) (m .addresses) scratch
 
 -- the map of object o with what follows it, and its resolves
 abbrev pub mapped : Input → Reader SlotValue → ℕ → ℕ → ℕ → Reader (Unit {0})

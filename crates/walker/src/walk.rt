@@ -2,6 +2,9 @@
 // Lent to each: the sheet v, its 256 heads h, the trusted list tr, the payload p, the tables of objects, slots, values and addresses ot, st,
 // vt, dt, the hot ring hr, the chunk counters c and u (chunk, next free offset) of k spaces, and the
 // scratch sc.
+use leaves::leaf::leaf_at;
+use leaves::leaf::place_leaf;
+use leaves::leaf::take_leaf;
 use readers::head::open_object;
 use readers::item::place_item;
 use readers::map::after_map;
@@ -16,21 +19,20 @@ use readers::state::State;
 use readers::state::Step;
 use readers::state::Went;
 use sheet::names::K_DEFERRED;
+use sheet::numbers::word_bytes;
 use sheet::tests::is_tag;
-use sheet::usable::word_bytes;
 use stream::bytes::byte;
 use stream::bytes::peek;
 use tables::values::Ref;
 use tables::values::SlotValue;
 ghost use mathlib.Core.Path.{_≡_};
-ghost use Prim.Native.Nat.{_+_, _-_, _*_, _^_, _<_, _≤_};
+ghost use Prim.Native.Nat.{_+_, _-_, _*_, _%_, _^_, _<_, _≤_};
 ghost use lib.ListN.{length};
-ghost use Rattle.tables.specs.Records.{room};
+ghost use Rattle.sheet.specs.Sheet.{wordBytes};
 ghost use Rattle.definition.specs.Object.{object};
 ghost use Rattle.definition.specs.Reference.{refAt};
 ghost use Rattle.readers.specs.Views.{input, mem, seen, seenCount, seenWent};
-ghost use Rattle.readers.specs.Index.{StepIndexed, CountIndexed, WentIndexed};
-ghost use Rattle.walker.specs.Ready.{lent, Ready, mapped, slotIn, filledFrom};
+ghost use Rattle.walker.specs.Ready.{lent, OutIndex, Ready, mapped, slotIn, filledFrom};
 
 // A reference at depth d.
 pub fn parse_ref(
@@ -53,7 +55,7 @@ pub fn parse_ref(
     requires { ⌜ Ready (input (now v) (now p) k (now tr)) (now h) (mem s (lent (now ot) (now st) (now vt) (now dt) (now hr) (now c) (now u))) (now sc) ⌝ }
     requires { ⌜ d ≤ 65 ⌝ }
     ensures { λ r. ⌜ seen r (lent (now (ot .exit)) (now (st .exit)) (now (vt .exit)) (now (dt .exit)) (now (hr .exit)) (now (c .exit)) (now (u .exit))) ≡ refAt (input (now (v .entry)) (now (p .entry)) k (now (tr .entry))) (65 - d) (mem s (lent (now (ot .entry)) (now (st .entry)) (now (vt .entry)) (now (dt .entry)) (now (hr .entry)) (now (c .entry)) (now (u .entry)))) ⌝ }
-    ensures index { λ r. ⌜ StepIndexed r (now (st .exit)) (now (sc .exit)) ⌝ }
+    ensures index { λ r. ⌜ OutIndex (length (now (p .entry))) (seen r (lent (now (ot .exit)) (now (st .exit)) (now (vt .exit)) (now (dt .exit)) (now (hr .exit)) (now (c .exit)) (now (u .exit)))) (now (sc .exit)) ⌝ }
 {
     let at = s.at;
     if 64 < d {
@@ -72,17 +74,51 @@ pub fn parse_ref(
         return parse_object(v, h, tr, p, ot, st, vt, dt, hr, c, u, sc, k, t, d, at, a);
     }
     match begin(p, c, u, k, t, kind, a) {
-        Prefix::Other => simple_ref(v, p, dt, hr, t, at, kind, a),
+        Prefix::Other => simple_ref(v, p, dt, sc, hr, t, at, kind, a),
         Prefix::Refused(n, q, y) => Step::Refused(n, q, y),
         Prefix::Value(held, i, y) => hold(vt, y, held, SlotValue::Ref(Ref::Root(i))),
         Prefix::Inner(held, y) => {
-            let inner = parse_ref(v, h, tr, p, ot, st, vt, dt, hr, c, u, sc, k, y, d + 1);
+            let inner = parse_inner(v, h, tr, p, ot, st, vt, dt, hr, c, u, sc, k, y, d);
             match inner {
                 Step::Refused(n, q, w) => Step::Refused(n, q, w),
                 Step::Got(x, w) => hold(vt, w, held, x),
             }
         }
     }
+}
+
+// A reference below one at depth d. The commonest need no call of the cycle; what a reference at the last level would be is left to it.
+fn parse_inner(
+    v: &[u16],
+    h: &[u16; 512],
+    tr: &[u8],
+    p: &[u8],
+    ot: &mut [u64],
+    st: &mut [u64],
+    vt: &mut [u64],
+    dt: &mut [u64],
+    hr: &mut [u64; 25],
+    c: &mut [u32; 256],
+    u: &mut [u32; 256],
+    sc: &mut [u64],
+    k: u64,
+    s: State,
+    d: usize,
+) -> Step
+    requires { ⌜ Ready (input (now v) (now p) k (now tr)) (now h) (mem s (lent (now ot) (now st) (now vt) (now dt) (now hr) (now c) (now u))) (now sc) ⌝ }
+    requires { ⌜ d ≤ 64 ⌝ }
+    ensures { λ r. ⌜ seen r (lent (now (ot .exit)) (now (st .exit)) (now (vt .exit)) (now (dt .exit)) (now (hr .exit)) (now (c .exit)) (now (u .exit))) ≡ refAt (input (now (v .entry)) (now (p .entry)) k (now (tr .entry))) (65 - (d + 1)) (mem s (lent (now (ot .entry)) (now (st .entry)) (now (vt .entry)) (now (dt .entry)) (now (hr .entry)) (now (c .entry)) (now (u .entry)))) ⌝ }
+    ensures index { λ r. ⌜ OutIndex (length (now (p .entry))) (seen r (lent (now (ot .exit)) (now (st .exit)) (now (vt .exit)) (now (dt .exit)) (now (hr .exit)) (now (c .exit)) (now (u .exit)))) (now (sc .exit)) ⌝ }
+{
+    let word = word_bytes(v);
+    let at = s.at;
+    if d < 64 {
+        let leaf = leaf_at(h, p, hr, at, s.objects, word);
+        if leaf.kind != 0 {
+            return take_leaf(hr, s, leaf);
+        }
+    }
+    parse_ref(v, h, tr, p, ot, st, vt, dt, hr, c, u, sc, k, s, d + 1)
 }
 
 // An object at depth d in space a, whose head stands at `at`; the cursor stands after it.
@@ -108,7 +144,7 @@ pub fn parse_object(
     requires { ⌜ Ready (input (now v) (now p) k (now tr)) (now h) (mem s (lent (now ot) (now st) (now vt) (now dt) (now hr) (now c) (now u))) (now sc) ⌝ }
     requires { ⌜ (d ≤ 64) × (a < 256) ⌝ }
     ensures { λ r. ⌜ seen r (lent (now (ot .exit)) (now (st .exit)) (now (vt .exit)) (now (dt .exit)) (now (hr .exit)) (now (c .exit)) (now (u .exit))) ≡ object (input (now (v .entry)) (now (p .entry)) k (now (tr .entry))) (refAt (input (now (v .entry)) (now (p .entry)) k (now (tr .entry))) (64 - d)) a at (mem s (lent (now (ot .entry)) (now (st .entry)) (now (vt .entry)) (now (dt .entry)) (now (hr .entry)) (now (c .entry)) (now (u .entry)))) ⌝ }
-    ensures index { λ r. ⌜ StepIndexed r (now (st .exit)) (now (sc .exit)) ⌝ }
+    ensures index { λ r. ⌜ OutIndex (length (now (p .entry))) (seen r (lent (now (ot .exit)) (now (st .exit)) (now (vt .exit)) (now (dt .exit)) (now (hr .exit)) (now (c .exit)) (now (u .exit)))) (now (sc .exit)) ⌝ }
 {
     let o = s.objects;
     match open_object(v, p, ot, s, at, a) {
@@ -165,14 +201,14 @@ fn parse_map(
     o: usize,
 ) -> Went
     requires { ⌜ Ready (input (now v) (now p) k (now tr)) (now h) (mem s (lent (now ot) (now st) (now vt) (now dt) (now hr) (now c) (now u))) (now sc) ⌝ }
-    requires { ⌜ (d ≤ 64) × (a < 256) × (n < 2 ^ 33) × (o < s .objects) ⌝ }
+    requires { ⌜ (d ≤ 64) × (a < 256) × (n < 2 ^ 33) × (o < s .objects) × (n % wordBytes (now v) ≡ 0) ⌝ }
     ensures { λ r. ⌜ seenWent r (lent (now (ot .exit)) (now (st .exit)) (now (vt .exit)) (now (dt .exit)) (now (hr .exit)) (now (c .exit)) (now (u .exit))) ≡ mapped (input (now (v .entry)) (now (p .entry)) k (now (tr .entry))) (refAt (input (now (v .entry)) (now (p .entry)) k (now (tr .entry))) (64 - d)) a n o (mem s (lent (now (ot .entry)) (now (st .entry)) (now (vt .entry)) (now (dt .entry)) (now (hr .entry)) (now (c .entry)) (now (u .entry)))) ⌝ }
-    ensures index { λ r. ⌜ WentIndexed r (now (st .exit)) (now (sc .exit)) ⌝ }
+    ensures index { λ r. ⌜ OutIndex (length (now (p .entry))) (seenWent r (lent (now (ot .exit)) (now (st .exit)) (now (vt .exit)) (now (dt .exit)) (now (hr .exit)) (now (c .exit)) (now (u .exit)))) (now (sc .exit)) ⌝ }
 {
     let before = s.alignment;
-    match parse_ref(v, h, tr, p, ot, st, vt, dt, hr, c, u, sc, k, s, d + 1) {
+    match parse_inner(v, h, tr, p, ot, st, vt, dt, hr, c, u, sc, k, s, d) {
         Step::Refused(m, q, t) => Went::Refused(m, q, t),
-        Step::Got(x, t) => match after_map(v, p, dt, c, u, k, t, before, a, n, o as u64) {
+        Step::Got(x, t) => match after_map(v, p, dt, sc, c, u, k, t, before, a, n, o as u64) {
             Went::Refused(m, q, y) => Went::Refused(m, q, y),
             Went::On(y) => match keep_map(tr, ot, st, y, o, x) {
                 Went::Refused(m, q, w) => Went::Refused(m, q, w),
@@ -206,7 +242,7 @@ fn parse_items(
     requires { ⌜ Ready (input (now v) (now p) k (now tr)) (now h) (mem s (lent (now ot) (now st) (now vt) (now dt) (now hr) (now c) (now u))) (now sc) ⌝ }
     requires { ⌜ (d ≤ 64) × (n < 2 ^ 33) × (o < s .objects) × (0 < s .slots) ⌝ }
     ensures { λ r. ⌜ seen r (lent (now (ot .exit)) (now (st .exit)) (now (vt .exit)) (now (dt .exit)) (now (hr .exit)) (now (c .exit)) (now (u .exit))) ≡ filledFrom (input (now (v .entry)) (now (p .entry)) k (now (tr .entry))) (refAt (input (now (v .entry)) (now (p .entry)) k (now (tr .entry))) (64 - d)) o at n (mem s (lent (now (ot .entry)) (now (st .entry)) (now (vt .entry)) (now (dt .entry)) (now (hr .entry)) (now (c .entry)) (now (u .entry)))) ⌝ }
-    ensures index { λ r. ⌜ StepIndexed r (now (st .exit)) (now (sc .exit)) ⌝ }
+    ensures index { λ r. ⌜ OutIndex (length (now (p .entry))) (seen r (lent (now (ot .exit)) (now (st .exit)) (now (vt .exit)) (now (dt .exit)) (now (hr .exit)) (now (c .exit)) (now (u .exit)))) (now (sc .exit)) ⌝ }
 {
     let word = word_bytes(v);
     let mut done = word;
@@ -236,7 +272,8 @@ fn parse_items(
     }
 }
 
-// An item of object o, `done` bytes of which have been read: the bytes read then.
+// An item of object o, `done` bytes of which have been read: the bytes read then. The commonest items need no call of the cycle; what a
+// reference at the last level would be is left to it.
 fn parse_slot(
     v: &[u16],
     h: &[u16; 512],
@@ -259,10 +296,18 @@ fn parse_slot(
     requires { ⌜ Ready (input (now v) (now p) k (now tr)) (now h) (mem s (lent (now ot) (now st) (now vt) (now dt) (now hr) (now c) (now u))) (now sc) ⌝ }
     requires { ⌜ (d ≤ 64) × (done < 2 ^ 60) × (o < s .objects) × (0 < s .slots) ⌝ }
     ensures { λ r. ⌜ seenCount r (lent (now (ot .exit)) (now (st .exit)) (now (vt .exit)) (now (dt .exit)) (now (hr .exit)) (now (c .exit)) (now (u .exit))) ≡ slotIn (input (now (v .entry)) (now (p .entry)) k (now (tr .entry))) (refAt (input (now (v .entry)) (now (p .entry)) k (now (tr .entry))) (64 - d)) o done (mem s (lent (now (ot .entry)) (now (st .entry)) (now (vt .entry)) (now (dt .entry)) (now (hr .entry)) (now (c .entry)) (now (u .entry)))) ⌝ }
-    ensures index { λ r. ⌜ CountIndexed r (now (st .exit)) (now (sc .exit)) ⌝ }
+    ensures index { λ r. ⌜ OutIndex (length (now (p .entry))) (seenCount r (lent (now (ot .exit)) (now (st .exit)) (now (vt .exit)) (now (dt .exit)) (now (hr .exit)) (now (c .exit)) (now (u .exit)))) (now (sc .exit)) ⌝ }
 {
+    let word = word_bytes(v);
+    let at = s.at;
+    if d < 64 {
+        let leaf = leaf_at(h, p, hr, at, s.objects, word);
+        if leaf.kind != 0 {
+            return place_leaf(ot, st, hr, s, o, done, leaf, word);
+        }
+    }
     match parse_ref(v, h, tr, p, ot, st, vt, dt, hr, c, u, sc, k, s, d + 1) {
         Step::Refused(n, q, t) => Count::Refused(n, q, t),
-        Step::Got(x, t) => place_item(ot, st, vt, sc, t, o, done, x, word_bytes(v)),
+        Step::Got(x, t) => place_item(ot, st, vt, sc, p.len(), t, o, done, x, word),
     }
 }

@@ -46,6 +46,11 @@ pub struct Tables {
 /// Of a byte that is in no table, so that a table that is not cleared is seen.
 const OTHER: u64 = 0xabab_abab_abab_abab;
 
+/// As much scratch as keeps the library from searching: a place for each pending number, in legacy then the index of addresses.
+fn scratch_length(bytes: usize, legacy: bool, addresses: usize) -> usize {
+    bytes + if legacy { 256 + 3 * addresses } else { 0 }
+}
+
 impl Tables {
     /// Tables with room for so many records, which hold other numbers before.
     pub fn with_room(rooms: [usize; 4], scratch: usize) -> Tables {
@@ -54,9 +59,20 @@ impl Tables {
     }
 
     /// As many records as an accepted payload of this length can have, deferred entries left out.
-    pub fn enough(bytes: usize, legacy: bool, scratch: usize) -> Tables {
+    pub fn enough(bytes: usize, legacy: bool) -> Tables {
         let addresses = if legacy { bytes / 2 + 2 } else { 0 };
+        let scratch = scratch_length(bytes, legacy, addresses);
         Tables::with_room([bytes / 2 + 2, bytes + 2, bytes + 2, addresses], scratch)
+    }
+
+    /// No more than the payload needs, by the counts of the outcome.
+    pub fn shrink(&mut self, bytes: usize, legacy: bool, outcome: &Outcome) {
+        for k in 0..4 {
+            self.records[k].truncate(outcome[k] as usize * FIELDS[k]);
+            self.records[k].shrink_to_fit();
+        }
+        self.scratch.truncate(scratch_length(bytes, legacy, outcome[3] as usize));
+        self.scratch.shrink_to_fit();
     }
 }
 

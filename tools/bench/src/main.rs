@@ -8,7 +8,7 @@ mod sheets;
 mod stack;
 mod twin;
 
-use library::{Call, Outcome, Tables, FIELDS};
+use library::{Call, Outcome, Tables};
 use oracle::sheet::Sheet;
 use oracle::Input;
 use rows::ROWS;
@@ -17,10 +17,12 @@ use std::path::PathBuf;
 use std::process::ExitCode;
 use std::time::{Duration, Instant};
 
-const USAGE: &str =
-    "usage: bench [--sizes MB,MB,..] [--repeats N] [--seconds S] [--divide N] [--scratch N] [--variables N]
-             [--only TEXT] [--without rust] [--real FOLDER] [--stack yes]";
+const USAGE: &str = "usage: bench [--sizes MB,MB,..] [--repeats N] [--seconds S] [--variables N]
+             [--only TEXT] [--without rust] [--without scratch] [--real FOLDER] [--stack yes]";
 const MB: f64 = 1048576.0;
+/// At the largest size the time for a byte is at most so many times that at the smallest; and at most so many times the twin's.
+const GROWTH_AIM: f64 = 1.5;
+const TWIN_AIM: f64 = 2.0;
 
 struct Options {
     /// Payload sizes in bytes.
@@ -28,14 +30,11 @@ struct Options {
     repeats: usize,
     /// After this time no further run of the same is begun.
     limit: Duration,
-    /// What the sizes of the rows are divided by where the library searches.
-    divide: usize,
-    /// Numbers of scratch for each payload byte.
-    scratch: f64,
     /// How many environment variables there are.
     variables: usize,
     only: String,
     rust: bool,
+    scratch: bool,
     real: Option<PathBuf>,
     stack: bool,
 }
@@ -45,11 +44,10 @@ fn options() -> Result<Options, String> {
         sizes: [1.0, 4.0, 16.0].map(|n| (n * MB) as usize).to_vec(),
         repeats: 5,
         limit: Duration::from_secs(2),
-        divide: 64,
-        scratch: 1.0,
         variables: 0,
         only: String::new(),
         rust: true,
+        scratch: true,
         real: None,
         stack: false,
     };
@@ -64,11 +62,10 @@ fn options() -> Result<Options, String> {
             }
             "--repeats" => given.repeats = number(&value)? as usize,
             "--seconds" => given.limit = Duration::from_secs_f64(number(&value)?),
-            "--divide" => given.divide = (number(&value)? as usize).max(1),
-            "--scratch" => given.scratch = number(&value)?,
             "--variables" => given.variables = number(&value)? as usize,
             "--only" => given.only = value,
             "--without" if value == "rust" => given.rust = false,
+            "--without" if value == "scratch" => given.scratch = false,
             "--real" => given.real = Some(value.into()),
             "--stack" => given.stack = value == "yes",
             _ => return Err(USAGE.into()),
@@ -87,10 +84,18 @@ fn main() -> ExitCode {
     }
 }
 
-/// How many bytes a payload has, and the library's nanoseconds for each.
+/// Nanoseconds for each byte of a payload.
 struct Timed {
-    bytes: usize,
     library: f64,
+    rust: Option<f64>,
+    twin: Option<f64>,
+}
+
+/// The times of one row at each size, and how many times as fast as the Rust the library should be.
+struct Times {
+    name: String,
+    aim: f64,
+    sizes: Vec<Timed>,
 }
 
 fn run(given: &Options) -> Result<(), String> {
@@ -115,23 +120,20 @@ fn run(given: &Options) -> Result<(), String> {
     println!();
     println!("| payload | bytes | Rust | library | Rust / library | aim | twin | library / twin |");
     println!("|---|---:|---:|---:|---:|---:|---:|---:|");
-    let mut grown: Vec<Growth> = Vec::new();
+    let mut times: Vec<Times> = Vec::new();
     for row in ROWS.iter().filter(|row| wanted(row.name)) {
-        let divide = if row.searched { given.divide } else { 1 };
-        let name = format!("{}{}", row.name, if divide > 1 { " *" } else { "" });
-        let mut timed: Vec<Timed> = Vec::new();
+        let mut sizes: Vec<Timed> = Vec::new();
         for size in &given.sizes {
-            timed.push(measured(given, &name, &row.call(size / divide), row.aim)?);
+            sizes.push(measured(given, row.name, &row.call(*size), row.aim)?);
         }
-        if let [first, .., last] = &timed[..] {
-            grown.push((name, first.bytes, last.bytes, last.library / first.library));
-        }
+        times.push(Times { name: row.name.into(), aim: row.aim, sizes });
     }
-    for (title, call) in &real {
-        measured(given, title, call, real::AIM)?;
+    for (title, call) in real {
+        let sizes = vec![measured(given, &title, &call, real::AIM)?];
+        times.push(Times { name: title, aim: real::AIM, sizes });
     }
     print_notes(given);
-    print_growth(&grown);
+    print_aims(&times);
     if given.stack {
         print_stack();
     }
@@ -139,34 +141,44 @@ fn run(given: &Options) -> Result<(), String> {
 }
 
 fn print_notes(given: &Options) {
-    let timed: Vec<_> = ROWS.iter().filter(|row| row.name.contains(&given.only)).collect();
-    println!();
-    if given.divide > 1 && timed.iter().any(|row| row.searched) {
-        println!("* The library searches its tables here, and its time grows with the square of the size: sizes are");
-        println!("divided by {}.", given.divide);
-    }
-    if timed.iter().any(|row| row.family == Family::Six) {
+    let mut timed = ROWS.iter().filter(|row| row.name.contains(&given.only));
+    if timed.any(|row| row.family == Family::Six) {
+        println!();
         println!(
             "The Rust's time for 6.x repeats grows with the square of a chain's length: chains are short."
         );
     }
 }
 
-/// Name, least and greatest payload length, and the library's time for a byte at the greatest divided by that at the least.
-type Growth = (String, usize, usize, f64);
+/// The worst of each row beside the aims.
+fn print_aims(rows: &[Times]) {
+    println!();
+    println!("The worst size of each row, and growth from the first size to the last; missed aims in bold:");
+    println!();
+    println!("| payload | Rust / library, least | aim | growth | aim | library / twin, most | aim |");
+    println!("|---|---:|---:|---:|---:|---:|---:|");
+    for row in rows {
+        let against_rust = row.sizes.iter().filter_map(|t| t.rust.map(|rust| rust / t.library));
+        let against_twin = row.sizes.iter().filter_map(|t| t.twin.map(|twin| t.library / twin));
+        let growth = match &row.sizes[..] {
+            [first, .., last] => Some(last.library / first.library),
+            _ => None,
+        };
+        println!(
+            "| {} | {} | {} | {} |",
+            row.name,
+            against_aim(against_rust.reduce(f64::min), 2, row.aim, |n| n >= row.aim),
+            against_aim(growth, 2, GROWTH_AIM, |n| n <= GROWTH_AIM),
+            against_aim(against_twin.reduce(f64::max), 1, TWIN_AIM, |n| n <= TWIN_AIM),
+        );
+    }
+}
 
-fn print_growth(rows: &[Growth]) {
-    if rows.is_empty() {
-        return;
-    }
-    println!();
-    println!("The library's time for a byte, largest payload against smallest:");
-    println!();
-    println!("| payload | bytes | bytes | growth |");
-    println!("|---|---:|---:|---:|");
-    for (name, first, last, growth) in rows {
-        println!("| {name} | {first} | {last} | {growth:.2} |");
-    }
+/// A number with so many decimals, and its aim.
+fn against_aim(number: Option<f64>, decimals: usize, aim: f64, met: impl Fn(f64) -> bool) -> String {
+    let Some(number) = number else { return "– | –".into() };
+    let bold = if met(number) { "" } else { "**" };
+    format!("{bold}{number:.decimals$}{bold} | {aim}")
 }
 
 fn print_stack() {
@@ -209,7 +221,7 @@ fn measured(given: &Options, name: &str, call: &Call, aim: f64) -> Result<Timed,
         number(twin),
         number(twin.map(|twin| library / twin)),
     );
-    Ok(Timed { bytes, library })
+    Ok(Timed { library, rust, twin })
 }
 
 /// The least time of some runs. What a run gives is dropped outside the time.
@@ -231,14 +243,14 @@ fn least<T>(given: &Options, mut work: impl FnMut() -> T) -> Duration {
 /// Tables with exactly the room that a payload needs.
 fn exact(given: &Options, name: &str, call: &Call, legacy: bool) -> Result<Tables, String> {
     let bytes = call.payload.len();
-    let mut tables = Tables::enough(bytes, legacy, (bytes as f64 * given.scratch) as usize);
+    let mut tables = Tables::enough(bytes, legacy);
     let (number, outcome) = library::graph(call, &mut tables);
     if number != 0 {
         return Err(format!("{name}: the library refuses it with {number} at {}", outcome[5]));
     }
-    for k in 0..4 {
-        tables.records[k].truncate(outcome[k] as usize * FIELDS[k]);
-        tables.records[k].shrink_to_fit();
+    tables.shrink(bytes, legacy, &outcome);
+    if !given.scratch {
+        tables.scratch = Vec::new();
     }
     Ok(tables)
 }

@@ -8,8 +8,6 @@ pub struct Row {
     pub family: Family,
     /// How many times as fast as the Rust the library should be.
     pub aim: f64,
-    /// The library searches its tables here, so that its time grows with the square of the size: smaller payloads are made.
-    pub searched: bool,
     /// Items up to a payload of about so many bytes.
     items: fn(usize) -> Items,
 }
@@ -55,28 +53,24 @@ pub const ROWS: [Row; 20] = [
     modern("pending, all open, resolved backwards", 10.0, backwards),
     old("legacy objects of one word", 20.0, one_word),
     old("legacy back-references, only one object", 10.0, only_one),
-    searched("legacy back-references, scattered", 10.0, scattered),
+    old("legacy back-references, scattered", 10.0, scattered),
     old("legacy back-references, to the newest", 10.0, to_newest),
-    searched("legacy back-references, to the oldest", 10.0, to_oldest),
-    searched("legacy back-references, misses", 10.0, misses),
-    searched("legacy back-references by number", 10.0, by_number),
+    old("legacy back-references, to the oldest", 10.0, to_oldest),
+    old("legacy back-references, misses", 10.0, misses),
+    old("legacy back-references by number", 10.0, by_number),
     six("6.x repeats, chains of 4", 10.0, chains),
 ];
 
 const fn modern(name: &'static str, aim: f64, items: fn(usize) -> Items) -> Row {
-    Row { name, family: Family::Modern, aim, searched: false, items }
+    Row { name, family: Family::Modern, aim, items }
 }
 
 const fn old(name: &'static str, aim: f64, items: fn(usize) -> Items) -> Row {
-    Row { name, family: Family::Legacy, aim, searched: false, items }
-}
-
-const fn searched(name: &'static str, aim: f64, items: fn(usize) -> Items) -> Row {
-    Row { name, family: Family::Legacy, aim, searched: true, items }
+    Row { name, family: Family::Legacy, aim, items }
 }
 
 const fn six(name: &'static str, aim: f64, items: fn(usize) -> Items) -> Row {
-    Row { name, family: Family::Six, aim, searched: false, items }
+    Row { name, family: Family::Six, aim, items }
 }
 
 impl Row {

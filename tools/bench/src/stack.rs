@@ -44,7 +44,7 @@ extern "C" fn run(work: *mut c_void) -> *mut c_void {
 /// The bytes of its stack that a thread has used after this work, and the number that the call gave.
 fn used(call: Option<Call>) -> (usize, u64) {
     let call = call.map(|call| {
-        let tables = Tables::enough(call.payload.len(), true, 64);
+        let tables = Tables::enough(call.payload.len(), true);
         (call, tables)
     });
     let mut work = Work { call, number: 0 };

@@ -129,13 +129,21 @@ fn generated(random: &mut Random, sheets: &[sheets::Sheet]) -> (String, Call) {
     if way >= 70 {
         payloads::damage(random, &sheet, &mut payload);
     }
-    let scratch = random.one_of(&[0, 1, 3, 64, 10_000]);
+    let scratch = scratch_length(random, &payload);
     let mut call = Call { sheet: sheet.numbers.to_vec(), payload, reserve, trusted, scratch };
     if random.chance(10) {
         call.sheet = sheets::unusable(random, sheets);
         return ("unusable".into(), call);
     }
     (sheet.family.into(), call)
+}
+
+/// Too little scratch for pending numbers; enough for these, and none, too little or some for the index of legacy addresses; enough for both.
+fn scratch_length(random: &mut Random, payload: &[u8]) -> usize {
+    let bytes = payload.len();
+    let few = random.below(40);
+    let full = Call::full_scratch(payload);
+    random.one_of(&[0, 1, 3, 64, bytes, bytes + 255, bytes + 256, bytes + 256 + 3 * few, full, 100_000])
 }
 
 /// Inputs at the limits of document 01 and one past them, with its answers. The payload, zeros, opens objects until they lie too deep.
@@ -206,7 +214,9 @@ fn compared(capture: &mut rust::Capture, tally: &mut Tally, family: &str, call: 
     let graph = port::graph(call, [0, 1, 2, 3].map(|table| records[table] * FIELDS[table]));
     *tally.outcomes.entry((family.into(), graph.number)).or_default() += 1;
     let odd = graph.left_over();
-    odd.or_else(|| against_rust(capture, tally, call, &graph)).or_else(|| other_rooms(tally, call, &graph))
+    odd.or_else(|| against_rust(capture, tally, call, &graph))
+        .or_else(|| other_scratch(call, &graph))
+        .or_else(|| other_rooms(tally, call, &graph))
 }
 
 fn against_rust(
@@ -293,6 +303,18 @@ fn different(got: &str, wanted: &str) -> Option<String> {
     let mut pairs = got.lines().zip(wanted.lines());
     let (got, wanted) = pairs.find(|(a, b)| a != b).unwrap_or(("one has more lines", "the other fewer"));
     Some(format!("{got}, the Rust has {wanted}"))
+}
+
+/// Without scratch, and with as much as is of use, the graph is the same.
+fn other_scratch(call: &Call, graph: &Graph) -> Option<String> {
+    if graph.number != 0 {
+        return None;
+    }
+    [0, Call::full_scratch(&call.payload)].into_iter().find_map(|scratch| {
+        let other = port::graph(&Call { scratch, ..call.clone() }, graph.lengths());
+        let changed = || (!graph.is_same(&other)).then(|| format!("another graph with {scratch} of scratch"));
+        other.left_over().or_else(changed)
+    })
 }
 
 /// With rooms that are just enough the answer is the same; with one record less in one table it is 3.

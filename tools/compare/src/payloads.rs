@@ -237,7 +237,10 @@ impl<'a> Writer<'a> {
     }
 
     fn address(&mut self, count: usize) -> (usize, usize, usize) {
-        let known: Vec<_> = self.addresses.iter().rev().take(40).filter(|a| a.0 < count).copied().collect();
+        // Mostly one of the newest, but also old ones.
+        let newest = if self.random.chance(300) { self.addresses.len() } else { 40 };
+        let known: Vec<_> =
+            self.addresses.iter().rev().take(newest).filter(|a| a.0 < count).copied().collect();
         if !known.is_empty() && self.random.chance(850) {
             return self.random.one_of(&known);
         }

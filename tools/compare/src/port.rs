@@ -39,6 +39,14 @@ pub struct Call {
     pub scratch: usize,
 }
 
+impl Call {
+    /// Scratch in which nothing has to be searched: a place for each pending number, then the index of legacy addresses.
+    pub fn full_scratch(payload: &[u8]) -> usize {
+        let records = payload.len() / 2 + 2;
+        payload.len() + 256 + 3 * records
+    }
+}
+
 /// What a call gives: number, counts with `end` and place, and the four tables whole.
 pub struct Graph {
     pub number: u64,
@@ -112,6 +120,16 @@ impl Graph {
         let refused = self.number != 0;
         let unused = if refused { &self.outcome[..5] } else { &self.outcome[5..] };
         unused.iter().any(|n| *n != 0).then(|| "an unused number of the outcome is not zero".into())
+    }
+
+    /// Number, outcome and records are the same.
+    pub fn is_same(&self, other: &Graph) -> bool {
+        let lengths = self.lengths();
+        let alike = |table: usize| {
+            let used = ..lengths[table];
+            self.tables[table].get(used) == other.tables[table].get(used)
+        };
+        (self.number, self.outcome) == (other.number, other.outcome) && (0..4).all(alike)
     }
 
     /// In the form of `graphlist`.

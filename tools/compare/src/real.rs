@@ -38,10 +38,10 @@ fn read(family: &str, sheet: &Sheet, folder: &Path) -> Result<Vec<(String, Strin
         let reserve = fs::read(file.with_extension("reserve")).unwrap_or_default();
         let call = Call {
             sheet: sheet.numbers().to_vec(),
+            scratch: Call::full_scratch(&payload),
             payload,
             reserve: reservations(&reserve)?,
             trusted: Vec::new(),
-            scratch: 8192,
         };
         found.push((family.to_string(), plain_name(&file, ".payload"), call));
     }

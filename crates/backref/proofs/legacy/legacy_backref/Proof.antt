@@ -20,7 +20,7 @@ plain-backref-requires c κs = search needs
 -- what was found, where the two wire forms meet
 found-is : (c : tie.Joined1)
     → c .if1 .found
-    ≡ backrefOf (c .before .before .before .before .before .args .sheet .now) (c .before .before .before .before .before .args .p .now) (c .before .before .before .before .before .args .table .now) (c .before .before .before .before .before .args .n) (c .before .before .before .before .before .args .alignment) (c .before .before .before .before .before .args .space) (c .before .before .before .before .before .args .at)
+    ≡ backrefOf (c .before .before .before .before .before .before .args .sheet .now) (c .before .before .before .before .before .before .args .p .now) (c .before .before .before .before .before .before .args .table .now) (c .before .before .before .before .before .before .args .n) (c .before .before .before .before .before .before .args .alignment) (c .before .before .before .before .before .before .args .space) (c .before .before .before .before .before .before .args .at)
 found-is c =
     ⊎-elim
     (λ w. form-is _ _ _ _ _ _ _ true (c .before .six-x .ensures) (w .0 .taken) (w .2 ∙ w .1 .ensures))

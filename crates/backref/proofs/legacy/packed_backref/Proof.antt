@@ -23,7 +23,7 @@ numbered-as-requires : tie.Need-numbered-as-requires
 numbered-as-requires c κs = search needs
 
 unpack-requires : tie.Need-unpack-requires
-unpack-requires c κs = (c .before .before .before .before .before .before .before .before .before .before .pre .1, index-small (c .before .before .before .before .before .before .before .before .before .before .args .sheet .now) _ (c .before .before .index-of .ensures))
+unpack-requires c κs = (c .before .before .before .before .before .before .before .before .before .before .before .pre .0 .1, index-small (c .before .before .before .before .before .before .before .before .before .before .before .args .sheet .now) _ (c .before .before .index-of .ensures))
 
 add-by-place : tie.Need-add-by-place
 add-by-place c = omega (arith, int-end _ _ (c .before .before .before .before .before .before .before .putint .ensures .0) _ (c .before .before .before .before .before .value .given .1))

@@ -43,11 +43,11 @@ enum-told-2 c = search needs
 returns-3 : tie.Need-returns-3
 returns-3 c = plain-cut-second _ _ _ _ _ _ _ (c .before .before .before .before .before .before .before .before .putint .ensures .0) (c .before .before .before .before .before .before .first .given .1) (c .before .before .before .before .numbered-as .ensures) (c .before .before .before .if1 .left) (c .before .before .putint2 .ensures .0) (c .enum-told2 .given .1)
 
-cast-t15 : tie.Need-cast-t15
-cast-t15 c = search needs
+cast-t16 : tie.Need-cast-t16
+cast-t16 c = search needs
 
-cast-t19 : tie.Need-cast-t19
-cast-t19 c = search needs
+cast-t20 : tie.Need-cast-t20
+cast-t20 c = search needs
 
 add-by-place : tie.Need-add-by-place
 add-by-place c = omega (arith, int-end _ _ (c .before .before .before .putint2 .ensures .0) _ (c .before .second .given .1))
@@ -75,8 +75,8 @@ plain-backref-spec =
     enum-known-second
     enum-told-2
     returns-3
-    cast-t15
-    cast-t19
+    cast-t16
+    cast-t20
     add-by-place
     by-place-requires
     returns-4)

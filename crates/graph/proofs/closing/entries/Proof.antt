@@ -7,7 +7,7 @@ use lib.ListN.{length}
 use Rattle.readers.specs.Views.{input, mem}
 use Rattle.readers.proofs.ViewLaws.{went-on, went-no}
 use Rattle.walker.specs.Ready.{lent}
-use Rattle.graph.proofs.ReadyLaws.{went-right}
+use Rattle.walker.proofs.ReadyLaws.{out-index}
 use Rattle.graph.proofs.ClosingLaws.{Loop, loop-start, closing-test, loop-end, loop-cut, loop-synchronize, loop-aligned, in-legacy, loop-fault-ends, loop-fault, loop-reads, loop-turn}
 use Rattle.graph.proofs.closing.entries.Statement.{statement}
 use Rattle.graph.proofs.closing.entries.Tie as tie
@@ -73,7 +73,7 @@ loop-less-2 : tie.Need-loop-less-2 Inv-loop μ-loop
 loop-less-2 c = let a = c .before .before .before .before .before .before .before .before .before .before .before .before .before .before .before .before .before .before .before .before .before .before .before .before .before .before .before .before .before .before .before .before .before .before .before .before .args in let w = c .before .before .before .before .before .before .before .before .before .before .before .before .before .before .before .before .before .before .before .before .before .before .before .before .before .before .before .loop in let z = loop-reads _ _ _ _ _ _ (w .inv .0) (c .before .before .before .before .before .before .before .before .before .before .before .before .before .before .before .before .before .before .before .before .before .before .before .before .before .if1 .taken) (c .before .before .before .before .before .before .before .before .before .before .before .before .before .before .before .before .before .before .before .before .before .before .before .closing-entry .result) (closing-test (a .v .now) (a .p .now) (w .t .at) (c .before .before .before .before .before .before .before .before .before .before .before .before .before .before .before .before .before .before .before .before .before .before .before .before .peek .ensures) (c .before .before .before .before .before .before .before .before .before .before .before .before .before .before .before .before .before .before .before .before .before .before .before .closing-entry .ensures) refl) (c .before .before .before .before .before .before .before .before .before .before .before .before .before .before .before .before .before .before .before .before .before .before .match .keys3) (went-on _ (c .before .y .given .1) (c .before .before .before .before .before .before .before .before .before .before .before .before .before .one-entry .ensures .0)) in omega (arith, z)
 
 loop-again-2 : tie.Need-loop-again-2 Inv-loop μ-loop
-loop-again-2 c = let a = c .before .before .before .before .before .before .before .before .before .before .before .before .before .before .before .before .before .before .before .before .before .before .before .before .before .before .before .before .before .before .before .before .before .before .before .before .args in let w = c .before .before .before .before .before .before .before .before .before .before .before .before .before .before .before .before .before .before .before .before .before .before .before .before .before .before .before .loop in (loop-turn _ _ _ _ _ _ (w .inv .0) (c .before .before .before .before .before .before .before .before .before .before .before .before .before .before .before .before .before .before .before .before .before .before .before .before .before .if1 .taken) (c .before .before .before .before .before .before .before .before .before .before .before .before .before .before .before .before .before .before .before .before .before .before .before .closing-entry .result) (closing-test (a .v .now) (a .p .now) (w .t .at) (c .before .before .before .before .before .before .before .before .before .before .before .before .before .before .before .before .before .before .before .before .before .before .before .before .peek .ensures) (c .before .before .before .before .before .before .before .before .before .before .before .before .before .before .before .before .before .before .before .before .before .before .before .closing-entry .ensures) refl) (c .before .before .before .before .before .before .before .before .before .before .before .before .before .before .before .before .before .before .before .before .before .before .match .keys3) (went-on _ (c .before .y .given .1) (c .before .before .before .before .before .before .before .before .before .before .before .before .before .one-entry .ensures .0)) (went-right _ _ (c .before .y .given .1) (c .before .before .before .before .before .before .before .before .before .before .before .before .before .one-entry .ensures .1)), c .before .before .before .before .before .before .before .before .before .before .before .before .before .one-entry .kept .1 .1 .1 .1 .1 .1 .1 .1 .1 .1 .1 .0 ∙ c .before .before .before .before .before .before .before .before .before .before .before .before .before .before .before .before .before .before .before .before .before .before .before .before .before .before .before .loop .inv .1)
+loop-again-2 c = let a = c .before .before .before .before .before .before .before .before .before .before .before .before .before .before .before .before .before .before .before .before .before .before .before .before .before .before .before .before .before .before .before .before .before .before .before .before .args in let w = c .before .before .before .before .before .before .before .before .before .before .before .before .before .before .before .before .before .before .before .before .before .before .before .before .before .before .before .loop in (loop-turn _ _ _ _ _ _ (w .inv .0) (c .before .before .before .before .before .before .before .before .before .before .before .before .before .before .before .before .before .before .before .before .before .before .before .before .before .if1 .taken) (c .before .before .before .before .before .before .before .before .before .before .before .before .before .before .before .before .before .before .before .before .before .before .before .closing-entry .result) (closing-test (a .v .now) (a .p .now) (w .t .at) (c .before .before .before .before .before .before .before .before .before .before .before .before .before .before .before .before .before .before .before .before .before .before .before .before .peek .ensures) (c .before .before .before .before .before .before .before .before .before .before .before .before .before .before .before .before .before .before .before .before .before .before .before .closing-entry .ensures) refl) (c .before .before .before .before .before .before .before .before .before .before .before .before .before .before .before .before .before .before .before .before .before .before .match .keys3) (went-on _ (c .before .y .given .1) (c .before .before .before .before .before .before .before .before .before .before .before .before .before .one-entry .ensures .0)) (out-index _ (went-on (lent _ _ _ _ _ _ _) (c .before .y .given .1) refl) (c .before .before .before .before .before .before .before .before .before .before .before .before .before .one-entry .ensures .1)), c .before .before .before .before .before .before .before .before .before .before .before .before .before .one-entry .kept .1 .1 .1 .1 .1 .1 .1 .1 .1 .1 .1 .0 ∙ c .before .before .before .before .before .before .before .before .before .before .before .before .before .before .before .before .before .before .before .before .before .before .before .before .before .before .before .loop .inv .1)
 
 enum-known-n : tie.Need-enum-known-n Inv-loop μ-loop
 enum-known-n c = search needs

@@ -3,7 +3,7 @@ use mathlib.Core.Path.{refl, sym, _∙_}
 use Rattle.readers.specs.Views.{input, mem}
 use Rattle.readers.proofs.ViewLaws.{seen-got, seen-no}
 use Rattle.walker.specs.Ready.{lent}
-use Rattle.walker.proofs.ReferenceLaws.{step-got}
+use Rattle.walker.proofs.ReadyLaws.{out-index}
 use Rattle.graph.proofs.ClosingLaws.{one-deferred, one-no, one-dropped}
 use borrow.Author.Needs.{needs}
 use Rattle.graph.proofs.closing.one_entry.Statement.{statement}
@@ -76,7 +76,7 @@ same-length-15 : tie.Need-same-length-15
 same-length-15 c = search needs
 
 returns-3 : tie.Need-returns-3
-returns-3 c = let a = c .before .before .before .before .before .before .before .before .before .before .before .before .before .before .before .before .before .before .before .before .before .before .before .before .before .before .before .before .before .before .before .args in (one-dropped (input (a .v .now) (a .p .now) (a .k) (a .tr .now)) (a .e) (c .before .before .before .before .before .before .before .before .before .before .before .before .before .before .before .before .before .before .before .before .before .before .match .keys2) (mem (a .s) (lent (a .ot .now) (a .st .now) (a .vt .now) (a .dt .now) (a .hr .now) (a .c .now) (a .u .now))) _ _ (seen-got _ (c .before .t .given .1) (c .before .before .before .before .before .before .before .before .before .before .before .before .before .parse-ref .ensures .0)), step-got _ _ (c .before .t .given .1) (c .before .before .before .before .before .before .before .before .before .before .before .before .before .parse-ref .ensures .1))
+returns-3 c = let a = c .before .before .before .before .before .before .before .before .before .before .before .before .before .before .before .before .before .before .before .before .before .before .before .before .before .before .before .before .before .before .before .args in (one-dropped (input (a .v .now) (a .p .now) (a .k) (a .tr .now)) (a .e) (c .before .before .before .before .before .before .before .before .before .before .before .before .before .before .before .before .before .before .before .before .before .before .match .keys2) (mem (a .s) (lent (a .ot .now) (a .st .now) (a .vt .now) (a .dt .now) (a .hr .now) (a .c .now) (a .u .now))) _ _ (seen-got _ (c .before .t .given .1) (c .before .before .before .before .before .before .before .before .before .before .before .before .before .parse-ref .ensures .0)), out-index _ (seen-got (lent _ _ _ _ _ _ _) (c .before .t .given .1) refl) (c .before .before .before .before .before .before .before .before .before .before .before .before .before .parse-ref .ensures .1))
 
 pub one-entry-spec : {M : Type 1} → statement M
 one-entry-spec =

@@ -31,7 +31,7 @@ same-length-2 : tie.Need-same-length-2 Inv-loop μ-loop
 same-length-2 c = c .before .before .before .before .before .before .before .push-slot .kept .1 .0 ∙ c .before .before .before .before .before .before .before .before .before .before .before .loop .inv .slots-length
 
 returns : tie.Need-returns Inv-loop μ-loop
-returns c = (adding-full _ _ _ _ _ _ _ _ _ _ _ (c .before .before .before .before .before .before .before .before .before .before .before .loop .inv) (c .before .before .before .before .before .before .before .before .before .before .loop-test .taken) _ _ _ (c .before .before .before .before .before .before .before .push-slot .ensures) (c .before .m .given .1), λ sc i q. tt)
+returns c = (adding-full _ _ _ _ _ _ _ _ _ _ _ (c .before .before .before .before .before .before .before .before .before .before .before .loop .inv) (c .before .before .before .before .before .before .before .before .before .before .loop-test .taken) _ _ _ (c .before .before .before .before .before .before .before .push-slot .ensures) (c .before .m .given .1), λ sc i. tt)
 
 enum-known-y : tie.Need-enum-known-y Inv-loop μ-loop
 enum-known-y c = search needs

@@ -3,14 +3,13 @@ use native.Mathlib.Omega.{arith}
 use mathlib.Core.Path.{refl, sym, _∙_}
 use mathlib.Core.Path.{_≡_}
 use Prim.Native.Nat.{_-_}
-use lib.ListN.{length}
+use lib.ListN.{length, take}
 use Rattle.readers.specs.Views.{input, mem}
 use Rattle.readers.proofs.ViewLaws.{seen-got, seen-no, went-on, went-no}
 use Rattle.laws.specs.Keeps.{word-low}
 use Rattle.walker.specs.Ready.{lent}
-use Rattle.walker.proofs.ItemsLaws.{step-indexed}
-use Rattle.graph.proofs.ReadyLaws.{went-right}
-use Rattle.graph.proofs.EntryLaws.{Loop, loop-start, loop-end, loop-no, slots-ask, width-low, loop-full, loop-reads, loop-turn, word-fits, item-is, count-low}
+use Rattle.walker.proofs.ReadyLaws.{out-index}
+use Rattle.graph.proofs.EntryLaws.{Loop, loop-start, loop-end, loop-no, slots-ask, width-low, loop-full, loop-reads, loop-turn, word-fits, went-pending, item-is, count-low}
 use Rattle.graph.proofs.entry.entry_items.Statement.{statement}
 use Rattle.graph.proofs.entry.entry_items.Tie as tie
 
@@ -90,7 +89,7 @@ enum-known-w : tie.Need-enum-known-w Inv-loop μ-loop
 enum-known-w c = search needs
 
 add-index : tie.Need-add-index Inv-loop μ-loop
-add-index c = let w = c .before .before .before .before .before .before .before .before .before .before .before .before .before .before .before .before .before .before .before .before .before .before .before .before .before .before .before .before .before .before .before .before .before .before .before .before .loop in let y = c .before .before .before .before .before .before .before .before .before .before .before .before .before .before .before .before .before .before .before .before .before .before .before .before .before .before .before .before .before .before .before .before .before .before .before .before .before .before .before .before .before .before .before .before .before .before .before .before .pre .1 .0 in let r = c .before .before .before .before .before .before .before .before .before .before .before .before .before .before .before .before .before .before .before .before .before .before .before .before .before .before .parse-ref in let g = c .before .before .before .before .before .before .before .before .before .before .before .before .before .before .x .given in let e = seen-got _ (g .1) (r .ensures .0) in let a = c .before .before .before .before .before .before .before .before .before .before .before .before .before .before .before .before .before .before .before .before .before .before .before .before .before .before .before .before .before .before .before .before .before .before .before .before .before .before .before .before .before .before .before .before .before .before .before .before .args in let x = input (a .v .now) (a .p .now) (a .k) (a .tr .now) in let l = (lent (r .last .1 .1 .1 .1 .0) (r .last .1 .1 .1 .1 .1 .0) (r .last .1 .1 .1 .1 .1 .1 .0) (r .last .1 .1 .1 .1 .1 .1 .1 .0) (r .last .1 .1 .1 .1 .1 .1 .1 .1 .0) (r .last .1 .1 .1 .1 .1 .1 .1 .1 .1 .0) (r .last .1 .1 .1 .1 .1 .1 .1 .1 .1 .1 .0)) in let n = c .before .before .before .before .before .before .before .before .before .before .before .before .entry-slots .ensures x (sym (c .before .before .before .before .before .before .before .before .before .before .before .before .before .before .before .before .before .before .before .before .before .before .before .before .before .before .before .before .before .before .before .before .before .before .before .before .before .before .before .word-bytes .ensures .0)) in let f = item-is x (a .o) (w .index) (g .0 .0) (mem (g .0 .1 .0) l) (c .before .before .before .before .before .before .before .before .entry-fields .ensures (g .0 .1 .0 .values)) n (went-on _ (c .before .w .given .1) (c .before .before .before .before .before .before .before .add-slots .ensures .0 l)) in let i = step-indexed _ _ (g .1) (r .ensures .1) in let j = went-right _ _ (c .before .w .given .1) (c .before .before .before .before .before .before .before .add-slots .ensures .1 _ (i .index) (i .single)) in let z = loop-turn _ _ y _ _ _ _ _ (w .inv .0) (c .before .before .before .before .before .before .before .before .before .before .before .before .before .before .before .before .before .before .before .before .before .before .before .before .before .before .before .before .before .before .before .before .before .before .before .loop-test .taken) e i f j in omega (arith, n, z .place, z .ready .sound .slots-fit, z .onward .slots-size, c .before .before .before .before .before .before .before .before .before .before .before .before .before .before .before .before .before .before .before .before .before .before .before .before .before .before .before .before .before .before .before .before .before .before .before .before .before .before .before .before .before .before .before .before .before .before .before .before .good .1 .1 .1 .1 .1 .0 .0)
+add-index c = let w = c .before .before .before .before .before .before .before .before .before .before .before .before .before .before .before .before .before .before .before .before .before .before .before .before .before .before .before .before .before .before .before .before .before .before .before .before .loop in let y = c .before .before .before .before .before .before .before .before .before .before .before .before .before .before .before .before .before .before .before .before .before .before .before .before .before .before .before .before .before .before .before .before .before .before .before .before .before .before .before .before .before .before .before .before .before .before .before .before .pre .1 .0 in let r = c .before .before .before .before .before .before .before .before .before .before .before .before .before .before .before .before .before .before .before .before .before .before .before .before .before .before .parse-ref in let g = c .before .before .before .before .before .before .before .before .before .before .before .before .before .before .x .given in let e = seen-got _ (g .1) (r .ensures .0) in let a = c .before .before .before .before .before .before .before .before .before .before .before .before .before .before .before .before .before .before .before .before .before .before .before .before .before .before .before .before .before .before .before .before .before .before .before .before .before .before .before .before .before .before .before .before .before .before .before .before .args in let x = input (a .v .now) (a .p .now) (a .k) (a .tr .now) in let l = (lent (r .last .1 .1 .1 .1 .0) (r .last .1 .1 .1 .1 .1 .0) (r .last .1 .1 .1 .1 .1 .1 .0) (r .last .1 .1 .1 .1 .1 .1 .1 .0) (r .last .1 .1 .1 .1 .1 .1 .1 .1 .0) (r .last .1 .1 .1 .1 .1 .1 .1 .1 .1 .0) (r .last .1 .1 .1 .1 .1 .1 .1 .1 .1 .1 .0)) in let n = c .before .before .before .before .before .before .before .before .before .before .before .before .entry-slots .ensures x (sym (c .before .before .before .before .before .before .before .before .before .before .before .before .before .before .before .before .before .before .before .before .before .before .before .before .before .before .before .before .before .before .before .before .before .before .before .before .before .before .before .word-bytes .ensures .0)) in let f = item-is x (a .o) (w .index) (g .0 .0) (mem (g .0 .1 .0) l) (c .before .before .before .before .before .before .before .before .entry-fields .ensures (g .0 .1 .0 .values)) n (went-on _ (c .before .w .given .1) (c .before .before .before .before .before .before .before .add-slots .ensures .0 l)) in let i = out-index _ (seen-got l (g .1) refl) (r .ensures .1) in let j = went-pending _ _ (c .before .w .given .1) (c .before .before .before .before .before .before .before .add-slots .ensures .1 (take (length (a .p .now)) (r .last .1 .1 .1 .1 .1 .1 .1 .1 .1 .1 .1 .0)) (i .pending)) in let z = loop-turn _ _ y _ _ _ _ _ (w .inv .0) (c .before .before .before .before .before .before .before .before .before .before .before .before .before .before .before .before .before .before .before .before .before .before .before .before .before .before .before .before .before .before .before .before .before .before .before .loop-test .taken) e i f j in omega (arith, n, z .place, z .ready .sound .slots-fit, z .onward .slots-size, c .before .before .before .before .before .before .before .before .before .before .before .before .before .before .before .before .before .before .before .before .before .before .before .before .before .before .before .before .before .before .before .before .before .before .before .before .before .before .before .before .before .before .before .before .before .before .before .before .good .1 .1 .1 .1 .1 .0 .0)
 
 entry-count-requires : tie.Need-entry-count-requires Inv-loop μ-loop
 entry-count-requires c κs = word-fits (c .before .before .before .before .before .before .before .before .before .before .before .before .before .before .before .before .before .before .before .before .before .before .before .before .before .before .before .before .before .before .before .before .before .before .before .before .loop .inv .0 .ready) _ (c .before .before .before .before .before .before .before .before .before .before .before .before .before .before .before .before .before .before .before .before .before .before .before .before .before .before .before .before .before .before .before .before .before .before .before .before .before .before .before .word-bytes .ensures .0)
@@ -99,10 +98,10 @@ add-done : tie.Need-add-done Inv-loop μ-loop
 add-done c = let w = c .before .before .before .before .before .before .before .before .before .before .before .before .before .before .before .before .before .before .before .before .before .before .before .before .before .before .before .before .before .before .before .before .before .before .before .before .before .loop in let y = c .before .before .before .before .before .before .before .before .before .before .before .before .before .before .before .before .before .before .before .before .before .before .before .before .before .before .before .before .before .before .before .before .before .before .before .before .before .before .before .before .before .before .before .before .before .before .before .before .before .pre .1 .0 in let r = c .before .before .before .before .before .before .before .before .before .before .before .before .before .before .before .before .before .before .before .before .before .before .before .before .before .before .before .parse-ref in let g = c .before .before .before .before .before .before .before .before .before .before .before .before .before .before .before .x .given in let e = seen-got _ (g .1) (r .ensures .0) in let a = c .before .before .before .before .before .before .before .before .before .before .before .before .before .before .before .before .before .before .before .before .before .before .before .before .before .before .before .before .before .before .before .before .before .before .before .before .before .before .before .before .before .before .before .before .before .before .before .before .before .args in let x = input (a .v .now) (a .p .now) (a .k) (a .tr .now) in let l = (lent (r .last .1 .1 .1 .1 .0) (r .last .1 .1 .1 .1 .1 .0) (r .last .1 .1 .1 .1 .1 .1 .0) (r .last .1 .1 .1 .1 .1 .1 .1 .0) (r .last .1 .1 .1 .1 .1 .1 .1 .1 .0) (r .last .1 .1 .1 .1 .1 .1 .1 .1 .1 .0) (r .last .1 .1 .1 .1 .1 .1 .1 .1 .1 .1 .0)) in let n = c .before .before .before .before .before .before .before .before .before .before .before .before .before .entry-slots .ensures x (sym (c .before .before .before .before .before .before .before .before .before .before .before .before .before .before .before .before .before .before .before .before .before .before .before .before .before .before .before .before .before .before .before .before .before .before .before .before .before .before .before .before .word-bytes .ensures .0)) in let k = c .entry-count .ensures x (sym (c .before .before .before .before .before .before .before .before .before .before .before .before .before .before .before .before .before .before .before .before .before .before .before .before .before .before .before .before .before .before .before .before .before .before .before .before .before .before .before .before .word-bytes .ensures .0)) in let b = count-low x (g .0 .0) (word-low (w .inv .0 .ready .proper)) (width-low _ _ y _ _ _ _ _ (w .inv .0) (c .before .before .before .before .before .before .before .before .before .before .before .before .before .before .before .before .before .before .before .before .before .before .before .before .before .before .before .before .before .before .before .before .before .before .before .before .loop-test .taken) e) in omega (arith, k, b, c .before .before .before .before .before .before .before .before .before .before .before .before .before .before .before .before .before .before .before .before .before .before .before .before .before .before .before .before .before .before .before .before .before .before .before .before .loop-test .taken, c .before .before .before .before .before .before .before .before .before .before .before .before .before .before .before .before .before .before .before .before .before .before .before .before .before .before .before .before .before .before .before .before .before .before .before .before .before .before .before .before .before .before .before .before .before .before .before .before .before .pre .1 .1)
 
 loop-less : tie.Need-loop-less Inv-loop μ-loop
-loop-less c = let w = c .before .before .before .before .before .before .before .before .before .before .before .before .before .before .before .before .before .before .before .before .before .before .before .before .before .before .before .before .before .before .before .before .before .before .before .before .before .loop in let y = c .before .before .before .before .before .before .before .before .before .before .before .before .before .before .before .before .before .before .before .before .before .before .before .before .before .before .before .before .before .before .before .before .before .before .before .before .before .before .before .before .before .before .before .before .before .before .before .before .before .pre .1 .0 in let r = c .before .before .before .before .before .before .before .before .before .before .before .before .before .before .before .before .before .before .before .before .before .before .before .before .before .before .before .parse-ref in let g = c .before .before .before .before .before .before .before .before .before .before .before .before .before .before .before .x .given in let e = seen-got _ (g .1) (r .ensures .0) in let a = c .before .before .before .before .before .before .before .before .before .before .before .before .before .before .before .before .before .before .before .before .before .before .before .before .before .before .before .before .before .before .before .before .before .before .before .before .before .before .before .before .before .before .before .before .before .before .before .before .before .args in let x = input (a .v .now) (a .p .now) (a .k) (a .tr .now) in let l = (lent (r .last .1 .1 .1 .1 .0) (r .last .1 .1 .1 .1 .1 .0) (r .last .1 .1 .1 .1 .1 .1 .0) (r .last .1 .1 .1 .1 .1 .1 .1 .0) (r .last .1 .1 .1 .1 .1 .1 .1 .1 .0) (r .last .1 .1 .1 .1 .1 .1 .1 .1 .1 .0) (r .last .1 .1 .1 .1 .1 .1 .1 .1 .1 .1 .0)) in let n = c .before .before .before .before .before .before .before .before .before .before .before .before .before .entry-slots .ensures x (sym (c .before .before .before .before .before .before .before .before .before .before .before .before .before .before .before .before .before .before .before .before .before .before .before .before .before .before .before .before .before .before .before .before .before .before .before .before .before .before .before .before .word-bytes .ensures .0)) in let f = item-is x (a .o) (w .index) (g .0 .0) (mem (g .0 .1 .0) l) (c .before .before .before .before .before .before .before .before .before .entry-fields .ensures (g .0 .1 .0 .values)) n (went-on _ (c .before .before .w .given .1) (c .before .before .before .before .before .before .before .before .add-slots .ensures .0 l)) in let i = step-indexed _ _ (g .1) (r .ensures .1) in let j = went-right _ _ (c .before .before .w .given .1) (c .before .before .before .before .before .before .before .before .add-slots .ensures .1 _ (i .index) (i .single)) in let z = loop-turn _ _ y _ _ _ _ _ (w .inv .0) (c .before .before .before .before .before .before .before .before .before .before .before .before .before .before .before .before .before .before .before .before .before .before .before .before .before .before .before .before .before .before .before .before .before .before .before .before .loop-test .taken) e i f j in omega (arith, loop-reads _ _ y _ _ _ _ _ (w .inv .0) (c .before .before .before .before .before .before .before .before .before .before .before .before .before .before .before .before .before .before .before .before .before .before .before .before .before .before .before .before .before .before .before .before .before .before .before .before .loop-test .taken) e i f, z .ready .sound .within)
+loop-less c = let w = c .before .before .before .before .before .before .before .before .before .before .before .before .before .before .before .before .before .before .before .before .before .before .before .before .before .before .before .before .before .before .before .before .before .before .before .before .before .loop in let y = c .before .before .before .before .before .before .before .before .before .before .before .before .before .before .before .before .before .before .before .before .before .before .before .before .before .before .before .before .before .before .before .before .before .before .before .before .before .before .before .before .before .before .before .before .before .before .before .before .before .pre .1 .0 in let r = c .before .before .before .before .before .before .before .before .before .before .before .before .before .before .before .before .before .before .before .before .before .before .before .before .before .before .before .parse-ref in let g = c .before .before .before .before .before .before .before .before .before .before .before .before .before .before .before .x .given in let e = seen-got _ (g .1) (r .ensures .0) in let a = c .before .before .before .before .before .before .before .before .before .before .before .before .before .before .before .before .before .before .before .before .before .before .before .before .before .before .before .before .before .before .before .before .before .before .before .before .before .before .before .before .before .before .before .before .before .before .before .before .before .args in let x = input (a .v .now) (a .p .now) (a .k) (a .tr .now) in let l = (lent (r .last .1 .1 .1 .1 .0) (r .last .1 .1 .1 .1 .1 .0) (r .last .1 .1 .1 .1 .1 .1 .0) (r .last .1 .1 .1 .1 .1 .1 .1 .0) (r .last .1 .1 .1 .1 .1 .1 .1 .1 .0) (r .last .1 .1 .1 .1 .1 .1 .1 .1 .1 .0) (r .last .1 .1 .1 .1 .1 .1 .1 .1 .1 .1 .0)) in let n = c .before .before .before .before .before .before .before .before .before .before .before .before .before .entry-slots .ensures x (sym (c .before .before .before .before .before .before .before .before .before .before .before .before .before .before .before .before .before .before .before .before .before .before .before .before .before .before .before .before .before .before .before .before .before .before .before .before .before .before .before .before .word-bytes .ensures .0)) in let f = item-is x (a .o) (w .index) (g .0 .0) (mem (g .0 .1 .0) l) (c .before .before .before .before .before .before .before .before .before .entry-fields .ensures (g .0 .1 .0 .values)) n (went-on _ (c .before .before .w .given .1) (c .before .before .before .before .before .before .before .before .add-slots .ensures .0 l)) in let i = out-index _ (seen-got l (g .1) refl) (r .ensures .1) in let j = went-pending _ _ (c .before .before .w .given .1) (c .before .before .before .before .before .before .before .before .add-slots .ensures .1 (take (length (a .p .now)) (r .last .1 .1 .1 .1 .1 .1 .1 .1 .1 .1 .1 .0)) (i .pending)) in let z = loop-turn _ _ y _ _ _ _ _ (w .inv .0) (c .before .before .before .before .before .before .before .before .before .before .before .before .before .before .before .before .before .before .before .before .before .before .before .before .before .before .before .before .before .before .before .before .before .before .before .before .loop-test .taken) e i f j in omega (arith, loop-reads _ _ y _ _ _ _ _ (w .inv .0) (c .before .before .before .before .before .before .before .before .before .before .before .before .before .before .before .before .before .before .before .before .before .before .before .before .before .before .before .before .before .before .before .before .before .before .before .before .loop-test .taken) e i f, z .ready .sound .within)
 
 loop-again : tie.Need-loop-again Inv-loop μ-loop
-loop-again c = let w = c .before .before .before .before .before .before .before .before .before .before .before .before .before .before .before .before .before .before .before .before .before .before .before .before .before .before .before .before .before .before .before .before .before .before .before .before .before .loop in let y = c .before .before .before .before .before .before .before .before .before .before .before .before .before .before .before .before .before .before .before .before .before .before .before .before .before .before .before .before .before .before .before .before .before .before .before .before .before .before .before .before .before .before .before .before .before .before .before .before .before .pre .1 .0 in let r = c .before .before .before .before .before .before .before .before .before .before .before .before .before .before .before .before .before .before .before .before .before .before .before .before .before .before .before .parse-ref in let g = c .before .before .before .before .before .before .before .before .before .before .before .before .before .before .before .x .given in let e = seen-got _ (g .1) (r .ensures .0) in let a = c .before .before .before .before .before .before .before .before .before .before .before .before .before .before .before .before .before .before .before .before .before .before .before .before .before .before .before .before .before .before .before .before .before .before .before .before .before .before .before .before .before .before .before .before .before .before .before .before .before .args in let x = input (a .v .now) (a .p .now) (a .k) (a .tr .now) in let l = (lent (r .last .1 .1 .1 .1 .0) (r .last .1 .1 .1 .1 .1 .0) (r .last .1 .1 .1 .1 .1 .1 .0) (r .last .1 .1 .1 .1 .1 .1 .1 .0) (r .last .1 .1 .1 .1 .1 .1 .1 .1 .0) (r .last .1 .1 .1 .1 .1 .1 .1 .1 .1 .0) (r .last .1 .1 .1 .1 .1 .1 .1 .1 .1 .1 .0)) in let n = c .before .before .before .before .before .before .before .before .before .before .before .before .before .entry-slots .ensures x (sym (c .before .before .before .before .before .before .before .before .before .before .before .before .before .before .before .before .before .before .before .before .before .before .before .before .before .before .before .before .before .before .before .before .before .before .before .before .before .before .before .before .word-bytes .ensures .0)) in let f = item-is x (a .o) (w .index) (g .0 .0) (mem (g .0 .1 .0) l) (c .before .before .before .before .before .before .before .before .before .entry-fields .ensures (g .0 .1 .0 .values)) n (went-on _ (c .before .before .w .given .1) (c .before .before .before .before .before .before .before .before .add-slots .ensures .0 l)) in let i = step-indexed _ _ (g .1) (r .ensures .1) in let j = went-right _ _ (c .before .before .w .given .1) (c .before .before .before .before .before .before .before .before .add-slots .ensures .1 _ (i .index) (i .single)) in let z = loop-turn _ _ y _ _ _ _ _ (w .inv .0) (c .before .before .before .before .before .before .before .before .before .before .before .before .before .before .before .before .before .before .before .before .before .before .before .before .before .before .before .before .before .before .before .before .before .before .before .before .loop-test .taken) e i f j in let k = c .entry-count .ensures x (sym (c .before .before .before .before .before .before .before .before .before .before .before .before .before .before .before .before .before .before .before .before .before .before .before .before .before .before .before .before .before .before .before .before .before .before .before .before .before .before .before .before .word-bytes .ensures .0)) in (rw (n, k) z, c .before .before .before .before .before .before .before .before .before .before .before .before .before .before .before .before .before .before .before .before .before .before .before .before .before .before .before .parse-ref .kept .1 .1 .1 .1 .1 .1 .1 .1 .1 .1 .1 .0 ∙ c .before .before .before .before .before .before .before .before .before .before .before .before .before .before .before .before .before .before .before .before .before .before .before .before .before .before .before .before .before .before .before .before .before .before .before .before .before .loop .inv .1)
+loop-again c = let w = c .before .before .before .before .before .before .before .before .before .before .before .before .before .before .before .before .before .before .before .before .before .before .before .before .before .before .before .before .before .before .before .before .before .before .before .before .before .loop in let y = c .before .before .before .before .before .before .before .before .before .before .before .before .before .before .before .before .before .before .before .before .before .before .before .before .before .before .before .before .before .before .before .before .before .before .before .before .before .before .before .before .before .before .before .before .before .before .before .before .before .pre .1 .0 in let r = c .before .before .before .before .before .before .before .before .before .before .before .before .before .before .before .before .before .before .before .before .before .before .before .before .before .before .before .parse-ref in let g = c .before .before .before .before .before .before .before .before .before .before .before .before .before .before .before .x .given in let e = seen-got _ (g .1) (r .ensures .0) in let a = c .before .before .before .before .before .before .before .before .before .before .before .before .before .before .before .before .before .before .before .before .before .before .before .before .before .before .before .before .before .before .before .before .before .before .before .before .before .before .before .before .before .before .before .before .before .before .before .before .before .args in let x = input (a .v .now) (a .p .now) (a .k) (a .tr .now) in let l = (lent (r .last .1 .1 .1 .1 .0) (r .last .1 .1 .1 .1 .1 .0) (r .last .1 .1 .1 .1 .1 .1 .0) (r .last .1 .1 .1 .1 .1 .1 .1 .0) (r .last .1 .1 .1 .1 .1 .1 .1 .1 .0) (r .last .1 .1 .1 .1 .1 .1 .1 .1 .1 .0) (r .last .1 .1 .1 .1 .1 .1 .1 .1 .1 .1 .0)) in let n = c .before .before .before .before .before .before .before .before .before .before .before .before .before .entry-slots .ensures x (sym (c .before .before .before .before .before .before .before .before .before .before .before .before .before .before .before .before .before .before .before .before .before .before .before .before .before .before .before .before .before .before .before .before .before .before .before .before .before .before .before .before .word-bytes .ensures .0)) in let f = item-is x (a .o) (w .index) (g .0 .0) (mem (g .0 .1 .0) l) (c .before .before .before .before .before .before .before .before .before .entry-fields .ensures (g .0 .1 .0 .values)) n (went-on _ (c .before .before .w .given .1) (c .before .before .before .before .before .before .before .before .add-slots .ensures .0 l)) in let i = out-index _ (seen-got l (g .1) refl) (r .ensures .1) in let j = went-pending _ _ (c .before .before .w .given .1) (c .before .before .before .before .before .before .before .before .add-slots .ensures .1 (take (length (a .p .now)) (r .last .1 .1 .1 .1 .1 .1 .1 .1 .1 .1 .1 .0)) (i .pending)) in let z = loop-turn _ _ y _ _ _ _ _ (w .inv .0) (c .before .before .before .before .before .before .before .before .before .before .before .before .before .before .before .before .before .before .before .before .before .before .before .before .before .before .before .before .before .before .before .before .before .before .before .before .loop-test .taken) e i f j in let k = c .entry-count .ensures x (sym (c .before .before .before .before .before .before .before .before .before .before .before .before .before .before .before .before .before .before .before .before .before .before .before .before .before .before .before .before .before .before .before .before .before .before .before .before .before .before .before .before .word-bytes .ensures .0)) in (rw (n, k) z, c .before .before .before .before .before .before .before .before .before .before .before .before .before .before .before .before .before .before .before .before .before .before .before .before .before .before .before .parse-ref .kept .1 .1 .1 .1 .1 .1 .1 .1 .1 .1 .1 .0 ∙ c .before .before .before .before .before .before .before .before .before .before .before .before .before .before .before .before .before .before .before .before .before .before .before .before .before .before .before .before .before .before .before .before .before .before .before .before .before .loop .inv .1)
 
 same-length-11 : tie.Need-same-length-11 Inv-loop μ-loop
 same-length-11 c = c .before .loop .inv .0 .onward .objects-size
@@ -120,7 +119,7 @@ same-length-15 : tie.Need-same-length-15 Inv-loop μ-loop
 same-length-15 c = c .before .loop .inv .1
 
 returns-3 : tie.Need-returns-3 Inv-loop μ-loop
-returns-3 c = let w = c .before .loop in let y = c .before .before .before .before .before .before .before .before .before .before .before .before .before .pre .1 .0 in (loop-end _ _ y _ _ _ _ _ (w .inv .0) (c .loop-test .left), (w .inv .0 .ready .index, w .inv .0 .ready .single))
+returns-3 c = let w = c .before .loop in let y = c .before .before .before .before .before .before .before .before .before .before .before .before .before .pre .1 .0 in (loop-end _ _ y _ _ _ _ _ (w .inv .0) (c .loop-test .left), w .inv .0 .ready .index)
 
 pub entry-items-spec : {M : Type 1} → statement M
 entry-items-spec =

@@ -22,7 +22,7 @@ enum-known-t : tie.Need-enum-known-t
 enum-known-t c = search needs
 
 legacy-ref-requires : tie.Need-legacy-ref-requires
-legacy-ref-requires c κs = let a = c .before .before .before .before .before .before .before .before .args in let e = byte-addresses (input (a .v .now) (a .p .now) 0 (a .p .now)) (mem (a .s) nothing) (count-is nothing (c .before .before .t .given .1) (c .before .before .before .before .read-byte .ensures .0 (a .v .now) (a .p .now) 0 nothing)) in (rw (addresses-count e) (c .before .before .before .before .before .before .before .before .pre .0), c .before .before .before .before .before .before .before .before .pre .1)
+legacy-ref-requires c κs = let a = c .before .before .before .before .before .before .before .before .before .args in let e = byte-addresses (input (a .v .now) (a .p .now) 0 (a .p .now)) (mem (a .s) nothing) (count-is nothing (c .before .before .t .given .1) (c .before .before .before .before .read-byte .ensures .0 (a .v .now) (a .p .now) 0 nothing)) in let n = addresses-count e in ((rw n (c .before .before .before .before .before .before .before .before .before .pre .0 .0), c .before .before .before .before .before .before .before .before .before .pre .0 .1), rw n (c .before .before .before .before .before .before .before .before .before .pre .1))
 
 enum-known-n-2 : tie.Need-enum-known-n-2
 enum-known-n-2 c = search needs

@@ -1,7 +1,8 @@
 use borrow.Author.Needs.{needs}
-use mathlib.Core.Path.{sym, _∙_}
+use mathlib.Core.Path.{refl, sym, _∙_}
 use native.Mathlib.Omega.{arith}
 use Prim.Native.Nat.{_+_, _/_}
+use lib.ListN.{take}
 use Rattle.readers.proofs.ItemLaws.{tag-waits, keep-no, keep-is, kept-room, kept-plain, kept-waits}
 use Rattle.readers.proofs.item.keep_item.Statement.{statement}
 use Rattle.readers.proofs.item.keep_item.Tie as tie
@@ -60,7 +61,7 @@ returns c =
     let p = c .before .before .before .before .before .before .before .push-slot in
     let pushed = rw (c .before .before .before .before .before .before .before .before .fields-of .ensures) at (p .ensures) in
     let w = c .before .before .before .before .before .before .before .before .before .before .before .waits-of in
-    (keep-no (a .s) (a .o) (a .done) (a .word) (a .v) (w .result) (a .objects .now) (a .slots .now) (p .last .0) (p .last .1 .0) pushed (w .ensures .0) (c .before .n .given .1), tt)
+    (keep-no (a .s) (a .o) (a .done) (a .word) (a .v) (w .result) (a .objects .now) (a .slots .now) (p .last .0) (p .last .1 .0) pushed (w .ensures .0) (c .before .n .given .1), (tt, refl))
 
 same-length-3 : tie.Need-same-length-3
 same-length-3 c = search needs
@@ -80,7 +81,7 @@ returns-2 c =
     let k = c .before .before .before .before .before .before .before .before .k .given .1 in
     let w = c .before .before .before .before .before .before .before .before .before .before .before .before .before .before .before .before .before .before .waits-of in (
       keep-is (a .s) (a .o) (a .done) (a .word) (a .v) (w .result) (a .objects .now) (a .slots .now) (p .last .0) (p .last .1 .0) pushed (w .ensures .0) k (c .before .before .before .before .before .before .before .before .before .before .before .before .before .before .before .before .before .before .before .width .ensures),
-      kept-waits (a .s) (a .o) ((a .done + a .s .skip) / a .word) (a .v) (w .result) (a .objects .now) (a .slots .now) (p .last .0) (p .last .1 .0) pushed k (a .scratch .now) (q .0) (q .1) (c .before .before .before .before .before .v .given .1) (w .ensures .0) (q .2) (c .before .before .note .ensures),
+      (kept-waits (a .s) (a .o) ((a .done + a .s .skip) / a .word) (a .v) (w .result) (a .objects .now) (a .slots .now) (p .last .0) (p .last .1 .0) pushed k (take (a .size) (a .scratch .now)) q (c .before .before .before .before .before .v .given .1) (w .ensures .0) (c .before .before .note .ensures .0), c .before .before .note .ensures .1),
     )
 
 same-length-6 : tie.Need-same-length-6
@@ -98,7 +99,7 @@ returns-3 c =
     let k = c .before .before .k .given .1 in
     let w = c .before .before .before .before .before .before .before .before .before .before .before .before .waits-of in (
       keep-is (a .s) (a .o) (a .done) (a .word) (a .v) (w .result) (a .objects .now) (a .slots .now) (p .last .0) (p .last .1 .0) pushed (w .ensures .0) k (c .before .before .before .before .before .before .before .before .before .before .before .before .before .width .ensures),
-      kept-plain (a .s) (a .o) ((a .done + a .s .skip) / a .word) (a .v) (w .result) (a .objects .now) (a .slots .now) (p .last .0) (p .last .1 .0) pushed k (a .scratch .now) (q .0) (q .1) (w .ensures .0 ∙ sym (tag-waits (a .v) (c .match2 .keys2))),
+      (kept-plain (a .s) (a .o) ((a .done + a .s .skip) / a .word) (a .v) (w .result) (a .objects .now) (a .slots .now) (p .last .0) (p .last .1 .0) pushed k (take (a .size) (a .scratch .now)) q (w .ensures .0 ∙ sym (tag-waits (a .v) (c .match2 .keys2))), refl),
     )
 
 pub keep-item-spec : {M : Type 1} → statement M

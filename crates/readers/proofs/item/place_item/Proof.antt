@@ -1,5 +1,7 @@
 use borrow.Author.Needs.{needs}
 use native.Mathlib.Omega.{arith}
+use mathlib.Core.Path.{refl}
+use lib.ListN.{take}
 use Rattle.readers.specs.Views.{mem, objectsIs, slotsIs, valuesIs}
 use Rattle.readers.proofs.ViewLaws.{count-is, count-no}
 use Rattle.readers.proofs.ItemLaws.{place-skip, place-stream, place-no, place-previous, place-keep, previous-asks, skip-fits}
@@ -9,11 +11,11 @@ use Rattle.readers.proofs.item.place_item.Tie as tie
 enum-known-v : tie.Need-enum-known-v
 enum-known-v c = search needs
 
-cast-t19 : tie.Need-cast-t19
-cast-t19 c = search needs
+cast-t20 : tie.Need-cast-t20
+cast-t20 c = search needs
 
-add-t20 : tie.Need-add-t20
-add-t20 c = let a = c .before .before .before .before .before .before .before .args in let h = skip-fits (a .done) (a .s .skip) (a .word) (c .before .v .given .1) (c .before .before .before .before .before .before .before .pre .0 .5) in omega (arith, h)
+add-t21 : tie.Need-add-t21
+add-t21 c = let a = c .before .before .before .before .before .before .before .args in let h = skip-fits (a .done) (a .s .skip) (a .word) (c .before .v .given .1) (c .before .before .before .before .before .before .before .pre .0 .5) in omega (arith, h)
 
 enum-told : tie.Need-enum-told
 enum-told c = search needs
@@ -35,8 +37,8 @@ keep-item-requires c κs =
     let a = c .before .before .before .before .before .before .before .before .before .before .before .before .before .before .before .before .before .before .args in
     let q = c .before .before .before .before .before .before .before .before .before .before .before .before .before .before .before .before .before .before .pre in
     let p = c .before .before .before .before .before .before .before .before .keep-previous in
-    let r = previous-asks (a .s) (a .slots .now) (a .values .now) (p .last .1 .0) (p .ensures) (c .before .before .before .before .k .given .1) (a .scratch .now) (q .1 .1 .0) (q .1 .1 .1) (q .0 .2) (a .done) (a .word) (c .before .before .before .before .before .before .before .before .before .before .before .before .v2 .given .1) (q .0 .5) in
-    ((q .0 .0, q .0 .1, r .0, q .0 .3, q .0 .4, r .1), (r .2, r .3, tt))
+    let r = previous-asks (a .s) (a .slots .now) (a .values .now) (p .last .1 .0) (p .ensures) (c .before .before .before .before .k .given .1) (take (a .size) (a .scratch .now)) (q .1 .1) (q .0 .2) (a .done) (a .word) (c .before .before .before .before .before .before .before .before .before .before .before .before .v2 .given .1) (q .0 .5) in
+    ((q .0 .0, q .0 .1, r .0, q .0 .3, q .0 .4, r .1), r .2)
 
 keep-item-requires-2 : tie.Need-keep-item-requires-2
 keep-item-requires-2 c κs = search needs
@@ -45,13 +47,13 @@ returns : tie.Need-returns
 returns c =
     let a = c .before .before .before .before .before .before .before .args in
     let q = c .before .before .before .before .before .before .before .pre .1 .1 in
-    (λ x l e. place-skip x (a .o) (a .done) (a .s) (objectsIs (a .objects .now) (slotsIs (a .slots .now) (valuesIs (a .values .now) l))) (c .before .v .given .1), (q .0, q .1))
+    (λ x l e. place-skip x (a .o) (a .done) (a .s) (objectsIs (a .objects .now) (slotsIs (a .slots .now) (valuesIs (a .values .now) l))) (c .before .v .given .1), (q, refl))
 
 returns-2 : tie.Need-returns-2
 returns-2 c =
     let a = c .before .before .before .before .before .before .args in
     let q = c .before .before .before .before .before .before .pre .1 .1 in
-    (λ x l e. place-stream x (a .o) (a .done) (a .s) (objectsIs (a .objects .now) (slotsIs (a .slots .now) (valuesIs (a .values .now) l))) (c .enum-told .given .1), (q .0, q .1))
+    (λ x l e. place-stream x (a .o) (a .done) (a .s) (objectsIs (a .objects .now) (slotsIs (a .slots .now) (valuesIs (a .values .now) l))) (c .enum-told .given .1), (q, refl))
 
 same-length : tie.Need-same-length
 same-length c = search needs
@@ -64,7 +66,7 @@ returns-3 c =
     let a = c .before .before .before .before .before .before .before .before .before .before .before .before .before .before .before .args in
     let p = c .before .before .before .before .before .keep-previous in (
       λ x l e. place-no x (a .o) (a .done) (c .before .before .before .before .before .before .before .before .before .v2 .given .1) (mem (a .s) (objectsIs (a .objects .now) (slotsIs (a .slots .now) (valuesIs (a .values .now) l)))) (count-no (objectsIs (a .objects .now) (slotsIs (a .slots .now) (valuesIs (p .last .1 .0) l))) (c .before .m .given .1) (p .ensures (objectsIs (a .objects .now) l))),
-      tt,
+      (tt, refl),
     )
 
 same-length-3 : tie.Need-same-length-3
@@ -108,8 +110,8 @@ place-item-spec =
     tie.close
     (tie.spec
     enum-known-v
-    cast-t19
-    add-t20
+    cast-t20
+    add-t21
     enum-told
     enum-known-v-2
     keep-previous-requires

@@ -22,7 +22,7 @@ is-tag-requires : tie.Need-is-tag-requires Inv-loop μ-loop
 is-tag-requires c κs = tt
 
 returns : tie.Need-returns Inv-loop μ-loop
-returns c = changes-none _ _ _ _ _ _ _ (c .before .before .before .loop .inv) (c .before .before .peek .ensures) (c .before .is-tag .ensures) (not-true _ (c .if1 .taken))
+returns c = (changes-none _ _ _ _ _ _ _ (c .before .before .before .loop .inv) (c .before .before .peek .ensures) (c .before .is-tag .ensures) (not-true _ (c .if1 .taken)), c .before .before .before .loop .inv .records)
 
 add-peek : tie.Need-add-peek Inv-loop μ-loop
 add-peek c = omega (arith, c .before .before .before .loop .inv .within, c .before .before .before .before .before .before .pre .3)
@@ -31,7 +31,7 @@ peek-requires-2 : tie.Need-peek-requires-2 Inv-loop μ-loop
 peek-requires-2 c κs = tt
 
 returns-2 : tie.Need-returns-2 Inv-loop μ-loop
-returns-2 c = changes-else _ _ _ _ _ _ _ (c .before .before .before .before .before .loop .inv) (c .before .before .before .before .peek .ensures) (c .before .before .before .is-tag .ensures) (not-false _ (c .before .before .if1 .left)) (c .before .peek2 .ensures) (c .if2 .taken)
+returns-2 c = (changes-else _ _ _ _ _ _ _ (c .before .before .before .before .before .loop .inv) (c .before .before .before .before .peek .ensures) (c .before .before .before .is-tag .ensures) (not-false _ (c .before .before .if1 .left)) (c .before .peek2 .ensures) (c .if2 .taken), c .before .before .before .before .before .loop .inv .records)
 
 change-chunk-requires : tie.Need-change-chunk-requires Inv-loop μ-loop
 change-chunk-requires c κs = (c .before .before .before .before .before .before .before .before .before .before .pre .0, omega (arith, c .before .before .before .before .before .before .before .loop .inv .within, c .before .before .before .before .before .before .before .loop .inv .below, c .before .before .before .before .before .before .before .before .before .before .pre .3))

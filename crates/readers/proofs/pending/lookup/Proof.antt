@@ -1,9 +1,13 @@
 use borrow.Author.Needs.{needs}
-use mathlib.Core.Path.{sym}
+use mathlib.Core.Path.{sym, _∙_}
 use native.Mathlib.Omega.{arith}
-use Rattle.readers.proofs.WaiterLaws.{single-none}
+use Rattle.laws.specs.Waiting.{waiter-high, waiter-none}
+use Rattle.readers.proofs.PartLaws.{in-front}
 use Rattle.readers.proofs.pending.lookup.Statement.{statement}
 use Rattle.readers.proofs.pending.lookup.Tie as tie
+
+returns : tie.Need-returns
+returns c = sym (waiter-high (c .before .before .before .before .pre .2) _ (c .if1 .taken))
 
 mul-result : tie.Need-mul-result
 mul-result c = search needs
@@ -11,19 +15,26 @@ mul-result c = search needs
 shared-slice-read-result : tie.Need-shared-slice-read-result
 shared-slice-read-result c = search needs
 
-returns : tie.Need-returns
-returns c = c .before .before .before .before .pre .1 _ (omega arith)
-
 returns-2 : tie.Need-returns-2
-returns-2 c = sym (single-none _ _ _ (c .before .before .before .before .before .pre .2) (c .if2 .taken) _)
+returns-2 c = let a = c .before .before .before .before .before .before .before .args in let f = in-front (a .size) (a .scratch .now) (a .number) (c .before .before .if2 .taken) (c .before .if3 .taken) in sym (f .1) ∙ c .before .before .before .before .before .before .before .pre .1 _ (f .0)
+
+returns-3 : tie.Need-returns-3
+returns-3 c = sym (waiter-none (c .before .before .before .before .before .before .before .pre .2) (c .if4 .taken) _)
 
 find-waiter-requires : tie.Need-find-waiter-requires
 find-waiter-requires c κs = search needs
 
-returns-3 : tie.Need-returns-3
-returns-3 c = search needs
+returns-4 : tie.Need-returns-4
+returns-4 c = search needs
 
 pub lookup-spec : {M : Type 1} → statement M
 lookup-spec =
     tie.close
-    (tie.spec mul-result shared-slice-read-result returns returns-2 find-waiter-requires returns-3)
+    (tie.spec
+    returns
+    mul-result
+    shared-slice-read-result
+    returns-2
+    returns-3
+    find-waiter-requires
+    returns-4)

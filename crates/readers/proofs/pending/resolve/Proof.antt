@@ -1,4 +1,6 @@
 use borrow.Author.Needs.{needs}
+use mathlib.Core.Path.{refl}
+use lib.ListN.{take}
 use Rattle.readers.proofs.ResolveLaws.{resolve-none, resolve-below, resolve-waits, resolve-fill, resolve-index}
 use Rattle.readers.proofs.pending.resolve.Statement.{statement}
 use Rattle.readers.proofs.pending.resolve.Tie as tie
@@ -16,7 +18,7 @@ same-length-2 : tie.Need-same-length-2
 same-length-2 c = search needs
 
 returns : tie.Need-returns
-returns c = (resolve-none (c .before .before .before .before .before .before .before .args .s) _ _ _ (c .before .before .lookup .ensures) (c .before .if1 .taken) (c .renumber .ensures), (c .before .before .before .before .before .before .before .pre .1, c .before .before .before .before .before .before .before .pre .2))
+returns c = (resolve-none (c .before .before .before .before .before .before .before .args .s) _ _ _ (c .before .before .lookup .ensures) (c .before .if1 .taken) (c .renumber .ensures), (c .before .before .before .before .before .before .before .pre .1, refl))
 
 sub-fill-slot : tie.Need-sub-fill-slot
 sub-fill-slot c = search needs
@@ -44,7 +46,7 @@ same-length-4 c = search needs
 
 returns-2 : tie.Need-returns-2
 returns-2 c =
-    (resolve-fill (c .before .before .before .before .before .before .before .before .before .before .before .before .before .before .before .before .before .args .s) _ _ _ (c .before .before .before .before .before .before .before .before .before .before .before .before .lookup .ensures) (c .before .before .before .before .before .before .before .before .before .before .before .if1 .left) (c .before .before .before .before .before .before .before .before .before .fill-slot .ensures) (c .renumber2 .ensures), resolve-index (c .before .before .before .before .before .before .before .before .before .before .before .before .before .before .before .before .before .args .s) _ _ _ (c .before .before .before .before .before .before .before .before .before .before .before .before .lookup .ensures) (c .before .before .before .before .before .before .before .before .before .before .before .if1 .left) (c .before .before .before .before .before .before .before .before .before .fill-slot .ensures) (c .before .before .before .before .before .before .before .before .before .before .before .before .before .before .before .before .before .args .scratch .now) (c .before .before .before .before .before .before .before .before .before .before .before .before .before .before .before .before .before .pre .0) (c .before .before .before .before .before .before .before .before .before .before .before .before .before .before .before .before .before .pre .1) (c .before .before .before .before .before .before .before .before .before .before .before .before .before .before .before .before .before .pre .2) (c .before .before .before .before .before .note .ensures))
+    (resolve-fill (c .before .before .before .before .before .before .before .before .before .before .before .before .before .before .before .before .before .args .s) _ _ _ (c .before .before .before .before .before .before .before .before .before .before .before .before .lookup .ensures) (c .before .before .before .before .before .before .before .before .before .before .before .if1 .left) (c .before .before .before .before .before .before .before .before .before .fill-slot .ensures) (c .renumber2 .ensures), (resolve-index (c .before .before .before .before .before .before .before .before .before .before .before .before .before .before .before .before .before .args .s) _ _ _ (c .before .before .before .before .before .before .before .before .before .before .before .before .lookup .ensures) (c .before .before .before .before .before .before .before .before .before .before .before .if1 .left) (c .before .before .before .before .before .before .before .before .before .fill-slot .ensures) (take (c .before .before .before .before .before .before .before .before .before .before .before .before .before .before .before .before .before .args .size) (c .before .before .before .before .before .before .before .before .before .before .before .before .before .before .before .before .before .args .scratch .now)) (c .before .before .before .before .before .before .before .before .before .before .before .before .before .before .before .before .before .pre .0) (c .before .before .before .before .before .before .before .before .before .before .before .before .before .before .before .before .before .pre .1) (c .before .before .before .before .before .before .before .before .before .before .before .before .before .before .before .before .before .pre .2) (c .before .before .before .before .before .note .ensures .0), c .before .before .before .before .before .note .ensures .1))
 
 pub resolve-spec : {M : Type 1} → statement M
 resolve-spec =

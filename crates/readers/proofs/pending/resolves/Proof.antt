@@ -38,7 +38,7 @@ returns c =
     let b = c .before .before .before .before .before .before .before .before in
     let k = c .before .before .before .loop in (
       resolving-stop _ _ _ _ _ _ _ _ _ (k .inv) (tag-test (b .args .sheet .now) (b .args .p .now) (k .cur .at) (c .before .is-tag .ensures) (c .before .before .peek .ensures) (not-true _ (c .if1 .taken))),
-      (k .inv .indexed, k .inv .single),
+      (k .inv .indexed, k .inv .rest),
     )
 
 -- the byte at the cursor is the tag, and so it is one of the payload
@@ -65,7 +65,7 @@ same-length-4 : tie.Need-same-length-4 Inv-loop μ-loop
 same-length-4 c = c .before .before .before .before .before .before .before .loop .inv .scratch-length
 
 returns-2 : tie.Need-returns-2 Inv-loop μ-loop
-returns-2 c = (resolving-cut _ _ _ _ _ _ _ _ _ (c .before .before .before .before .before .before .before .loop .inv) (within (c .before .before .before .before)) (tagged (c .before .before .before .before)) (c .before .before .before .read-int .ensures .0) (c .before .n .given .1), tt)
+returns-2 c = (resolving-cut _ _ _ _ _ _ _ _ _ (c .before .before .before .before .before .before .before .loop .inv) (within (c .before .before .before .before)) (tagged (c .before .before .before .before)) (c .before .before .before .read-int .ensures .0) (c .before .n .given .1), (tt, c .before .before .before .before .before .before .before .loop .inv .rest))
 
 enum-known-number : tie.Need-enum-known-number Inv-loop μ-loop
 enum-known-number c = search needs
@@ -81,7 +81,7 @@ loop-less c =
 loop-again : tie.Need-loop-again Inv-loop μ-loop
 loop-again c =
     let r = c .before .before .before .before .resolve in
-    resolving-turn _ _ _ _ _ _ _ _ _ (c .before .before .before .before .before .before .before .before .before .before .before .before .before .before .loop .inv) (within (c .before .before .before .before .before .before .before .before .before .before .before)) (tagged (c .before .before .before .before .before .before .before .before .before .before .before)) (c .before .before .before .before .before .before .before .before .before .before .read-int .ensures .0) (c .before .before .before .before .before .before .before .before .number .given .1) _ _ (r .ensures .0) _ (r .kept .0) (r .kept .1 .0) (r .ensures .1)
+    resolving-turn _ _ _ _ _ _ _ _ _ (c .before .before .before .before .before .before .before .before .before .before .before .before .before .before .loop .inv) (within (c .before .before .before .before .before .before .before .before .before .before .before)) (tagged (c .before .before .before .before .before .before .before .before .before .before .before)) (c .before .before .before .before .before .before .before .before .before .before .read-int .ensures .0) (c .before .before .before .before .before .before .before .before .number .given .1) _ _ (r .ensures .0) _ (r .kept .0) (r .kept .1 .0) (r .ensures .1 .0) (r .ensures .1 .1)
 
 pub resolves-spec : {M : Type 1} → statement M
 resolves-spec =

@@ -15,19 +15,19 @@ legacy-ref-requires : tie.Need-legacy-ref-requires
 legacy-ref-requires c κs = search needs
 
 with-skip-requires : tie.Need-with-skip-requires
-with-skip-requires c κs = search needs
+with-skip-requires c κs = let q = c .before .before .before .before .before .before .pre in ((q .0 .0, q .0 .1, q .0 .2, λ e. omega (arith, e)), q .1 .1)
 
 hot-ref-requires : tie.Need-hot-ref-requires
-hot-ref-requires c κs = c .before .before .before .before .before .pre .1 .place (c .before .match .keys4)
+hot-ref-requires c κs = c .before .before .before .before .before .before .pre .1 .0 .place (c .before .match .keys4)
 
 with-skip-requires-2 : tie.Need-with-skip-requires-2
-with-skip-requires-2 c κs = (c .before .before .before .before .before .pre .0 .0, c .before .before .before .before .before .pre .0 .1, c .before .before .before .before .before .pre .0 .2, λ _. c .before .before .before .before .before .pre .1 .skip-place (c .before .match .keys5))
+with-skip-requires-2 c κs = ((c .before .before .before .before .before .before .pre .0 .0, c .before .before .before .before .before .before .pre .0 .1, c .before .before .before .before .before .before .pre .0 .2, λ _. c .before .before .before .before .before .before .pre .1 .0 .skip-place (c .before .match .keys5)), c .before .before .before .before .before .before .pre .1 .1)
 
 root-array-requires : tie.Need-root-array-requires
 root-array-requires c κs = search needs
 
 with-skip-requires-3 : tie.Need-with-skip-requires-3
-with-skip-requires-3 c κs = search needs
+with-skip-requires-3 c κs = let q = c .before .before .before .before .before .before .pre in ((q .0 .0, q .0 .1, q .0 .2, λ e. omega (arith, e)), q .1 .1)
 
 two-ints-requires : tie.Need-two-ints-requires
 two-ints-requires c κs = search needs
@@ -42,7 +42,7 @@ one-int-requires-3 : tie.Need-one-int-requires-3
 one-int-requires-3 c κs = search needs
 
 with-skip-requires-4 : tie.Need-with-skip-requires-4
-with-skip-requires-4 c κs = search needs
+with-skip-requires-4 c κs = let q = c .before .before .before .before .before .before .pre in ((q .0 .0, q .0 .1, q .0 .2, λ e. omega (arith, e)), q .1 .1)
 
 two-ints-requires-2 : tie.Need-two-ints-requires-2
 two-ints-requires-2 c κs = search needs
@@ -57,7 +57,7 @@ two-ints-requires-3 : tie.Need-two-ints-requires-3
 two-ints-requires-3 c κs = search needs
 
 with-skip-requires-5 : tie.Need-with-skip-requires-5
-with-skip-requires-5 c κs = search needs
+with-skip-requires-5 c κs = let q = c .before .before .before .before .before .before .pre in ((q .0 .0, q .0 .1, q .0 .2, λ e. omega (arith, e)), q .1 .1)
 
 one-int-requires-6 : tie.Need-one-int-requires-6
 one-int-requires-6 c κs = search needs
@@ -72,7 +72,7 @@ word-bytes-requires : tie.Need-word-bytes-requires
 word-bytes-requires c κs = search needs
 
 mul-raw-data : tie.Need-mul-raw-data
-mul-raw-data c = omega (arith, product-small {n = c .before .before .before .before .before .args .a} (omega (arith, c .before .before .before .before .before .pre .1 .small)) (c .word-bytes .ensures .1))
+mul-raw-data c = omega (arith, product-small {n = c .before .before .before .before .before .before .args .a} (omega (arith, c .before .before .before .before .before .before .pre .1 .0 .small)) (c .word-bytes .ensures .1))
 
 raw-data-requires : tie.Need-raw-data-requires
 raw-data-requires c κs = search needs
@@ -83,15 +83,15 @@ variable-raw-requires c κs = search needs
 one-int-requires-8 : tie.Need-one-int-requires-8
 one-int-requires-8 c κs = search needs
 
-cast-t24 : tie.Need-cast-t24
-cast-t24 c = search needs
+cast-t25 : tie.Need-cast-t25
+cast-t25 c = search needs
 
 one-int-requires-9 : tie.Need-one-int-requires-9
 one-int-requires-9 c κs = search needs
 
 returns : tie.Need-returns
 unfolding byHead
-returns c tr sp l inner = by-kind _ _ _ _ inner _ (c .before .before .match .keys1) (c .back-ref .ensures _ tr sp (addressesIs (c .before .before .before .before .before .before .args .addresses .now) l))
+returns c tr sp l inner = by-kind _ _ _ _ inner _ (c .before .before .match .keys1) (c .back-ref .ensures _ tr sp (addressesIs (c .before .before .before .before .before .before .before .args .addresses .now) l))
 
 returns-2 : tie.Need-returns-2
 unfolding byHead
@@ -103,7 +103,7 @@ returns-3 c tr sp l inner = by-kind _ _ _ _ inner _ (c .before .before .match .k
 
 returns-4 : tie.Need-returns-4
 unfolding byHead
-returns-4 c tr sp l inner = by-kind _ _ _ _ inner _ (c .before .before .match .keys4) (c .hot-ref .ensures (addressesIs (c .before .before .before .before .before .before .args .addresses .now) l))
+returns-4 c tr sp l inner = by-kind _ _ _ _ inner _ (c .before .before .match .keys4) (c .hot-ref .ensures (addressesIs (c .before .before .before .before .before .before .before .args .addresses .now) l))
 
 returns-5 : tie.Need-returns-5
 unfolding byHead
@@ -111,7 +111,7 @@ returns-5 c tr sp l inner = by-kind _ _ _ _ inner _ (c .before .before .match .k
 
 returns-6 : tie.Need-returns-6
 unfolding byHead
-returns-6 c tr sp l inner = by-kind _ _ _ _ inner _ (c .before .before .match .keys6) (c .root-array .ensures _ tr sp (addressesIs (c .before .before .before .before .before .before .args .addresses .now) l))
+returns-6 c tr sp l inner = by-kind _ _ _ _ inner _ (c .before .before .match .keys6) (c .root-array .ensures _ tr sp (addressesIs (c .before .before .before .before .before .before .before .args .addresses .now) l))
 
 returns-7 : tie.Need-returns-7
 unfolding byHead
@@ -159,7 +159,7 @@ returns-17 c tr sp l inner = by-kind _ _ _ _ inner _ (c .before .match .keys17) 
 
 returns-18 : tie.Need-returns-18
 unfolding byHead
-returns-18 c tr sp l inner = by-kind _ _ _ _ inner _ (c .before .before .match .keys18) (target-grouped _ _ (c .before .before .before .before .before .before .args .a) (c .with-skip5 .ensures tr sp l))
+returns-18 c tr sp l inner = by-kind _ _ _ _ inner _ (c .before .before .match .keys18) (target-grouped _ _ (c .before .before .before .before .before .before .before .args .a) (c .with-skip5 .ensures tr sp l))
 
 returns-19 : tie.Need-returns-19
 unfolding byHead
@@ -179,7 +179,7 @@ returns-22 c tr sp l inner = by-kind _ _ _ _ inner _ (c .before .match .keys22) 
 
 returns-23 : tie.Need-returns-23
 unfolding byHead
-returns-23 c tr sp l inner = by-kind _ _ _ _ inner _ (c .before .before .match .keys23) (raw-same _ _ (ap (λ w. c .before .before .before .before .before .before .args .a * w) (c .before .word-bytes .ensures .0)) refl (c .raw-data .ensures _ tr sp _))
+returns-23 c tr sp l inner = by-kind _ _ _ _ inner _ (c .before .before .match .keys23) (raw-same _ _ (ap (λ w. c .before .before .before .before .before .before .before .args .a * w) (c .before .word-bytes .ensures .0)) refl (c .raw-data .ensures _ tr sp _))
 
 returns-24 : tie.Need-returns-24
 unfolding byHead
@@ -202,7 +202,7 @@ unfolding byHead
 returns-28 c tr sp l inner = by-kind _ _ _ _ inner _ (c .match .keys28) refl
 
 returns-29 : tie.Need-returns-29
-returns-29 c tr sp l inner = by-none _ _ _ _ inner _ (c .before .before .before .before .pre .1) (c .match .rest)
+returns-29 c tr sp l inner = by-none _ _ _ _ inner _ (c .before .before .before .before .before .pre .1 .0) (c .match .rest)
 
 pub simple-ref-spec : {M : Type 1} → statement M
 simple-ref-spec =
@@ -233,7 +233,7 @@ simple-ref-spec =
     raw-data-requires
     variable-raw-requires
     one-int-requires-8
-    cast-t24
+    cast-t25
     one-int-requires-9
     returns
     returns-2

@@ -1,0 +1,5 @@
+pub mod Answers
+pub mod Assigning
+pub mod Order
+pub mod Rules
+pub mod Spans

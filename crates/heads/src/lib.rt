@@ -1,0 +1,3 @@
+// What each head byte means under a version sheet.
+pub mod heads;
+pub mod kinds;

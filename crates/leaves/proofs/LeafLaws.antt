@@ -1,0 +1,115 @@
+-- Leaves at each way out of the code. Assumes nothing.
+use mathlib.Core.Path.{_≡_, refl, sym, ap, subst, _∙_}
+use mathlib.Core.Bool.{Bool, true, false}
+use mathlib.Core.List.{List}
+use Prim.Native.Nat.{ℕ, _+_, _*_, _^_, _<_, _≤_}
+use native.Mathlib.Nat.{mul-le-mul, le-of-lt}
+use native.Mathlib.Omega.{arith}
+use lib.ListN.{length, getD}
+use Rattle.stream.specs.declared.bytes.Range.{Range}
+use Rattle.stream.specs.declared.bytes.Range.the-variants.{To as RangeTo}
+use Rattle.stream.specs.Bytes.{rawAt}
+use Rattle.stream.specs.declared.putint.Int.{Int}
+use Rattle.stream.specs.declared.putint.Int.the-variants.{Is as IntIs, Cut}
+use Rattle.stream.specs.PutInt.{intAt}
+use Rattle.sheet.specs.Sheet.{wordBytes}
+use Rattle.heads.specs.Kinds.{backref, hot, rootConstant, readOnly, fixedRaw}
+use Rattle.tables.specs.declared.values.Ref.{Ref}
+use Rattle.tables.specs.declared.values.Ref.the-variants.{Object, Root, RoRef}
+use Rattle.tables.specs.declared.values.SlotValue.{SlotValue}
+use Rattle.tables.specs.declared.values.SlotValue.the-variants.{Ref as IsRef, Raw as IsRaw}
+use Rattle.tables.specs.declared.values.Fields.{Fields}
+use Rattle.tables.specs.Values.{refFields}
+use Rattle.backref.specs.declared.hot_ring.Hot.the-variants.{Is as HotIs}
+use Rattle.backref.specs.HotRing.{hotEntry, hotAt}
+use Rattle.definition.specs.Memory.{Input, word, inSlot, Mem, Out, got, Reader, moved, int}
+use Rattle.definition.specs.Slots.{keepItem, placeItem}
+use Rattle.definition.specs.Reference.{backrefTo, hotPlace, refers, byHead}
+use Rattle.readers.specs.declared.state.State.{State}
+use Rattle.readers.specs.declared.state.Count.{Count}
+use Rattle.readers.specs.declared.state.Count.the-variants.{Is}
+use Rattle.readers.specs.Views.{Lent, input, mem, seenCount, objectsIs, slotsIs, hotIs}
+use Rattle.readers.specs.Index.{Indexed}
+use Rattle.readers.specs.Item.{slotOf}
+use Rattle.readers.proofs.ViewLaws.{count-is, then-got, nothing}
+use Rattle.readers.proofs.ItemLaws.{slot-added}
+use Rattle.readers.proofs.WaiterLaws.{indexed-plain}
+use Rattle.readers.proofs.SimpleLaws.{backref-in, hot-is, raw-to}
+use Rattle.leaves.specs.declared.leaf.Leaf.{Leaf}
+use Rattle.leaves.specs.Leaf.{ring, after, valueOf, Stands, Found}
+
+-- nothing is said of none
+pub none-found : (p hot : List ℕ) (objects ts at kind a : ℕ) (r : Leaf) → r .kind ≡ 0 → Found p hot objects ts at kind a r
+none-found p hot objects ts at kind a r e h = absurd (h e)
+
+-- what holds at a key holds of what is the key
+pub found-kind : (p hot : List ℕ) (objects ts at a : ℕ) (r : Leaf) {kind key : ℕ} → kind ≡ key → Found p hot objects ts at key a r → Found p hot objects ts at kind a r
+found-kind p hot objects ts at a r e f = subst (λ (k : ℕ). Found p hot objects ts at k a r) (sym e) f
+
+-- a reference is a slot of one word
+module _ (x : Input) (r : Ref) where
+  ref-kept : (o done : ℕ) (m : Mem) → keepItem x o done (IsRef r) m ≡ placeItem x o done (IsRef r) m
+  unfolding placeItem
+  ref-kept o done m = refl
+
+-- an integer at the cursor
+int-got : (x : Input) (m : Mem) {v n : ℕ} → intAt (x .payload) (m .at) ≡ IntIs v n → got v (moved (m .at + n) m) ≡ int x m
+unfolding int
+int-got x m e = rw e
+
+pub words-small : {n w : ℕ} → n < 65536 → w ≤ 8 → n * w < 2 ^ 64
+words-small h l = let z = mul-le-mul (le-of-lt h) l in omega (arith, z)
+
+module _ (p hots : List ℕ) (objects ts at : ℕ) where
+  pub root-found : (i : ℕ) → Found p hots objects ts at 10 i (record { kind = 2; a = i; b = 0; width = ts; next = at; enters = false })
+  unfolding byHead
+  root-found i h v tr sp tag s l ew ea eo =
+      record { value = IsRef (Root i); is = λ inner. rw (← ea); fields = refl; width = sym ew; kept = ref-kept (input v p sp tr) (Root i); waits = refl; valued = refl }
+
+  module _ (place : ℕ) where
+    hot-found : (r : Ref) (k i : ℕ) → valueOf (record { kind = k; a = i; b = 0; width = ts; next = at; enters = false }) ≡ IsRef r → record { kind = k; a = i; b = 0 } ≡ refFields r → HotIs r ≡ hotAt hots place → Found p hots objects ts at 7 place (record { kind = k; a = i; b = 0; width = ts; next = at; enters = false })
+    unfolding byHead
+    hot-found r k i y f e h v tr sp tag s l ew ea eo =
+        record { value = IsRef r; is = λ inner. rw (← ea) (hot-is (mem s (hotIs hots l)) place e refl); fields = f; width = sym ew; kept = ref-kept (input v p sp tr) r; waits = refl; valued = y }
+
+    module _ (k i : ℕ) (ek : k ≡ getD hots (place * 3) 0) (ei : i ≡ getD hots (place * 3 + 1) 0) where
+      pub hot-object : k ≡ 1 → Found p hots objects ts at 7 place (record { kind = k; a = i; b = 0; width = ts; next = at; enters = false })
+      unfolding hotAt
+      hot-object z = hot-found (Object i) k i (rw z) (rw z) (rw (← ek, z, ← ei))
+
+      pub hot-root : k ≡ 2 → Found p hots objects ts at 7 place (record { kind = k; a = i; b = 0; width = ts; next = at; enters = false })
+      unfolding hotAt
+      hot-root z = hot-found (Root i) k i (rw z) (rw z) (rw (← ek, z, ← ei))
+
+  pub back-found : (i n a : ℕ) → IntIs i n ≡ intAt p at → i < objects → Found p hots objects ts at 2 a (record { kind = 1; a = i; b = 0; width = ts; next = at + n; enters = true })
+  unfolding byHead
+  back-found i n a e b h v tr sp tag s l ew ea eo =
+      let x = input v p sp tr in
+      let m : Mem = mem s (hotIs hots l) in
+      let q : got i (moved (s .at + n) m) ≡ int x m = int-got x m (ap (intAt p) ea ∙ sym e) in
+      record { value = IsRef (Object i); is = λ inner. rw (← ea) (then-got backrefTo q (backref-in (moved (s .at + n) m) i (rw eo b) refl)); fields = refl; width = sym ew; kept = ref-kept x (Object i); waits = refl; valued = refl }
+
+  pub read-only-found : (c n o k a : ℕ) → IntIs c n ≡ intAt p at → IntIs o k ≡ intAt p (at + n) → Found p hots objects ts at 12 a (record { kind = 3; a = c; b = o; width = ts; next = at + n + k; enters = false })
+  unfolding byHead
+  read-only-found c n o k a e g h v tr sp tag s l ew ea eo =
+      let x = input v p sp tr in
+      let m : Mem = mem s (hotIs hots l) in
+      let m₁ : Mem = moved (s .at + n) m in
+      let q : got c m₁ ≡ int x m = int-got x m (ap (intAt p) ea ∙ sym e) in
+      let q₁ : got o (moved (s .at + n + k) m₁) ≡ int x m₁ = int-got x m₁ (ap (λ (at : ℕ). intAt p (at + n)) ea ∙ sym g) in
+      record { value = IsRef (RoRef c o); is = λ inner. rw (← ea) (then-got (λ c. λ m. _) q (then-got (λ o. refers (RoRef c o)) q₁ refl)); fields = refl; width = sym ew; kept = ref-kept x (RoRef c o); waits = refl; valued = refl }
+
+  pub raw-found : (n end : ℕ) → RangeTo end ≡ rawAt p at (n * ts) → Found p hots objects ts at 28 n (record { kind = 5; a = at; b = n * ts; width = n * ts; next = end; enters = false })
+  unfolding byHead placeItem
+  raw-found n end e h v tr sp tag s l ew ea eo =
+      let x = input v p sp tr in
+      let m : Mem = mem s (hotIs hots l) in
+      record { value = IsRaw (record { off = at; len = n * ts; advances = true }); is = λ inner. rw (← ea, ← ew) (raw-to x (n * wordBytes v) true m refl (rw (ea, ew) (sym e))); fields = refl; width = refl; kept = λ o done m. refl; waits = refl; valued = refl }
+
+-- ---- its slot
+
+-- a slot that does not wait leaves the index right
+pub pushed-index : (s : State) (o index : ℕ) (f : Fields) (ot st ot′ st′ : List ℕ) {r : Count} → ((l : Lent) → seenCount r (objectsIs ot′ (slotsIs st′ l)) ≡ slotOf o index f 0 (mem s (objectsIs ot (slotsIs st l)))) → {k : ℕ} {t : State} → r ≡ Is k t → (sc : List ℕ) → Indexed st (s .slots) sc → Indexed st′ (t .slots) sc
+pushed-index s o index f ot st ot′ st′ h g sc i =
+    let d = slot-added o index f 0 inSlot (mem s (objectsIs ot (slotsIs st nothing))) (count-is (objectsIs ot′ (slotsIs st′ nothing)) g (h nothing)) in
+    rw (d .rows-are, d .count-is) (indexed-plain st (s .slots) o index f 0 (d .roomy) refl sc i)

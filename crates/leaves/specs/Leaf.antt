@@ -1,0 +1,53 @@
+-- A reference that holds no other, read without a state. Assumes nothing: these are definitions.
+use mathlib.Core.Path.{_≡_}
+use mathlib.Core.Bool.{Bool, true, false}
+use mathlib.Core.List.{List}
+use Prim.Native.Nat.{ℕ}
+use Rattle.sheet.specs.Sheet.{wordBytes}
+use lib.Dec.{eqb}
+use Rattle.tables.specs.declared.values.Ref.the-variants.{Object, Root, RoRef}
+use Rattle.tables.specs.declared.values.SlotValue.{SlotValue}
+use Rattle.tables.specs.declared.values.SlotValue.the-variants.{Ref as IsRef, Raw as IsRaw}
+use Rattle.tables.specs.Values.{refFields, triple, fieldsOf, widthOf}
+use Rattle.backref.specs.HotRing.{entered}
+use Rattle.definition.specs.Memory.{Input, word, Mem, Out, got, Reader}
+use Rattle.definition.specs.Slots.{waitsOf, keepItem, placeItem}
+use Rattle.definition.specs.Reference.{byHead}
+use Rattle.readers.specs.declared.state.State.{State}
+use Rattle.readers.specs.Simple.{pickValue}
+use Rattle.readers.specs.Views.{Lent, input, mem, hotIs}
+use Rattle.leaves.specs.declared.leaf.Leaf.{Leaf}
+
+-- the ring after it
+abbrev pub ring : Bool → ℕ → List ℕ → List ℕ
+ring true i hot = entered hot (refFields (Object i))
+ring false i hot = hot
+
+-- the state after it
+abbrev pub after : Leaf → State → State
+after r s =
+    record
+    { at = r .next; objects = s .objects; slots = s .slots; values = s .values; addresses = s .addresses; pending = s .pending; waiting = s .waiting; skip = s .skip; alignment = s .alignment }
+
+-- the value that it stands for
+abbrev pub valueOf : Leaf → SlotValue
+valueOf r =
+    pickValue (eqb (r .kind) 1) (IsRef (Object (r .a)))
+    (pickValue (eqb (r .kind) 2) (IsRef (Root (r .a)))
+    (pickValue (eqb (r .kind) 3) (IsRef (RoRef (r .a) (r .b))) (IsRaw (record { off = r .a; len = r .b; advances = true }))))
+
+-- a head of this kind, after which the cursor stands, is this leaf: it gives a value whose fields and width the leaf has, and which becomes
+-- a slot that does not wait
+pub record Stands (x : Input) (tag kind a : ℕ) (s : State) (l : Lent) (r : Leaf) : Type 0 where
+  pub value : SlotValue
+  pub is : (inner : Reader SlotValue) → got value (mem (after r s) (hotIs (ring (r .enters) (r .a) (l .hot)) l)) ≡ byHead x inner tag kind a (mem s l)
+  pub fields : triple (r .kind) (r .a) (r .b) ≡ fieldsOf value
+  pub width : r .width ≡ widthOf (word x) value
+  pub kept : (o done : ℕ) (m : Mem) → keepItem x o done value m ≡ placeItem x o done value m
+  pub waits : 0 ≡ waitsOf value
+  pub valued : valueOf r ≡ value
+
+-- where a leaf was found, it is right in every state with this cursor, ring and number of objects
+abbrev pub Found : List ℕ → List ℕ → ℕ → ℕ → ℕ → ℕ → ℕ → Leaf → Type 0
+Found p hot objects ts at kind a r =
+    (r .kind ≡ 0 → ⊥) → (v tr : List ℕ) (sp tag : ℕ) (s : State) (l : Lent) → wordBytes v ≡ ts → s .at ≡ at → s .objects ≡ objects → Stands (input v p sp tr) tag kind a s (hotIs hot l) r

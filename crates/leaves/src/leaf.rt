@@ -1,0 +1,255 @@
+// The commonest references that hold no other, read without a state, so that a slot with one of them costs little: a root constant, a hot
+// place, a back-reference, a read-only reference and fixed raw data. What is refused is left to the readers of every reference.
+use backref::hot_ring::add;
+use readers::item::push_slot;
+use readers::state::Count;
+use readers::state::State;
+use readers::state::Step;
+use stream::bytes::Range;
+use stream::bytes::byte;
+use stream::bytes::raw;
+use stream::putint::Int;
+use stream::putint::putint;
+use tables::values::Fields;
+use tables::values::Raw;
+use tables::values::Ref;
+use tables::values::SlotValue;
+ghost use mathlib.Core.Path.{_≡_};
+ghost use mathlib.Core.List.{List};
+ghost use Prim.Native.Nat.{ℕ, _+_, _*_, _^_, _<_, _≤_};
+ghost use lib.ListN.{length, getD};
+ghost use Rattle.tables.specs.declared.values.SlotValue as Value;
+ghost use Rattle.tables.specs.Records.{field};
+ghost use Rattle.tables.specs.Values.{triple, fieldsOf, widthOf};
+ghost use Rattle.definition.specs.Memory.{Input, word as wordOf, got};
+ghost use Rattle.definition.specs.Slots.{waitsOf, keepItem};
+ghost use Rattle.readers.specs.Views.{Lent, mem, seen, seenCount, objectsIs, slotsIs, hotIs};
+ghost use Rattle.readers.specs.Index.{Indexed, CountIndexed};
+ghost use Rattle.leaves.specs.Leaf.{ring, after, valueOf, Found};
+
+// Kind, a and b of a slot, its width, the cursor after it, and whether the object a enters the hot ring. Kind 0: none of these references, or
+// one to refuse.
+pub struct Leaf {
+    pub kind: u64,
+    pub a: u64,
+    pub b: u64,
+    pub width: u64,
+    pub next: usize,
+    pub enters: bool,
+}
+
+// No leaf.
+fn none() -> Leaf
+    ensures { λ r. ⌜ r .kind ≡ 0 ⌝ }
+{
+    Leaf {
+        kind: 0,
+        a: 0,
+        b: 0,
+        width: 0,
+        next: 0,
+        enters: false,
+    }
+}
+
+// A root by its head.
+fn root_leaf(i: u64, next: usize, word: u64) -> Leaf
+    ensures { λ r. ⌜ ((p hot : List ℕ) (objects : ℕ) → Found p hot objects word next 10 i r) ⌝ }
+{
+    Leaf {
+        kind: 2,
+        a: i,
+        b: 0,
+        width: word,
+        next,
+        enters: false,
+    }
+}
+
+// An object or a root at a place of the hot ring.
+fn hot_leaf(hot: &[u64; 25], place: usize, next: usize, word: u64) -> Leaf
+    requires { ⌜ place < 8 ⌝ }
+    ensures { λ r. ⌜ ((p : List ℕ) (objects : ℕ) → Found p (now (hot .entry)) objects word next 7 place r) ⌝ }
+{
+    let kind = hot[place * 3];
+    let a = hot[place * 3 + 1];
+    if kind != 1 {
+        if kind != 2 {
+            return none();
+        }
+    }
+    Leaf {
+        kind,
+        a,
+        b: 0,
+        width: word,
+        next,
+        enters: false,
+    }
+}
+
+// An object by plain index, which enters the ring.
+fn back_leaf(p: &[u8], at: usize, objects: usize, word: u64) -> Leaf
+    ensures { λ r. ⌜ ((hot : List ℕ) (i : ℕ) → Found (now (p .entry)) hot objects word at 2 i r) ⌝ }
+{
+    let Int::Is(i, count) = putint(p, at) else {
+        return none();
+    };
+    if objects as u64 <= i as u64 {
+        return none();
+    }
+    Leaf {
+        kind: 1,
+        a: i as u64,
+        b: 0,
+        width: word,
+        next: at + count,
+        enters: true,
+    }
+}
+
+// A read-only reference.
+fn read_only_leaf(p: &[u8], at: usize, word: u64) -> Leaf
+    ensures { λ r. ⌜ ((hot : List ℕ) (objects i : ℕ) → Found (now (p .entry)) hot objects word at 12 i r) ⌝ }
+{
+    let Int::Is(chunk, count) = putint(p, at) else {
+        return none();
+    };
+    let next = at + count;
+    let Int::Is(offset, more) = putint(p, next) else {
+        return none();
+    };
+    Leaf {
+        kind: 3,
+        a: chunk as u64,
+        b: offset as u64,
+        width: word,
+        next: next + more,
+        enters: false,
+    }
+}
+
+// Fixed raw data of n words.
+fn raw_leaf(p: &[u8], at: usize, n: u64, word: u64) -> Leaf
+    requires { ⌜ (n < 65536) × (word ≤ 8) ⌝ }
+    ensures { λ r. ⌜ ((hot : List ℕ) (objects : ℕ) → Found (now (p .entry)) hot objects word at 28 n r) ⌝ }
+{
+    let bytes = n * word;
+    let Range::To(end) = raw(p, at, bytes as usize) else {
+        return none();
+    };
+    Leaf {
+        kind: 5,
+        a: at as u64,
+        b: bytes,
+        width: bytes,
+        next: end,
+        enters: false,
+    }
+}
+
+// What stands at the cursor.
+pub fn leaf_at(
+    h: &[u16; 512],
+    p: &[u8],
+    hot: &[u64; 25],
+    at: usize,
+    objects: usize,
+    word: u64,
+) -> Leaf
+    requires { ⌜ (word ≤ 8) × ((b : ℕ) → b < 256 → (getD (now h) b 0 < 65536) × (getD (now h) (256 + b) 0 < 65536)) ⌝ }
+    ensures { λ r. ⌜ ((r .kind ≡ 0 → ⊥) → (at < length (now (p .entry))) × (getD (now (p .entry)) at 0 < 256)) ⌝ }
+    ensures found { λ r. ⌜ Found (now (p .entry)) (now (hot .entry)) objects word (at + 1) (getD (now (h .entry)) (getD (now (p .entry)) at 0) 0) (getD (now (h .entry)) (256 + getD (now (p .entry)) at 0) 0) r ⌝ }
+{
+    if p.len() <= at {
+        return none();
+    }
+    let b = byte(p, at) as usize;
+    let kind = h[b] as u64;
+    let a = h[256 + b] as u64;
+    let next = at + 1;
+    match kind {
+        2 => back_leaf(p, next, objects, word),
+        7 => {
+            if a < 8 {
+                return hot_leaf(hot, a as usize, next, word);
+            }
+            none()
+        }
+        10 => root_leaf(a, next, word),
+        12 => read_only_leaf(p, next, word),
+        28 => raw_leaf(p, next, a, word),
+        _ => none(),
+    }
+}
+
+// The ring after it.
+fn enter(hot: &mut [u64; 25], leaf: Leaf)
+    ensures { λ _. ⌜ now (hot .exit) ≡ ring (leaf .enters) (leaf .a) (now (hot .entry)) ⌝ }
+{
+    if leaf.enters {
+        add(hot, Ref::Object(leaf.a));
+    }
+}
+
+// The value that it stands for.
+fn value_of(leaf: Leaf) -> SlotValue
+    ensures { λ r. ⌜ r ≡ valueOf leaf ⌝ }
+{
+    let kind = leaf.kind;
+    match kind {
+        1 => SlotValue::Ref(Ref::Object(leaf.a)),
+        2 => SlotValue::Ref(Ref::Root(leaf.a)),
+        3 => SlotValue::Ref(Ref::RoRef(leaf.a, leaf.b)),
+        _ => SlotValue::Raw(Raw {
+            off: leaf.a,
+            len: leaf.b,
+            advances: true,
+        }),
+    }
+}
+
+// The same as a reference that was read.
+pub fn take_leaf(hot: &mut [u64; 25], s: State, leaf: Leaf) -> Step
+    ensures { λ r. ⌜ ((l : Lent) → seen r (hotIs (now (hot .exit)) l) ≡ got (valueOf leaf) (mem (after leaf s) (hotIs (ring (leaf .enters) (leaf .a) (now (hot .entry))) l))) ⌝ }
+{
+    enter(hot, leaf);
+    let mut t = s;
+    t.at = leaf.next;
+    Step::Got(value_of(leaf), t)
+}
+
+// Its slot in object o, `done` bytes of which have been read: the bytes read then.
+pub fn place_leaf(
+    objects: &mut [u64],
+    slots: &mut [u64],
+    hot: &mut [u64; 25],
+    s: State,
+    o: usize,
+    done: u64,
+    leaf: Leaf,
+    word: u64,
+) -> Count
+    requires { ⌜ (field 4 (now objects) o 3 < 2 ^ 63) × (s .waiting < 2 ^ 63) × (0 < word) × (done + s .skip + leaf .width < 2 ^ 64) ⌝ }
+    ensures { λ r. ⌜ ((x : Input) (v : Value.SlotValue) (l : Lent) → wordOf x ≡ word → triple (leaf .kind) (leaf .a) (leaf .b) ≡ fieldsOf v → leaf .width ≡ widthOf word v → 0 ≡ waitsOf v → seenCount r (objectsIs (now (objects .exit)) (slotsIs (now (slots .exit)) (hotIs (now (hot .exit)) l))) ≡ keepItem x o done v (mem (after leaf s) (objectsIs (now (objects .entry)) (slotsIs (now (slots .entry)) (hotIs (ring (leaf .enters) (leaf .a) (now (hot .entry))) l))))) ⌝ }
+    ensures index { λ r. ⌜ ((sc : List ℕ) → Indexed (now (slots .entry)) (s .slots) sc → CountIndexed r (now (slots .exit)) sc) ⌝ }
+{
+    enter(hot, leaf);
+    let start = done + s.skip;
+    let end = start + leaf.width;
+    let mut t = s;
+    t.at = leaf.next;
+    let f = Fields {
+        kind: leaf.kind,
+        a: leaf.a,
+        b: leaf.b,
+    };
+    match push_slot(objects, slots, t, o as u64, start / word, f, 0) {
+        Count::Refused(n, q, u) => Count::Refused(n, q, u),
+        Count::Is(_, u) => {
+            let mut w = u;
+            w.skip = 0;
+            Count::Is(end, w)
+        }
+    }
+}

@@ -1,0 +1,2 @@
+// The bytes of a raw slot.
+pub mod view;
