@@ -5,7 +5,7 @@ use mathlib.Core.List.{List}
 use Prim.Native.Nat.{ℕ, _+_, _*_, _^_, _<_, _≤_}
 use native.Mathlib.Nat.{mul-le-mul, le-of-lt}
 use native.Mathlib.Omega.{arith}
-use lib.ListN.{length, getD}
+use lib.ListN.{length, getD, set}
 use Rattle.stream.specs.declared.bytes.Range.{Range}
 use Rattle.stream.specs.declared.bytes.Range.the-variants.{To as RangeTo}
 use Rattle.stream.specs.Bytes.{rawAt}
@@ -18,25 +18,19 @@ use Rattle.tables.specs.declared.values.Ref.{Ref}
 use Rattle.tables.specs.declared.values.Ref.the-variants.{Object, Root, RoRef}
 use Rattle.tables.specs.declared.values.SlotValue.{SlotValue}
 use Rattle.tables.specs.declared.values.SlotValue.the-variants.{Ref as IsRef, Raw as IsRaw}
-use Rattle.tables.specs.declared.values.Fields.{Fields}
-use Rattle.tables.specs.Values.{refFields}
+use Rattle.tables.specs.Values.{refFields, triple}
+use Rattle.tables.specs.Records.{room, field, slotRow, written}
 use Rattle.backref.specs.declared.hot_ring.Hot.the-variants.{Is as HotIs}
 use Rattle.backref.specs.HotRing.{hotEntry, hotAt}
-use Rattle.definition.specs.Memory.{Input, word, inSlot, Mem, Out, got, Reader, moved, int}
+use Rattle.definition.specs.Memory.{Input, word, Mem, Out, got, Reader, moved, int}
 use Rattle.definition.specs.Slots.{keepItem, placeItem}
 use Rattle.definition.specs.Reference.{backrefTo, hotPlace, refers, byHead}
 use Rattle.readers.specs.declared.state.State.{State}
-use Rattle.readers.specs.declared.state.Count.{Count}
-use Rattle.readers.specs.declared.state.Count.the-variants.{Is}
-use Rattle.readers.specs.Views.{Lent, input, mem, seenCount, objectsIs, slotsIs, hotIs}
-use Rattle.readers.specs.Index.{Indexed}
-use Rattle.readers.specs.Item.{slotOf}
-use Rattle.readers.proofs.ViewLaws.{count-is, then-got, nothing}
-use Rattle.readers.proofs.ItemLaws.{slot-added}
-use Rattle.readers.proofs.WaiterLaws.{indexed-plain}
+use Rattle.readers.specs.Views.{Lent, input, mem, hotIs}
+use Rattle.readers.proofs.ViewLaws.{then-got}
 use Rattle.readers.proofs.SimpleLaws.{backref-in, hot-is, raw-to}
 use Rattle.leaves.specs.declared.leaf.Leaf.{Leaf}
-use Rattle.leaves.specs.Leaf.{ring, after, valueOf, Stands, Found}
+use Rattle.leaves.specs.Leaf.{ring, after, valueOf, Stands, Found, Placed}
 
 -- nothing is said of none
 pub none-found : (p hot : List ℕ) (objects ts at kind a : ℕ) (r : Leaf) → r .kind ≡ 0 → Found p hot objects ts at kind a r
@@ -108,8 +102,11 @@ module _ (p hots : List ℕ) (objects ts at : ℕ) where
 
 -- ---- its slot
 
--- a slot that does not wait leaves the index right
-pub pushed-index : (s : State) (o index : ℕ) (f : Fields) (ot st ot′ st′ : List ℕ) {r : Count} → ((l : Lent) → seenCount r (objectsIs ot′ (slotsIs st′ l)) ≡ slotOf o index f 0 (mem s (objectsIs ot (slotsIs st l)))) → {k : ℕ} {t : State} → r ≡ Is k t → (sc : List ℕ) → Indexed st (s .slots) sc → Indexed st′ (t .slots) sc
-pushed-index s o index f ot st ot′ st′ h g sc i =
-    let d = slot-added o index f 0 inSlot (mem s (objectsIs ot (slotsIs st nothing))) (count-is (objectsIs ot′ (slotsIs st′ nothing)) g (h nothing)) in
-    rw (d .rows-are, d .count-is) (indexed-plain st (s .slots) o index f 0 (d .roomy) refl sc i)
+-- where no leaf was found, or its record had no room, all stays
+pub none-placed : (n o index : ℕ) (r : Leaf) (objects slots hot : List ℕ) → r .kind ≡ 0 → {slots′ : List ℕ} → slots′ ≡ slots → Placed n o index r objects slots hot objects slots′ hot
+none-placed n o index r objects slots hot e s =
+    record { none = λ _. (refl, s, refl); roomy = λ h. absurd (h e); slot = λ h. absurd (h e); count = λ h. absurd (h e); rings = λ h. absurd (h e) }
+
+pub some-placed : (n o index : ℕ) (r : Leaf) (objects slots hot objects′ slots′ hot′ : List ℕ) → (r .kind ≡ 0 → ⊥) → n < room 6 slots → slots′ ≡ written slots n (slotRow o index (triple (r .kind) (r .a) (r .b)) 0) → objects′ ≡ set objects (o * 4 + 3) (field 4 objects o 3 + 1) → hot′ ≡ ring (r .enters) (r .a) hot → Placed n o index r objects slots hot objects′ slots′ hot′
+some-placed n o index r objects slots hot objects′ slots′ hot′ h b s c g =
+    record { none = λ e. absurd (h e); roomy = λ _. b; slot = λ _. s; count = λ _. c; rings = λ _. g }

@@ -2,13 +2,15 @@
 use mathlib.Core.Path.{_≡_}
 use mathlib.Core.Bool.{Bool, true, false}
 use mathlib.Core.List.{List}
-use Prim.Native.Nat.{ℕ}
+use Prim.Native.Nat.{ℕ, _+_, _*_, _<_}
 use Rattle.sheet.specs.Sheet.{wordBytes}
 use lib.Dec.{eqb}
+use lib.ListN.{set}
 use Rattle.tables.specs.declared.values.Ref.the-variants.{Object, Root, RoRef}
 use Rattle.tables.specs.declared.values.SlotValue.{SlotValue}
 use Rattle.tables.specs.declared.values.SlotValue.the-variants.{Ref as IsRef, Raw as IsRaw}
 use Rattle.tables.specs.Values.{refFields, triple, fieldsOf, widthOf}
+use Rattle.tables.specs.Records.{room, field, slotRow, written}
 use Rattle.backref.specs.HotRing.{entered}
 use Rattle.definition.specs.Memory.{Input, word, Mem, Out, got, Reader}
 use Rattle.definition.specs.Slots.{waitsOf, keepItem, placeItem}
@@ -51,3 +53,11 @@ pub record Stands (x : Input) (tag kind a : ℕ) (s : State) (l : Lent) (r : Lea
 abbrev pub Found : List ℕ → List ℕ → ℕ → ℕ → ℕ → ℕ → ℕ → Leaf → Type 0
 Found p hot objects ts at kind a r =
     (r .kind ≡ 0 → ⊥) → (v tr : List ℕ) (sp tag : ℕ) (s : State) (l : Lent) → wordBytes v ≡ ts → s .at ≡ at → s .objects ≡ objects → Stands (input v p sp tr) tag kind a s (hotIs hot l) r
+
+-- its slot record n of object o, at this index, with the object's slot count and the ring; where there is no leaf, all stays
+pub record Placed (n o index : ℕ) (r : Leaf) (objects slots hot objects′ slots′ hot′ : List ℕ) : Type 0 where
+  pub none : r .kind ≡ 0 → (objects′ ≡ objects) × (slots′ ≡ slots) × (hot′ ≡ hot)
+  pub roomy : (r .kind ≡ 0 → ⊥) → n < room 6 slots
+  pub slot : (r .kind ≡ 0 → ⊥) → slots′ ≡ written slots n (slotRow o index (triple (r .kind) (r .a) (r .b)) 0)
+  pub count : (r .kind ≡ 0 → ⊥) → objects′ ≡ set objects (o * 4 + 3) (field 4 objects o 3 + 1)
+  pub rings : (r .kind ≡ 0 → ⊥) → hot′ ≡ ring (r .enters) (r .a) hot

@@ -1,8 +1,6 @@
 // The commonest references that hold no other, read without a state, so that a slot with one of them costs little: a root constant, a hot
 // place, a back-reference, a read-only reference and fixed raw data. What is refused is left to the readers of every reference.
 use backref::hot_ring::add;
-use readers::item::push_slot;
-use readers::state::Count;
 use readers::state::State;
 use readers::state::Step;
 use stream::bytes::Range;
@@ -10,6 +8,8 @@ use stream::bytes::byte;
 use stream::bytes::raw;
 use stream::putint::Int;
 use stream::putint::putint;
+use tables::records::add_slot;
+use tables::records::count_slot;
 use tables::values::Fields;
 use tables::values::Raw;
 use tables::values::Ref;
@@ -18,14 +18,10 @@ ghost use mathlib.Core.Path.{_≡_};
 ghost use mathlib.Core.List.{List};
 ghost use Prim.Native.Nat.{ℕ, _+_, _*_, _^_, _<_, _≤_};
 ghost use lib.ListN.{length, getD};
-ghost use Rattle.tables.specs.declared.values.SlotValue as Value;
 ghost use Rattle.tables.specs.Records.{field};
-ghost use Rattle.tables.specs.Values.{triple, fieldsOf, widthOf};
-ghost use Rattle.definition.specs.Memory.{Input, word as wordOf, got};
-ghost use Rattle.definition.specs.Slots.{waitsOf, keepItem};
-ghost use Rattle.readers.specs.Views.{Lent, mem, seen, seenCount, objectsIs, slotsIs, hotIs};
-ghost use Rattle.readers.specs.Index.{Indexed, CountIndexed};
-ghost use Rattle.leaves.specs.Leaf.{ring, after, valueOf, Found};
+ghost use Rattle.definition.specs.Memory.{got};
+ghost use Rattle.readers.specs.Views.{Lent, mem, seen, hotIs};
+ghost use Rattle.leaves.specs.Leaf.{ring, after, valueOf, Found, Placed};
 
 // Kind, a and b of a slot, its width, the cursor after it, and whether the object a enters the hot ring. Kind 0: none of these references, or
 // one to refuse.
@@ -219,37 +215,44 @@ pub fn take_leaf(hot: &mut [u64; 25], s: State, leaf: Leaf) -> Step
     Step::Got(value_of(leaf), t)
 }
 
-// Its slot in object o, `done` bytes of which have been read: the bytes read then.
+// A leaf as an item of object o, which has a slot record at this index then: that leaf. Kind 0 where none stands at the cursor, where the record
+// has no room, and at the last level, where a reference is refused; then nothing is changed.
 pub fn place_leaf(
+    h: &[u16; 512],
+    p: &[u8],
     objects: &mut [u64],
     slots: &mut [u64],
     hot: &mut [u64; 25],
-    s: State,
+    at: usize,
+    count: usize,
+    n: usize,
     o: usize,
-    done: u64,
-    leaf: Leaf,
+    index: u64,
     word: u64,
-) -> Count
-    requires { ⌜ (field 4 (now objects) o 3 < 2 ^ 63) × (s .waiting < 2 ^ 63) × (0 < word) × (done + s .skip + leaf .width < 2 ^ 64) ⌝ }
-    ensures { λ r. ⌜ ((x : Input) (v : Value.SlotValue) (l : Lent) → wordOf x ≡ word → triple (leaf .kind) (leaf .a) (leaf .b) ≡ fieldsOf v → leaf .width ≡ widthOf word v → 0 ≡ waitsOf v → seenCount r (objectsIs (now (objects .exit)) (slotsIs (now (slots .exit)) (hotIs (now (hot .exit)) l))) ≡ keepItem x o done v (mem (after leaf s) (objectsIs (now (objects .entry)) (slotsIs (now (slots .entry)) (hotIs (ring (leaf .enters) (leaf .a) (now (hot .entry))) l))))) ⌝ }
-    ensures index { λ r. ⌜ ((sc : List ℕ) → Indexed (now (slots .entry)) (s .slots) sc → CountIndexed r (now (slots .exit)) sc) ⌝ }
+    d: usize,
+) -> Leaf
+    requires { ⌜ (word ≤ 8) × ((b : ℕ) → b < 256 → (getD (now h) b 0 < 65536) × (getD (now h) (256 + b) 0 < 65536)) ⌝ }
+    requires { ⌜ field 4 (now objects) o 3 < 2 ^ 63 ⌝ }
+    ensures { λ r. ⌜ ((r .kind ≡ 0 → ⊥) → (d < 64) × (at < length (now (p .entry))) × (getD (now (p .entry)) at 0 < 256)) ⌝ }
+    ensures found { λ r. ⌜ Found (now (p .entry)) (now (hot .entry)) count word (at + 1) (getD (now (h .entry)) (getD (now (p .entry)) at 0) 0) (getD (now (h .entry)) (256 + getD (now (p .entry)) at 0) 0) r ⌝ }
+    ensures placed { λ r. ⌜ Placed n o index r (now (objects .entry)) (now (slots .entry)) (now (hot .entry)) (now (objects .exit)) (now (slots .exit)) (now (hot .exit)) ⌝ }
 {
-    enter(hot, leaf);
-    let start = done + s.skip;
-    let end = start + leaf.width;
-    let mut t = s;
-    t.at = leaf.next;
+    if 64 <= d {
+        return none();
+    }
+    let leaf = leaf_at(h, p, hot, at, count, word);
+    if leaf.kind == 0 {
+        return leaf;
+    }
     let f = Fields {
         kind: leaf.kind,
         a: leaf.a,
         b: leaf.b,
     };
-    match push_slot(objects, slots, t, o as u64, start / word, f, 0) {
-        Count::Refused(n, q, u) => Count::Refused(n, q, u),
-        Count::Is(_, u) => {
-            let mut w = u;
-            w.skip = 0;
-            Count::Is(end, w)
-        }
+    if !add_slot(slots, n, o as u64, index, f, 0) {
+        return none();
     }
+    count_slot(objects, o as u64);
+    enter(hot, leaf);
+    leaf
 }

@@ -1,34 +1,50 @@
 -- An item that is a leaf, as a reference one level down and a slot. Assumes nothing.
 use mathlib.Core.Path.{_≡_, refl, sym, ap, subst, _∙_}
 use mathlib.Core.List.{List}
-use Prim.Native.Nat.{ℕ, _+_, _-_, _^_, _<_, _≤_}
+use Prim.Native.Nat.{ℕ, _+_, _-_, _*_, _/_, _^_, _<_, _≤_}
 use native.Mathlib.Omega.{arith}
-use lib.ListN.{length, getD, take}
+use borrow.Author.Tests.{lt-ltb}
+use lib.ListN.{length, getD, set, take}
 use Rattle.sheet.specs.Sheet.{wordBytes}
 use Rattle.tables.specs.declared.values.SlotValue.{SlotValue}
 use Rattle.tables.specs.Values.{triple, fieldsOf, widthOf}
-use Rattle.tables.specs.Records.{field}
-use Rattle.definition.specs.Memory.{Input, word, Mem, Out, got}
-use Rattle.definition.specs.Slots.{waitsOf, keepItem, placeItem}
+use Rattle.tables.specs.Records.{room, field, slotRow, written}
+use Rattle.definition.specs.Memory.{Input, word, table, Mem, Out, got}
+use Rattle.definition.specs.Slots.{addSlot, waitsOf, keepItem, placeItem}
 use Rattle.definition.specs.Reference.{refAt}
 use Rattle.readers.specs.declared.state.State.{State}
 use Rattle.readers.specs.declared.state.Step.{Step}
-use Rattle.readers.specs.declared.state.Count.{Count}
-use Rattle.readers.specs.Views.{Lent, input, mem, seen, seenCount, objectsIs, slotsIs, hotIs}
-use Rattle.readers.specs.Index.{Indexed, CountIndexed}
+use Rattle.readers.specs.Views.{Lent, input, mem, seen, objectsIs, slotsIs, hotIs}
 use Rattle.readers.proofs.HeadFacts.{head-fits}
+use Rattle.readers.proofs.WaiterLaws.{indexed-plain}
 use Rattle.leaves.specs.declared.leaf.Leaf.{Leaf}
-use Rattle.leaves.specs.Leaf.{ring, after, valueOf, Stands, Found}
-use Rattle.walker.specs.Ready.{OutIndex, Ready, slotIn}
-use Rattle.walker.proofs.GroundLaws.{placeItem-ground, count-index}
+use Rattle.leaves.specs.Leaf.{ring, after, valueOf, Stands, Found, Placed}
+use Rattle.walker.specs.Ready.{Index, OutIndex, Ready, slotIn}
 use Rattle.walker.proofs.ReadyLaws.{ref-went}
-use Rattle.walker.proofs.ItemsLaws.{word-some, slot-got}
+use Rattle.walker.proofs.ItemsLaws.{word-some, slot-got, Loop}
 use Rattle.walker.proofs.ReferenceLaws.{next, ref-head, head-low}
 
 -- what `leaf_at` asks
 pub leaf-asks : {x : Input} {h sc : List ℕ} {m : Mem} → Ready x h m sc → (w : ℕ) → w ≡ word x → (w ≤ 8) × ((b : ℕ) → b < 256 → (getD h b 0 < 65536) × (getD h (256 + b) 0 < 65536))
 leaf-asks {x} g w e =
     (omega (arith, e, word-some g .0), λ b l. (omega (arith, head-low (x .sheet) b, g .decoded .kind b l), rw (g .decoded .argument b l) (head-fits (x .sheet) b l .small)))
+
+-- and what `place_leaf` asks beside
+pub count-fits : {x : Input} {h sc : List ℕ} {m : Mem} → Ready x h m sc → (o : ℕ) → length (m .slots .rows) < 2 ^ 64 → field 4 (m .objects .rows) o 3 < 2 ^ 63
+count-fits g o few = omega (arith, g .counted .count-low o, g .sound .slots-fit)
+
+-- the state after a leaf's slot
+abbrev pub stepped : Leaf → State → State
+stepped r s =
+    record { at = r .next; objects = s .objects; slots = s .slots + 1; values = s .values; addresses = s .addresses; pending = s .pending; waiting = s .waiting; skip = 0; alignment = s .alignment }
+
+-- a leaf's slot is that of an item with its value
+leaf-kept : (x : Input) (o done : ℕ) (s : State) (l : Lent) (r : Leaf) (v : SlotValue) {w : ℕ} → word x ≡ w → triple (r .kind) (r .a) (r .b) ≡ fieldsOf v → r .width ≡ widthOf w v → 0 ≡ waitsOf v → s .slots < room 6 (l .slots) → {ot st : List ℕ} → st ≡ written (l .slots) (s .slots) (slotRow o ((done + s .skip) / w) (triple (r .kind) (r .a) (r .b)) 0) → ot ≡ set (l .objects) (o * 4 + 3) (field 4 (l .objects) o 3 + 1)
+    → got (done + s .skip + r .width) (mem (stepped r s) (objectsIs ot (slotsIs st l))) ≡ keepItem x o done v (mem (after r s) l)
+unfolding keepItem addSlot
+leaf-kept x o done s l r v ew ef eb ez b es eo =
+    let z : s .waiting + 0 ≡ s .waiting = omega arith in
+    rw (ew, ← ef, ← ez, lt-ltb (s .slots) (room 6 (l .slots)) b, es, eo, z, eb)
 
 module _ (v p : List ℕ) (sp : ℕ) (tr h sc : List ℕ) (s : State) (l : Lent) (g : Ready (input v p sp tr) h (mem s l) sc) (d : ℕ) (low : d < 64) (leaf : Leaf) (some : leaf .kind ≡ 0 → ⊥)
     (there : (leaf .kind ≡ 0 → ⊥) → (s .at < length p) × (getD p (s .at) 0 < 256)) (w : ℕ) (ew : w ≡ wordBytes v)
@@ -52,21 +68,27 @@ module _ (v p : List ℕ) (sp : ℕ) (tr h sc : List ℕ) (s : State) (l : Lent)
       let q = e l in
       (q ∙ ap (λ (v : SlotValue). got v m₁) (stands .valued) ∙ read, subst (λ (o : Out SlotValue). OutIndex (length p) o sc) (sym q) (record { pending = g .index .pending; linked = g .index .linked }))
 
-  -- what `place_leaf` asks
-  pub leaf-fits : (o done : ℕ) → length (l .slots) < 2 ^ 64 → done < 2 ^ 60 → (field 4 (l .objects) o 3 < 2 ^ 63) × (s .waiting < 2 ^ 63) × (0 < w) × (done + s .skip + leaf .width < 2 ^ 64)
-  leaf-fits o done few b =
-      let z = ref-went g (65 - (d + 1)) read in
-      let n : leaf .width ≤ 2 ^ 34 = rw (stands .width) (z .more .narrow) in
-      let t = g .sound in
-      (omega (arith, g .counted .count-low o, t .slots-fit), omega (arith, t .waiting-low, t .slots-fit), omega (arith, ew, word-some g .1), omega (arith, n, t .skip-low, t .within, g .proper .short))
+  pub leaf-narrow : leaf .width ≤ 2 ^ 34
+  leaf-narrow = let z = ref-went g (65 - (d + 1)) read in rw (stands .width) (z .more .narrow)
 
-  module _ (o done : ℕ) (r : Count) (ot st hot : List ℕ)
-      (placed : (x : Input) (v : SlotValue) (k : Lent) → word x ≡ w → triple (leaf .kind) (leaf .a) (leaf .b) ≡ fieldsOf v → leaf .width ≡ widthOf w v → 0 ≡ waitsOf v
-      → seenCount r (objectsIs ot (slotsIs st (hotIs hot k))) ≡ keepItem x o done v (mem (after leaf s) (objectsIs (l .objects) (slotsIs (l .slots) (hotIs (ring (leaf .enters) (leaf .a) (l .hot)) k)))))
-      (index : (sc : List ℕ) → Indexed (l .slots) (s .slots) sc → CountIndexed r st sc) where
-    is-placed : seenCount r (objectsIs ot (slotsIs st (hotIs hot l))) ≡ placeItem x o done (stands .value) m₁
-    is-placed = placed x (stands .value) l (sym ew) (stands .fields) (stands .width ∙ ap (λ (k : ℕ). widthOf k (stands .value)) (sym ew)) (stands .waits) ∙ stands .kept o done m₁
+  -- the leaf as an item of object o
+  module _ (o done index : ℕ) (ei : index ≡ (done + s .skip) / w) (ot st hot : List ℕ) (placed : Placed (s .slots) o index leaf (l .objects) (l .slots) (l .hot) ot st hot) where
+    abbrev l₁ : Lent
+    l₁ = objectsIs ot (slotsIs st (hotIs hot l))
 
-    pub leaf-slot : (seenCount r (objectsIs ot (slotsIs st (hotIs hot l))) ≡ slotIn x (refAt x (64 - d)) o done (mem s l)) × OutIndex (length p) (seenCount r (objectsIs ot (slotsIs st (hotIs hot l)))) sc
-    leaf-slot =
-        (slot-got x d o done (mem s l) read is-placed, count-index (length p) m₁ sc sc refl (g .index .linked) r (objectsIs ot (slotsIs st (hotIs hot l))) is-placed (placeItem-ground x o done (stands .value) m₁) (index (take (length p) sc) (g .index .pending)))
+    is-kept : got (done + s .skip + leaf .width) (mem (stepped leaf s) l₁) ≡ placeItem x o done (stands .value) m₁
+    is-kept =
+        let es : st ≡ written (l .slots) (s .slots) (slotRow o ((done + s .skip) / w) (triple (leaf .kind) (leaf .a) (leaf .b)) 0) = rw (← ei) (placed .slot some) in
+        let k = leaf-kept x o done s (hotIs (ring (leaf .enters) (leaf .a) (l .hot)) l) leaf (stands .value) (sym ew) (stands .fields) (stands .width ∙ ap (λ (k : ℕ). widthOf k (stands .value)) (sym ew)) (stands .waits) (placed .roomy some) es (placed .count some) in
+        let k₁ : got (done + s .skip + leaf .width) (mem (stepped leaf s) l₁) ≡ keepItem x o done (stands .value) m₁ = rw (placed .rings some) k in
+        k₁ ∙ stands .kept o done m₁
+
+    pub leaf-item : got (done + s .skip + leaf .width) (mem (stepped leaf s) l₁) ≡ slotIn x (refAt x (64 - d)) o done (mem s l)
+    leaf-item = slot-got x d o done (mem s l) read is-kept
+
+    pub leaf-index : Index (length p) (table st (s .slots + 1)) (table (l .addresses) (s .addresses)) sc
+    leaf-index = record { pending = rw (placed .slot some) (indexed-plain (l .slots) (s .slots) o index (triple (leaf .kind) (leaf .a) (leaf .b)) 0 (placed .roomy some) refl (take (length p) sc) (g .index .pending)); linked = g .index .linked }
+
+-- where none was placed, what holds at the head of the loop holds still
+pub unplaced : {x : Input} {h : List ℕ} {d o tag n : ℕ} {m₀ : Mem} {done : ℕ} (s : State) (l : Lent) {sc : List ℕ} {k index : ℕ} {r : Leaf} {ot st hot : List ℕ} → Placed k o index r (l .objects) (l .slots) (l .hot) ot st hot → r .kind ≡ 0 → Loop x h d o tag n m₀ done (mem s l) sc → Loop x h d o tag n m₀ done (mem s (objectsIs ot (slotsIs st (hotIs hot l)))) sc
+unplaced s l q e w = let z = q .none e in rw (z .0, z .1, z .2) w

@@ -218,7 +218,7 @@ fn parse_map(
     }
 }
 
-// The items of object o after its map, until they fill its n bytes; its head stands at `at`.
+// The items of object o after its map, until they fill its n bytes; its head stands at `at`. The commonest need no call of the cycle.
 fn parse_items(
     v: &[u16],
     h: &[u16; 512],
@@ -253,14 +253,25 @@ fn parse_items(
             t.at = next + 1;
             done = n;
         } else {
-            let item = parse_slot(v, h, tr, p, ot, st, vt, dt, hr, c, u, sc, k, t, d, o, done);
-            match item {
-                Count::Refused(m, q, y) => {
-                    return Step::Refused(m, q, y);
-                }
-                Count::Is(read, y) => {
-                    t = y;
-                    done = read;
+            let start = done + t.skip;
+            let count = t.objects;
+            let i = t.slots;
+            let leaf = place_leaf(h, p, ot, st, hr, next, count, i, o, start / word, word, d);
+            if leaf.kind != 0 {
+                t.at = leaf.next;
+                t.slots = i + 1;
+                t.skip = 0;
+                done = start + leaf.width;
+            } else {
+                let item = parse_slot(v, h, tr, p, ot, st, vt, dt, hr, c, u, sc, k, t, d, o, done);
+                match item {
+                    Count::Refused(m, q, y) => {
+                        return Step::Refused(m, q, y);
+                    }
+                    Count::Is(read, y) => {
+                        t = y;
+                        done = read;
+                    }
                 }
             }
         }
@@ -272,8 +283,7 @@ fn parse_items(
     }
 }
 
-// An item of object o, `done` bytes of which have been read: the bytes read then. The commonest items need no call of the cycle; what a
-// reference at the last level would be is left to it.
+// An item of object o, `done` bytes of which have been read: the bytes read then.
 fn parse_slot(
     v: &[u16],
     h: &[u16; 512],
@@ -299,13 +309,6 @@ fn parse_slot(
     ensures index { λ r. ⌜ OutIndex (length (now (p .entry))) (seenCount r (lent (now (ot .exit)) (now (st .exit)) (now (vt .exit)) (now (dt .exit)) (now (hr .exit)) (now (c .exit)) (now (u .exit)))) (now (sc .exit)) ⌝ }
 {
     let word = word_bytes(v);
-    let at = s.at;
-    if d < 64 {
-        let leaf = leaf_at(h, p, hr, at, s.objects, word);
-        if leaf.kind != 0 {
-            return place_leaf(ot, st, hr, s, o, done, leaf, word);
-        }
-    }
     match parse_ref(v, h, tr, p, ot, st, vt, dt, hr, c, u, sc, k, s, d + 1) {
         Step::Refused(n, q, t) => Count::Refused(n, q, t),
         Step::Got(x, t) => place_item(ot, st, vt, sc, p.len(), t, o, done, x, word),

@@ -50,13 +50,13 @@ use Rattle.walker.proofs.walk.+parse_inner+parse_items+parse_map+parse_
 use Rattle.walker.proofs.walk.+parse_inner+parse_items+parse_map+parse_object+parse_ref+parse_slot.Tie.{
   close,
 }
-use Rattle.walker.proofs.walk.+parse_inner+parse_items+parse_map+parse_object+parse_ref+parse_slot.Proof.Common.{μ-parse-inner, parse-inner-at, parse-inner-below, μ-parse-items, μ-parse-map, μ-parse-object, μ-parse-ref, μ-parse-slot, parse-items-at, parse-items-below, parse-map-at, parse-map-below, parse-object-at, parse-object-below, parse-ref-at, parse-ref-below, parse-slot-at, parse-slot-below, parse-items-Inv-loop, parse-items-μ-loop}
+use Rattle.walker.proofs.walk.+parse_inner+parse_items+parse_map+parse_object+parse_ref+parse_slot.Proof.Common.{μ-parse-inner, μ-parse-items, μ-parse-map, μ-parse-object, μ-parse-ref, μ-parse-slot, parse-inner-at, parse-inner-below, parse-items-at, parse-items-below, parse-map-at, parse-map-below, parse-object-at, parse-object-below, parse-ref-at, parse-ref-below, parse-slot-at, parse-slot-below, parse-items-Inv-loop, parse-items-μ-loop}
 use Rattle.walker.proofs.walk.+parse_inner+parse_items+parse_map+parse_object+parse_ref+parse_slot.Proof.Inner.{parse-inner-word-bytes-requires, parse-inner-leaf-at-requires, parse-inner-take-leaf-requires, parse-inner-returns, parse-inner-add-parse-ref, parse-inner-parse-ref-requires, parse-inner-same-length, parse-inner-same-length-2, parse-inner-same-length-3, parse-inner-same-length-4, parse-inner-same-length-5, parse-inner-returns-2}
-use Rattle.walker.proofs.walk.+parse_inner+parse_items+parse_map+parse_object+parse_ref+parse_slot.Proof.Items.{parse-items-word-bytes-requires, parse-items-loop-holds, parse-items-peek-requires, parse-items-is-tag-requires, parse-items-add-t, parse-items-loop-less, parse-items-loop-again, parse-items-parse-slot-requires, parse-items-enum-known-item, parse-items-same-length, parse-items-same-length-2, parse-items-same-length-3, parse-items-same-length-4, parse-items-same-length-5, parse-items-returns, parse-items-enum-known-item-2, parse-items-loop-less-2, parse-items-loop-again-2, parse-items-same-length-6, parse-items-same-length-7, parse-items-same-length-8, parse-items-same-length-9, parse-items-same-length-10, parse-items-returns-2, parse-items-same-length-11, parse-items-same-length-12, parse-items-same-length-13, parse-items-same-length-14, parse-items-same-length-15, parse-items-returns-3}
+use Rattle.walker.proofs.walk.+parse_inner+parse_items+parse_map+parse_object+parse_ref+parse_slot.Proof.Items.{parse-items-word-bytes-requires, parse-items-loop-holds, parse-items-peek-requires, parse-items-is-tag-requires, parse-items-add-t, parse-items-loop-less, parse-items-loop-again, parse-items-add-start, parse-items-div-place-leaf, parse-items-place-leaf-requires, parse-items-add-t-2, parse-items-add-done, parse-items-loop-less-2, parse-items-loop-again-2, parse-items-parse-slot-requires, parse-items-enum-known-item, parse-items-same-length, parse-items-same-length-2, parse-items-same-length-3, parse-items-same-length-4, parse-items-same-length-5, parse-items-returns, parse-items-enum-known-item-2, parse-items-loop-less-3, parse-items-loop-again-3, parse-items-same-length-6, parse-items-same-length-7, parse-items-same-length-8, parse-items-same-length-9, parse-items-same-length-10, parse-items-returns-2, parse-items-same-length-11, parse-items-same-length-12, parse-items-same-length-13, parse-items-same-length-14, parse-items-same-length-15, parse-items-returns-3}
 use Rattle.walker.proofs.walk.+parse_inner+parse_items+parse_map+parse_object+parse_ref+parse_slot.Proof.Map.{parse-map-parse-inner-requires, parse-map-enum-known-m, parse-map-enum-known-x, parse-map-after-map-requires, parse-map-enum-known-m-2, parse-map-enum-known-y, parse-map-keep-map-requires, parse-map-enum-known-m-3, parse-map-enum-known-w, parse-map-resolves-requires, parse-map-same-length, parse-map-same-length-2, parse-map-same-length-3, parse-map-same-length-4, parse-map-same-length-5, parse-map-returns, parse-map-same-length-6, parse-map-same-length-7, parse-map-same-length-8, parse-map-same-length-9, parse-map-same-length-10, parse-map-returns-2, parse-map-same-length-11, parse-map-same-length-12, parse-map-same-length-13, parse-map-same-length-14, parse-map-same-length-15, parse-map-returns-3, parse-map-same-length-16, parse-map-same-length-17, parse-map-same-length-18, parse-map-same-length-19, parse-map-same-length-20, parse-map-returns-4}
 use Rattle.walker.proofs.walk.+parse_inner+parse_items+parse_map+parse_object+parse_ref+parse_slot.Proof.Object.{parse-object-open-object-requires, parse-object-enum-known-m, parse-object-enum-known-words, parse-object-word-bytes-requires, parse-object-mul-n, parse-object-parse-map-requires, parse-object-enum-known-map, parse-object-enum-known-map-2, parse-object-parse-items-requires, parse-object-same-length, parse-object-returns, parse-object-same-length-2, parse-object-same-length-3, parse-object-same-length-4, parse-object-same-length-5, parse-object-same-length-6, parse-object-returns-2, parse-object-same-length-7, parse-object-same-length-8, parse-object-same-length-9, parse-object-same-length-10, parse-object-same-length-11, parse-object-returns-3}
-use Rattle.walker.proofs.walk.+parse_inner+parse_items+parse_map+parse_object+parse_ref+parse_slot.Proof.Reference.{parse-ref-returns, parse-ref-returns-2, parse-ref-byte-requires, parse-ref-mul-kind, parse-ref-element-copy-out-kind, parse-ref-cast-kind, parse-ref-add-a, parse-ref-mul-a, parse-ref-element-copy-out-a, parse-ref-cast-a, parse-ref-add-t, parse-ref-parse-object-requires, parse-ref-same-length, parse-ref-same-length-2, parse-ref-same-length-3, parse-ref-same-length-4, parse-ref-same-length-5, parse-ref-returns-3, parse-ref-begin-requires, parse-ref-enum-told, parse-ref-simple-ref-requires, parse-ref-enum-known-n, parse-ref-enum-known-held, parse-ref-hold-requires, parse-ref-enum-known-held-2, parse-ref-parse-inner-requires, parse-ref-enum-known-inner, parse-ref-enum-known-inner-2, parse-ref-hold-requires-2, parse-ref-same-length-6, parse-ref-returns-4, parse-ref-returns-5, parse-ref-same-length-7, parse-ref-returns-6, parse-ref-same-length-8, parse-ref-same-length-9, parse-ref-same-length-10, parse-ref-same-length-11, parse-ref-same-length-12, parse-ref-returns-7, parse-ref-same-length-13, parse-ref-same-length-14, parse-ref-same-length-15, parse-ref-same-length-16, parse-ref-same-length-17, parse-ref-same-length-18, parse-ref-returns-8}
-use Rattle.walker.proofs.walk.+parse_inner+parse_items+parse_map+parse_object+parse_ref+parse_slot.Proof.Slot.{parse-slot-word-bytes-requires, parse-slot-leaf-at-requires, parse-slot-place-leaf-requires, parse-slot-same-length, parse-slot-same-length-2, parse-slot-returns, parse-slot-add-parse-ref, parse-slot-parse-ref-requires, parse-slot-enum-known-n, parse-slot-enum-known-x, parse-slot-place-item-requires, parse-slot-same-length-3, parse-slot-same-length-4, parse-slot-same-length-5, parse-slot-same-length-6, parse-slot-same-length-7, parse-slot-returns-2, parse-slot-same-length-8, parse-slot-same-length-9, parse-slot-same-length-10, parse-slot-same-length-11, parse-slot-same-length-12, parse-slot-returns-3}
+use Rattle.walker.proofs.walk.+parse_inner+parse_items+parse_map+parse_object+parse_ref+parse_slot.Proof.Reference.{parse-ref-returns, parse-ref-returns-2, parse-ref-byte-requires, parse-ref-mul-kind, parse-ref-element-copy-out-kind, parse-ref-cast-kind, parse-ref-add-a, parse-ref-mul-a, parse-ref-element-copy-out-a, parse-ref-cast-a, parse-ref-add-t, parse-ref-parse-object-requires, parse-ref-same-length, parse-ref-same-length-2, parse-ref-same-length-3, parse-ref-same-length-4, parse-ref-same-length-5, parse-ref-returns-3, parse-ref-begin-requires, parse-ref-enum-told, parse-ref-simple-ref-requires, parse-ref-enum-known-n, parse-ref-enum-known-held, parse-ref-hold-requires, parse-ref-enum-known-held-2, parse-ref-parse-inner-requires, parse-ref-enum-known-inner, parse-ref-enum-known-inner-2, parse-ref-hold-requires-2, parse-ref-same-length-6, parse-ref-same-length-7, parse-ref-returns-4, parse-ref-returns-5, parse-ref-same-length-8, parse-ref-returns-6, parse-ref-same-length-9, parse-ref-same-length-10, parse-ref-same-length-11, parse-ref-same-length-12, parse-ref-same-length-13, parse-ref-returns-7, parse-ref-same-length-14, parse-ref-same-length-15, parse-ref-same-length-16, parse-ref-same-length-17, parse-ref-same-length-18, parse-ref-returns-8}
+use Rattle.walker.proofs.walk.+parse_inner+parse_items+parse_map+parse_object+parse_ref+parse_slot.Proof.Slot.{parse-slot-word-bytes-requires, parse-slot-add-parse-ref, parse-slot-parse-ref-requires, parse-slot-enum-known-n, parse-slot-enum-known-x, parse-slot-place-item-requires, parse-slot-same-length, parse-slot-same-length-2, parse-slot-same-length-3, parse-slot-same-length-4, parse-slot-same-length-5, parse-slot-returns, parse-slot-same-length-6, parse-slot-same-length-7, parse-slot-same-length-8, parse-slot-same-length-9, parse-slot-same-length-10, parse-slot-returns-2}
 
 pub +parse-inner+parse-items+parse-map+parse-object+parse-ref+parse-slot-spec : {M : Type 1} → statement M
 +parse-inner+parse-items+parse-map+parse-object+parse-ref+parse-slot-spec =
@@ -98,6 +98,8 @@ pub +parse-inner+parse-items+parse-map+parse-object+parse-ref+parse-slot-spec : 
       peek-reads.Learnt,
       is-tag-reads.Asked,
       is-tag-reads.Learnt,
+      place-leaf-reads.Asked,
+      place-leaf-reads.Learnt,
       parse-slot-below t,
       parse-slot.Post,
     )
@@ -112,6 +114,13 @@ pub +parse-inner+parse-items+parse-map+parse-object+parse-ref+parse-slot-spec : 
     (parse-items-add-t t)
     (parse-items-loop-less t)
     (parse-items-loop-again t)
+    (parse-items-add-start t)
+    (parse-items-div-place-leaf t)
+    (parse-items-place-leaf-requires t)
+    (parse-items-add-t-2 t)
+    (parse-items-add-done t)
+    (parse-items-loop-less-2 t)
+    (parse-items-loop-again-2 t)
     (parse-items-parse-slot-requires t)
     (parse-items-enum-known-item t)
     (parse-items-same-length t)
@@ -121,8 +130,8 @@ pub +parse-inner+parse-items+parse-map+parse-object+parse-ref+parse-slot-spec : 
     (parse-items-same-length-5 t)
     (parse-items-returns t)
     (parse-items-enum-known-item-2 t)
-    (parse-items-loop-less-2 t)
-    (parse-items-loop-again-2 t)
+    (parse-items-loop-less-3 t)
+    (parse-items-loop-again-3 t)
     (parse-items-same-length-6 t)
     (parse-items-same-length-7 t)
     (parse-items-same-length-8 t)
@@ -282,10 +291,6 @@ pub +parse-inner+parse-items+parse-map+parse-object+parse-ref+parse-slot-spec : 
     λ t. parse-slot-lts.spec (
       word-bytes-reads.Asked,
       word-bytes-reads.Learnt,
-      leaf-at-reads.Asked,
-      leaf-at-reads.Learnt,
-      place-leaf-reads.Asked,
-      place-leaf-reads.Learnt,
       parse-ref-below t,
       parse-ref.Post,
       place-item-reads.Asked,
@@ -294,25 +299,20 @@ pub +parse-inner+parse-items+parse-map+parse-object+parse-ref+parse-slot-spec : 
     (parse-slot-at t)
     parse-slot.Post
     (parse-slot-word-bytes-requires t)
-    (parse-slot-leaf-at-requires t)
-    (parse-slot-place-leaf-requires t)
-    (parse-slot-same-length t)
-    (parse-slot-same-length-2 t)
-    (parse-slot-returns t)
     (parse-slot-add-parse-ref t)
     (parse-slot-parse-ref-requires t)
     (parse-slot-enum-known-n t)
     (parse-slot-enum-known-x t)
     (parse-slot-place-item-requires t)
+    (parse-slot-same-length t)
+    (parse-slot-same-length-2 t)
     (parse-slot-same-length-3 t)
     (parse-slot-same-length-4 t)
     (parse-slot-same-length-5 t)
+    (parse-slot-returns t)
     (parse-slot-same-length-6 t)
     (parse-slot-same-length-7 t)
-    (parse-slot-returns-2 t)
     (parse-slot-same-length-8 t)
     (parse-slot-same-length-9 t)
     (parse-slot-same-length-10 t)
-    (parse-slot-same-length-11 t)
-    (parse-slot-same-length-12 t)
-    (parse-slot-returns-3 t)
+    (parse-slot-returns-2 t)

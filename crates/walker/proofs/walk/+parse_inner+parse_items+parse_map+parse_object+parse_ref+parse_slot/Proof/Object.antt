@@ -16,6 +16,7 @@ use Rattle.readers.proofs.head.open_object.Reads as open-object-reads
 use Rattle.sheet.proofs.numbers.word_bytes.Reads as word-bytes-reads
 use Rattle.walker.proofs.walk.+parse_inner+parse_items+parse_map+parse_object+parse_ref+parse_slot.Proof.Common.{parse-items-below, parse-map-below, parse-object-at}
 
+-- src/walk.rt:150:11
 pub parse-object-open-object-requires : (t : ℕ) → parse-object-lts.Need-open-object-requires (
   open-object-reads.Asked,
   open-object-reads.Learnt,
@@ -28,6 +29,7 @@ pub parse-object-open-object-requires : (t : ℕ) → parse-object-lts.Need-open
 ) (parse-object-at t) parse-object.Post
 parse-object-open-object-requires t c κs = c .before .before .before .before .before .before .before .before .before .pre .1 .0 .proper .sheet-usable
 
+-- src/walk.rt:151:24
 pub parse-object-enum-known-m : (t : ℕ) → parse-object-lts.Need-enum-known-m (
   open-object-reads.Asked,
   open-object-reads.Learnt,
@@ -40,6 +42,7 @@ pub parse-object-enum-known-m : (t : ℕ) → parse-object-lts.Need-enum-known-m
 ) (parse-object-at t) parse-object.Post
 parse-object-enum-known-m t c = search needs
 
+-- src/walk.rt:152:19
 pub parse-object-enum-known-words : (t : ℕ) → parse-object-lts.Need-enum-known-words (
   open-object-reads.Asked,
   open-object-reads.Learnt,
@@ -52,6 +55,7 @@ pub parse-object-enum-known-words : (t : ℕ) → parse-object-lts.Need-enum-kno
 ) (parse-object-at t) parse-object.Post
 parse-object-enum-known-words t c = search needs
 
+-- src/walk.rt:153:29
 pub parse-object-word-bytes-requires : (t : ℕ) → parse-object-lts.Need-word-bytes-requires (
   open-object-reads.Asked,
   open-object-reads.Learnt,
@@ -64,6 +68,7 @@ pub parse-object-word-bytes-requires : (t : ℕ) → parse-object-lts.Need-word-
 ) (parse-object-at t) parse-object.Post
 parse-object-word-bytes-requires t c κs = tt
 
+-- src/walk.rt:153:21
 pub parse-object-mul-n : (t : ℕ) → parse-object-lts.Need-mul-n (
   open-object-reads.Asked,
   open-object-reads.Learnt,
@@ -79,6 +84,7 @@ parse-object-mul-n t c =
     let b = bytes-small _ (g .0 .proper .sheet-usable) (c .word-bytes .ensures .0) (count-below (2 ^ 30) (c .before .before .words .given .1) (c .before .before .before .before .before .before .open-object .ensures .1)) in
     omega (arith, b)
 
+-- src/walk.rt:154:17
 pub parse-object-parse-map-requires : (t : ℕ) → parse-object-lts.Need-parse-map-requires (
   open-object-reads.Asked,
   open-object-reads.Learnt,
@@ -97,6 +103,7 @@ parse-object-parse-map-requires t c κs =
     let q = opened-ready (g .0) (a .a) (a .at) e in
     (omega (arith, c .before .before .before .before .before .before .before .before .before .before .before .before .before .before .before .before .before .before .before .before .before .before .before .before .pre .0), (q .0, (g .1 .0, g .1 .1, b, q .1, bytes-whole _ (c .before .before .before .before .before .before .before .before .word-bytes .ensures .0))))
 
+-- src/walk.rt:156:31
 pub parse-object-enum-known-map : (t : ℕ) → parse-object-lts.Need-enum-known-map (
   open-object-reads.Asked,
   open-object-reads.Learnt,
@@ -109,6 +116,7 @@ pub parse-object-enum-known-map : (t : ℕ) → parse-object-lts.Need-enum-known
 ) (parse-object-at t) parse-object.Post
 parse-object-enum-known-map t c = search needs
 
+-- src/walk.rt:157:26
 pub parse-object-enum-known-map-2 : (t : ℕ) → parse-object-lts.Need-enum-known-map-2 (
   open-object-reads.Asked,
   open-object-reads.Learnt,
@@ -121,6 +129,7 @@ pub parse-object-enum-known-map-2 : (t : ℕ) → parse-object-lts.Need-enum-kno
 ) (parse-object-at t) parse-object.Post
 parse-object-enum-known-map-2 t c = search needs
 
+-- src/walk.rt:157:32
 pub parse-object-parse-items-requires : (t : ℕ) → parse-object-lts.Need-parse-items-requires (
   open-object-reads.Asked,
   open-object-reads.Learnt,
@@ -142,6 +151,7 @@ parse-object-parse-items-requires t c κs =
       let r = mapped-ready (q .0) (64 - a .d) (a .a) _ _ (q .1) (g .1 .1) (bytes-whole _ (c .before .before .before .before .before .before .before .before .before .before .before .before .before .before .before .before .before .before .before .before .before .before .before .before .before .before .before .before .before .before .word-bytes .ensures .0)) f (out-index _ (went-on (lent _ _ _ _ _ _ _) (c .before .before .before .before .before .before .before .before .before .map2 .given .1) refl) (c .before .before .before .before .before .before .before .before .before .before .before .before .before .before .before .before .before .before .before .before .before .parse-map .ensures .1)) in (r .0, (g .1 .0, b, r .1, r .2)),
     )
 
+-- src/walk.rt:125:1
 pub parse-object-same-length : (t : ℕ) → parse-object-lts.Need-same-length (
   open-object-reads.Asked,
   open-object-reads.Learnt,
@@ -154,6 +164,7 @@ pub parse-object-same-length : (t : ℕ) → parse-object-lts.Need-same-length (
 ) (parse-object-at t) parse-object.Post
 parse-object-same-length t c = search needs
 
+-- src/walk.rt:125:1
 pub parse-object-returns : (t : ℕ) → parse-object-lts.Need-returns (
   open-object-reads.Asked,
   open-object-reads.Learnt,
@@ -168,6 +179,7 @@ parse-object-returns t c =
     let a = c .before .before .before .before .before .before .before .before .before .before .before .before .before .before .before .args in
     (object-cut _ _ (a .a) (a .at) _ (count-no (lent _ _ _ _ _ _ _) (c .before .m .given .1) (c .before .before .before .before .before .open-object .ensures .0 _ _ (lent [] _ _ _ _ _ _))), tt)
 
+-- src/walk.rt:125:1
 pub parse-object-same-length-2 : (t : ℕ) → parse-object-lts.Need-same-length-2 (
   open-object-reads.Asked,
   open-object-reads.Learnt,
@@ -180,6 +192,7 @@ pub parse-object-same-length-2 : (t : ℕ) → parse-object-lts.Need-same-length
 ) (parse-object-at t) parse-object.Post
 parse-object-same-length-2 t c = c .before .before .before .before .before .before .before .before .before .before .before .before .before .parse-map .kept .1 .1 .1 .1 .0 ∙ c .before .before .before .before .before .before .before .before .before .before .before .before .before .before .before .before .before .before .before .before .before .before .before .before .before .before .before .before .open-object .kept .1 .1 .0
 
+-- src/walk.rt:125:1
 pub parse-object-same-length-3 : (t : ℕ) → parse-object-lts.Need-same-length-3 (
   open-object-reads.Asked,
   open-object-reads.Learnt,
@@ -192,6 +205,7 @@ pub parse-object-same-length-3 : (t : ℕ) → parse-object-lts.Need-same-length
 ) (parse-object-at t) parse-object.Post
 parse-object-same-length-3 t c = search needs
 
+-- src/walk.rt:125:1
 pub parse-object-same-length-4 : (t : ℕ) → parse-object-lts.Need-same-length-4 (
   open-object-reads.Asked,
   open-object-reads.Learnt,
@@ -204,6 +218,7 @@ pub parse-object-same-length-4 : (t : ℕ) → parse-object-lts.Need-same-length
 ) (parse-object-at t) parse-object.Post
 parse-object-same-length-4 t c = search needs
 
+-- src/walk.rt:125:1
 pub parse-object-same-length-5 : (t : ℕ) → parse-object-lts.Need-same-length-5 (
   open-object-reads.Asked,
   open-object-reads.Learnt,
@@ -216,6 +231,7 @@ pub parse-object-same-length-5 : (t : ℕ) → parse-object-lts.Need-same-length
 ) (parse-object-at t) parse-object.Post
 parse-object-same-length-5 t c = search needs
 
+-- src/walk.rt:125:1
 pub parse-object-same-length-6 : (t : ℕ) → parse-object-lts.Need-same-length-6 (
   open-object-reads.Asked,
   open-object-reads.Learnt,
@@ -228,6 +244,7 @@ pub parse-object-same-length-6 : (t : ℕ) → parse-object-lts.Need-same-length
 ) (parse-object-at t) parse-object.Post
 parse-object-same-length-6 t c = search needs
 
+-- src/walk.rt:125:1
 pub parse-object-returns-2 : (t : ℕ) → parse-object-lts.Need-returns-2 (
   open-object-reads.Asked,
   open-object-reads.Learnt,
@@ -243,6 +260,7 @@ parse-object-returns-2 t c =
     let e = count-is (lent _ _ _ _ _ _ _) (c .before .before .before .before .before .before .before .before .before .before .before .before .before .before .before .before .before .before .before .before .before .before .before .before .words .given .1) (c .before .before .before .before .before .before .before .before .before .before .before .before .before .before .before .before .before .before .before .before .before .before .before .before .before .before .before .before .open-object .ensures .0 _ _ (lent [] _ _ _ _ _ _)) in
     (object-bad _ _ (a .a) (a .at) _ e (ap (λ (w : ℕ). c .before .before .before .before .before .before .before .before .before .before .before .before .before .before .before .before .before .before .before .before .before .before .before .before .words .given .0 .0 * w) (c .before .before .before .before .before .before .before .before .before .before .before .before .before .before .before .before .before .before .before .before .before .before .word-bytes .ensures .0)) (went-no (lent _ _ _ _ _ _ _) (c .before .map .given .1) (c .before .before .before .before .before .before .before .before .before .before .before .before .before .parse-map .ensures .0)), tt)
 
+-- src/walk.rt:125:1
 pub parse-object-same-length-7 : (t : ℕ) → parse-object-lts.Need-same-length-7 (
   open-object-reads.Asked,
   open-object-reads.Learnt,
@@ -255,6 +273,7 @@ pub parse-object-same-length-7 : (t : ℕ) → parse-object-lts.Need-same-length
 ) (parse-object-at t) parse-object.Post
 parse-object-same-length-7 t c = c .before .before .before .before .before .before .before .before .before .before .parse-items .kept .1 .1 .1 .1 .0 ∙ c .before .before .before .before .before .before .before .before .before .before .before .before .before .before .before .before .before .before .before .before .before .before .before .before .before .before .before .before .before .before .before .before .parse-map .kept .1 .1 .1 .1 .0 ∙ c .before .before .before .before .before .before .before .before .before .before .before .before .before .before .before .before .before .before .before .before .before .before .before .before .before .before .before .before .before .before .before .before .before .before .before .before .before .before .before .before .before .before .before .before .before .before .before .open-object .kept .1 .1 .0
 
+-- src/walk.rt:125:1
 pub parse-object-same-length-8 : (t : ℕ) → parse-object-lts.Need-same-length-8 (
   open-object-reads.Asked,
   open-object-reads.Learnt,
@@ -267,6 +286,7 @@ pub parse-object-same-length-8 : (t : ℕ) → parse-object-lts.Need-same-length
 ) (parse-object-at t) parse-object.Post
 parse-object-same-length-8 t c = c .before .before .before .before .before .before .before .before .before .before .parse-items .kept .1 .1 .1 .1 .1 .0 ∙ c .before .before .before .before .before .before .before .before .before .before .before .before .before .before .before .before .before .before .before .before .before .before .before .before .before .before .before .before .before .before .before .before .parse-map .kept .1 .1 .1 .1 .1 .0
 
+-- src/walk.rt:125:1
 pub parse-object-same-length-9 : (t : ℕ) → parse-object-lts.Need-same-length-9 (
   open-object-reads.Asked,
   open-object-reads.Learnt,
@@ -279,6 +299,7 @@ pub parse-object-same-length-9 : (t : ℕ) → parse-object-lts.Need-same-length
 ) (parse-object-at t) parse-object.Post
 parse-object-same-length-9 t c = c .before .before .before .before .before .before .before .before .before .before .parse-items .kept .1 .1 .1 .1 .1 .1 .0 ∙ c .before .before .before .before .before .before .before .before .before .before .before .before .before .before .before .before .before .before .before .before .before .before .before .before .before .before .before .before .before .before .before .before .parse-map .kept .1 .1 .1 .1 .1 .1 .0
 
+-- src/walk.rt:125:1
 pub parse-object-same-length-10 : (t : ℕ) → parse-object-lts.Need-same-length-10 (
   open-object-reads.Asked,
   open-object-reads.Learnt,
@@ -291,6 +312,7 @@ pub parse-object-same-length-10 : (t : ℕ) → parse-object-lts.Need-same-lengt
 ) (parse-object-at t) parse-object.Post
 parse-object-same-length-10 t c = c .before .before .before .before .before .before .before .before .before .before .parse-items .kept .1 .1 .1 .1 .1 .1 .1 .0 ∙ c .before .before .before .before .before .before .before .before .before .before .before .before .before .before .before .before .before .before .before .before .before .before .before .before .before .before .before .before .before .before .before .before .parse-map .kept .1 .1 .1 .1 .1 .1 .1 .0
 
+-- src/walk.rt:125:1
 pub parse-object-same-length-11 : (t : ℕ) → parse-object-lts.Need-same-length-11 (
   open-object-reads.Asked,
   open-object-reads.Learnt,
@@ -303,6 +325,7 @@ pub parse-object-same-length-11 : (t : ℕ) → parse-object-lts.Need-same-lengt
 ) (parse-object-at t) parse-object.Post
 parse-object-same-length-11 t c = c .before .before .before .before .before .before .before .before .before .before .parse-items .kept .1 .1 .1 .1 .1 .1 .1 .1 .1 .1 .1 .0 ∙ c .before .before .before .before .before .before .before .before .before .before .before .before .before .before .before .before .before .before .before .before .before .before .before .before .before .before .before .before .before .before .before .before .parse-map .kept .1 .1 .1 .1 .1 .1 .1 .1 .1 .1 .1 .0
 
+-- src/walk.rt:125:1
 pub parse-object-returns-3 : (t : ℕ) → parse-object-lts.Need-returns-3 (
   open-object-reads.Asked,
   open-object-reads.Learnt,

@@ -16,17 +16,13 @@ use Rattle.readers.proofs.ViewLaws.{seen-got, seen-no}
 use Rattle.readers.specs.Views.{input}
 use Rattle.walker.proofs.GroundLaws.{placeItem-ground, count-index}
 use Rattle.walker.proofs.ReadyLaws.{out-index}
-use Rattle.walker.proofs.LeafLaws.{leaf-asks, leaf-fits, leaf-slot}
 use Rattle.walker.proofs.ItemsLaws.{slot-no, slot-got, place-asks}
 use Rattle.walker.proofs.walk.+parse_inner+parse_items+parse_map+parse_object+parse_ref+parse_slot.Proof.Common.{parse-ref-below, parse-slot-at}
 
+-- src/walk.rt:311:9
 pub parse-slot-word-bytes-requires : (t : ℕ) → parse-slot-lts.Need-word-bytes-requires (
   word-bytes-reads.Asked,
   word-bytes-reads.Learnt,
-  leaf-at-reads.Asked,
-  leaf-at-reads.Learnt,
-  place-leaf-reads.Asked,
-  place-leaf-reads.Learnt,
   parse-ref-below t,
   parse-ref.Post,
   place-item-reads.Asked,
@@ -34,111 +30,32 @@ pub parse-slot-word-bytes-requires : (t : ℕ) → parse-slot-lts.Need-word-byte
 ) (parse-slot-at t) parse-slot.Post
 parse-slot-word-bytes-requires t c κs = tt
 
-pub parse-slot-leaf-at-requires : (t : ℕ) → parse-slot-lts.Need-leaf-at-requires (
-  word-bytes-reads.Asked,
-  word-bytes-reads.Learnt,
-  leaf-at-reads.Asked,
-  leaf-at-reads.Learnt,
-  place-leaf-reads.Asked,
-  place-leaf-reads.Learnt,
-  parse-ref-below t,
-  parse-ref.Post,
-  place-item-reads.Asked,
-  place-item-reads.Learnt,
-) (parse-slot-at t) parse-slot.Post
-parse-slot-leaf-at-requires t c κs = leaf-asks (c .before .before .before .before .before .before .before .before .before .before .before .pre .1 .0) _ (c .before .before .word-bytes .ensures .0)
-
-pub parse-slot-place-leaf-requires : (t : ℕ) → parse-slot-lts.Need-place-leaf-requires (
-  word-bytes-reads.Asked,
-  word-bytes-reads.Learnt,
-  leaf-at-reads.Asked,
-  leaf-at-reads.Learnt,
-  place-leaf-reads.Asked,
-  place-leaf-reads.Learnt,
-  parse-ref-below t,
-  parse-ref.Post,
-  place-item-reads.Asked,
-  place-item-reads.Learnt,
-) (parse-slot-at t) parse-slot.Post
-parse-slot-place-leaf-requires t c κs = leaf-fits (c .before .before .before .before .before .before .before .before .before .before .before .before .before .before .before .before .before .args .v .now) (c .before .before .before .before .before .before .before .before .before .before .before .before .before .before .before .before .before .args .p .now) (c .before .before .before .before .before .before .before .before .before .before .before .before .before .before .before .before .before .args .k) (c .before .before .before .before .before .before .before .before .before .before .before .before .before .before .before .before .before .args .tr .now) (c .before .before .before .before .before .before .before .before .before .before .before .before .before .before .before .before .before .args .h .now) (c .before .before .before .before .before .before .before .before .before .before .before .before .before .before .before .before .before .args .sc .now) (c .before .before .before .before .before .before .before .before .before .before .before .before .before .before .before .before .before .args .s) (lent (c .before .before .before .before .before .before .before .before .before .before .before .before .before .before .before .before .before .args .ot .now) (c .before .before .before .before .before .before .before .before .before .before .before .before .before .before .before .before .before .args .st .now) (c .before .before .before .before .before .before .before .before .before .before .before .before .before .before .before .before .before .args .vt .now) (c .before .before .before .before .before .before .before .before .before .before .before .before .before .before .before .before .before .args .dt .now) (c .before .before .before .before .before .before .before .before .before .before .before .before .before .before .before .before .before .args .hr .now) (c .before .before .before .before .before .before .before .before .before .before .before .before .before .before .before .before .before .args .c .now) (c .before .before .before .before .before .before .before .before .before .before .before .before .before .before .before .before .before .args .u .now)) (c .before .before .before .before .before .before .before .before .before .before .before .before .before .before .before .before .before .pre .1 .0) (c .before .before .before .before .before .before .before .before .before .before .before .before .before .before .before .before .before .args .d) (c .before .before .before .before .before .before .before .if1 .taken) (c .before .before .before .before .before .leaf-at .result) (c .before .before .before .if2 .taken) (c .before .before .before .before .before .leaf-at .ensures .0) (c .before .before .before .before .before .before .before .before .word-bytes .result) (c .before .before .before .before .before .before .before .before .word-bytes .ensures .0) (c .before .before .before .before .before .leaf-at .ensures .1) (c .before .before .before .before .before .before .before .before .before .before .before .before .before .before .before .before .before .args .o) (c .before .before .before .before .before .before .before .before .before .before .before .before .before .before .before .before .before .args .done) (c .before .before .before .before .before .before .before .before .before .before .before .before .before .before .before .before .before .good .1 .1 .1 .1 .1 .0 .0) (c .before .before .before .before .before .before .before .before .before .before .before .before .before .before .before .before .before .pre .1 .1 .1)
-
-pub parse-slot-same-length : (t : ℕ) → parse-slot-lts.Need-same-length (
-  word-bytes-reads.Asked,
-  word-bytes-reads.Learnt,
-  leaf-at-reads.Asked,
-  leaf-at-reads.Learnt,
-  place-leaf-reads.Asked,
-  place-leaf-reads.Learnt,
-  parse-ref-below t,
-  parse-ref.Post,
-  place-item-reads.Asked,
-  place-item-reads.Learnt,
-) (parse-slot-at t) parse-slot.Post
-parse-slot-same-length t c = search needs
-
-pub parse-slot-same-length-2 : (t : ℕ) → parse-slot-lts.Need-same-length-2 (
-  word-bytes-reads.Asked,
-  word-bytes-reads.Learnt,
-  leaf-at-reads.Asked,
-  leaf-at-reads.Learnt,
-  place-leaf-reads.Asked,
-  place-leaf-reads.Learnt,
-  parse-ref-below t,
-  parse-ref.Post,
-  place-item-reads.Asked,
-  place-item-reads.Learnt,
-) (parse-slot-at t) parse-slot.Post
-parse-slot-same-length-2 t c = search needs
-
-pub parse-slot-returns : (t : ℕ) → parse-slot-lts.Need-returns (
-  word-bytes-reads.Asked,
-  word-bytes-reads.Learnt,
-  leaf-at-reads.Asked,
-  leaf-at-reads.Learnt,
-  place-leaf-reads.Asked,
-  place-leaf-reads.Learnt,
-  parse-ref-below t,
-  parse-ref.Post,
-  place-item-reads.Asked,
-  place-item-reads.Learnt,
-) (parse-slot-at t) parse-slot.Post
-parse-slot-returns t c = leaf-slot (c .before .before .before .before .before .before .before .before .before .before .before .before .before .before .before .before .before .before .before .before .before .before .args .v .now) (c .before .before .before .before .before .before .before .before .before .before .before .before .before .before .before .before .before .before .before .before .before .before .args .p .now) (c .before .before .before .before .before .before .before .before .before .before .before .before .before .before .before .before .before .before .before .before .before .before .args .k) (c .before .before .before .before .before .before .before .before .before .before .before .before .before .before .before .before .before .before .before .before .before .before .args .tr .now) (c .before .before .before .before .before .before .before .before .before .before .before .before .before .before .before .before .before .before .before .before .before .before .args .h .now) (c .before .before .before .before .before .before .before .before .before .before .before .before .before .before .before .before .before .before .before .before .before .before .args .sc .now) (c .before .before .before .before .before .before .before .before .before .before .before .before .before .before .before .before .before .before .before .before .before .before .args .s) (lent (c .before .before .before .before .before .before .before .before .before .before .before .before .before .before .before .before .before .before .before .before .before .before .args .ot .now) (c .before .before .before .before .before .before .before .before .before .before .before .before .before .before .before .before .before .before .before .before .before .before .args .st .now) (c .before .before .before .before .before .before .before .before .before .before .before .before .before .before .before .before .before .before .before .before .before .before .args .vt .now) (c .before .before .before .before .before .before .before .before .before .before .before .before .before .before .before .before .before .before .before .before .before .before .args .dt .now) (c .before .before .before .before .before .before .before .before .before .before .before .before .before .before .before .before .before .before .before .before .before .before .args .hr .now) (c .before .before .before .before .before .before .before .before .before .before .before .before .before .before .before .before .before .before .before .before .before .before .args .c .now) (c .before .before .before .before .before .before .before .before .before .before .before .before .before .before .before .before .before .before .before .before .before .before .args .u .now)) (c .before .before .before .before .before .before .before .before .before .before .before .before .before .before .before .before .before .before .before .before .before .before .pre .1 .0) (c .before .before .before .before .before .before .before .before .before .before .before .before .before .before .before .before .before .before .before .before .before .before .args .d) (c .before .before .before .before .before .before .before .before .before .before .before .before .if1 .taken) (c .before .before .before .before .before .before .before .before .before .before .leaf-at .result) (c .before .before .before .before .before .before .before .before .if2 .taken) (c .before .before .before .before .before .before .before .before .before .before .leaf-at .ensures .0) (c .before .before .before .before .before .before .before .before .before .before .before .before .before .word-bytes .result) (c .before .before .before .before .before .before .before .before .before .before .before .before .before .word-bytes .ensures .0) (c .before .before .before .before .before .before .before .before .before .before .leaf-at .ensures .1) (c .before .before .before .before .before .before .before .before .before .before .before .before .before .before .before .before .before .before .before .before .before .before .args .o) (c .before .before .before .before .before .before .before .before .before .before .before .before .before .before .before .before .before .before .before .before .before .before .args .done) (c .before .before .before .before .place-leaf .result) _ _ _ (c .before .before .before .before .place-leaf .ensures .0) (c .before .before .before .before .place-leaf .ensures .1)
-
+-- src/walk.rt:312:70
 pub parse-slot-add-parse-ref : (t : ℕ) → parse-slot-lts.Need-add-parse-ref (
   word-bytes-reads.Asked,
   word-bytes-reads.Learnt,
-  leaf-at-reads.Asked,
-  leaf-at-reads.Learnt,
-  place-leaf-reads.Asked,
-  place-leaf-reads.Learnt,
   parse-ref-below t,
   parse-ref.Post,
   place-item-reads.Asked,
   place-item-reads.Learnt,
 ) (parse-slot-at t) parse-slot.Post
-parse-slot-add-parse-ref t c = omega (arith, c .before .before .before .before .before .before .before .before .before .before .before .before .before .before .before .before .before .before .pre .1 .1 .0)
+parse-slot-add-parse-ref t c = omega (arith, c .before .before .before .before .before .before .before .before .before .before .before .before .before .before .before .before .before .pre .1 .1 .0)
 
+-- src/walk.rt:312:11
 pub parse-slot-parse-ref-requires : (t : ℕ) → parse-slot-lts.Need-parse-ref-requires (
   word-bytes-reads.Asked,
   word-bytes-reads.Learnt,
-  leaf-at-reads.Asked,
-  leaf-at-reads.Learnt,
-  place-leaf-reads.Asked,
-  place-leaf-reads.Learnt,
   parse-ref-below t,
   parse-ref.Post,
   place-item-reads.Asked,
   place-item-reads.Learnt,
 ) (parse-slot-at t) parse-slot.Post
-parse-slot-parse-ref-requires t c κs = (omega (arith, c .before .before .before .before .before .before .before .before .before .before .before .before .before .before .before .before .before .before .pre .0, c .before .before .before .before .before .before .before .before .before .before .before .before .before .before .before .before .before .before .pre .1 .1 .0), (c .before .before .before .before .before .before .before .before .before .before .before .before .before .before .before .before .before .before .pre .1 .0, omega (arith, c .before .before .before .before .before .before .before .before .before .before .before .before .before .before .before .before .before .before .pre .1 .1 .0)))
+parse-slot-parse-ref-requires t c κs = (omega (arith, c .before .before .before .before .before .before .before .before .before .before .before .before .before .before .before .before .before .pre .0, c .before .before .before .before .before .before .before .before .before .before .before .before .before .before .before .before .before .pre .1 .1 .0), (c .before .before .before .before .before .before .before .before .before .before .before .before .before .before .before .before .before .pre .1 .0, omega (arith, c .before .before .before .before .before .before .before .before .before .before .before .before .before .before .before .before .before .pre .1 .1 .0)))
 
+-- src/walk.rt:313:23
 pub parse-slot-enum-known-n : (t : ℕ) → parse-slot-lts.Need-enum-known-n (
   word-bytes-reads.Asked,
   word-bytes-reads.Learnt,
-  leaf-at-reads.Asked,
-  leaf-at-reads.Learnt,
-  place-leaf-reads.Asked,
-  place-leaf-reads.Learnt,
   parse-ref-below t,
   parse-ref.Post,
   place-item-reads.Asked,
@@ -146,13 +63,10 @@ pub parse-slot-enum-known-n : (t : ℕ) → parse-slot-lts.Need-enum-known-n (
 ) (parse-slot-at t) parse-slot.Post
 parse-slot-enum-known-n t c = search needs
 
+-- src/walk.rt:314:19
 pub parse-slot-enum-known-x : (t : ℕ) → parse-slot-lts.Need-enum-known-x (
   word-bytes-reads.Asked,
   word-bytes-reads.Learnt,
-  leaf-at-reads.Asked,
-  leaf-at-reads.Learnt,
-  place-leaf-reads.Asked,
-  place-leaf-reads.Learnt,
   parse-ref-below t,
   parse-ref.Post,
   place-item-reads.Asked,
@@ -160,187 +74,148 @@ pub parse-slot-enum-known-x : (t : ℕ) → parse-slot-lts.Need-enum-known-x (
 ) (parse-slot-at t) parse-slot.Post
 parse-slot-enum-known-x t c = search needs
 
+-- src/walk.rt:314:28
 pub parse-slot-place-item-requires : (t : ℕ) → parse-slot-lts.Need-place-item-requires (
   word-bytes-reads.Asked,
   word-bytes-reads.Learnt,
-  leaf-at-reads.Asked,
-  leaf-at-reads.Learnt,
-  place-leaf-reads.Asked,
-  place-leaf-reads.Learnt,
   parse-ref-below t,
   parse-ref.Post,
   place-item-reads.Asked,
   place-item-reads.Learnt,
 ) (parse-slot-at t) parse-slot.Post
-parse-slot-place-item-requires t c κs = let p = c .before .before .before .before .before .before .before .before .before .before .before .before .before .before .before .before .before .before .before .before .before .before .before .before .before .before .before .before .before .before .before .before .before .before .before .before .pre .1 in place-asks (p .0) _ _ _ (p .1 .2) (p .1 .3) (seen-got _ (c .before .before .before .before .before .x .given .1) (c .before .before .before .before .before .before .before .before .before .before .before .before .before .before .before .before .before .parse-ref .ensures .0)) (p .1 .1) (c .before .before .before .before .before .before .before .before .before .before .before .before .before .before .before .before .before .before .before .before .before .before .before .before .before .before .before .before .before .before .before .before .before .before .before .before .good .1 .1 .1 .1 .1 .0 .0) (out-index _ (seen-got (lent _ _ _ _ _ _ _) (c .before .before .before .before .before .x .given .1) refl) (c .before .before .before .before .before .before .before .before .before .before .before .before .before .before .before .before .before .parse-ref .ensures .1)) _ (c .before .before .before .before .before .before .before .before .before .before .before .before .before .before .before .before .before .before .before .before .before .before .before .before .before .before .before .word-bytes .ensures .0)
+parse-slot-place-item-requires t c κs = let p = c .before .before .before .before .before .before .before .before .before .before .before .before .before .before .before .before .before .before .before .before .before .before .before .before .before .before .before .before .before .before .before .before .before .before .before .pre .1 in place-asks (p .0) _ _ _ (p .1 .2) (p .1 .3) (seen-got _ (c .before .before .before .before .before .x .given .1) (c .before .before .before .before .before .before .before .before .before .before .before .before .before .before .before .before .before .parse-ref .ensures .0)) (p .1 .1) (c .before .before .before .before .before .before .before .before .before .before .before .before .before .before .before .before .before .before .before .before .before .before .before .before .before .before .before .before .before .before .before .before .before .before .before .good .1 .1 .1 .1 .1 .0 .0) (out-index _ (seen-got (lent _ _ _ _ _ _ _) (c .before .before .before .before .before .x .given .1) refl) (c .before .before .before .before .before .before .before .before .before .before .before .before .before .before .before .before .before .parse-ref .ensures .1)) _ (c .before .before .before .before .before .before .before .before .before .before .before .before .before .before .before .before .before .before .before .before .before .before .before .before .before .before .word-bytes .ensures .0)
 
+-- src/walk.rt:287:1
+pub parse-slot-same-length : (t : ℕ) → parse-slot-lts.Need-same-length (
+  word-bytes-reads.Asked,
+  word-bytes-reads.Learnt,
+  parse-ref-below t,
+  parse-ref.Post,
+  place-item-reads.Asked,
+  place-item-reads.Learnt,
+) (parse-slot-at t) parse-slot.Post
+parse-slot-same-length t c = c .before .before .before .before .before .before .before .before .before .before .before .before .before .parse-ref .kept .1 .1 .1 .1 .0
+
+-- src/walk.rt:287:1
+pub parse-slot-same-length-2 : (t : ℕ) → parse-slot-lts.Need-same-length-2 (
+  word-bytes-reads.Asked,
+  word-bytes-reads.Learnt,
+  parse-ref-below t,
+  parse-ref.Post,
+  place-item-reads.Asked,
+  place-item-reads.Learnt,
+) (parse-slot-at t) parse-slot.Post
+parse-slot-same-length-2 t c = c .before .before .before .before .before .before .before .before .before .before .before .before .before .parse-ref .kept .1 .1 .1 .1 .1 .0
+
+-- src/walk.rt:287:1
 pub parse-slot-same-length-3 : (t : ℕ) → parse-slot-lts.Need-same-length-3 (
   word-bytes-reads.Asked,
   word-bytes-reads.Learnt,
-  leaf-at-reads.Asked,
-  leaf-at-reads.Learnt,
-  place-leaf-reads.Asked,
-  place-leaf-reads.Learnt,
   parse-ref-below t,
   parse-ref.Post,
   place-item-reads.Asked,
   place-item-reads.Learnt,
 ) (parse-slot-at t) parse-slot.Post
-parse-slot-same-length-3 t c = c .before .before .before .before .before .before .before .before .before .before .before .before .before .parse-ref .kept .1 .1 .1 .1 .0
+parse-slot-same-length-3 t c = c .before .before .before .before .before .before .before .before .before .before .before .before .before .parse-ref .kept .1 .1 .1 .1 .1 .1 .0
 
+-- src/walk.rt:287:1
 pub parse-slot-same-length-4 : (t : ℕ) → parse-slot-lts.Need-same-length-4 (
   word-bytes-reads.Asked,
   word-bytes-reads.Learnt,
-  leaf-at-reads.Asked,
-  leaf-at-reads.Learnt,
-  place-leaf-reads.Asked,
-  place-leaf-reads.Learnt,
   parse-ref-below t,
   parse-ref.Post,
   place-item-reads.Asked,
   place-item-reads.Learnt,
 ) (parse-slot-at t) parse-slot.Post
-parse-slot-same-length-4 t c = c .before .before .before .before .before .before .before .before .before .before .before .before .before .parse-ref .kept .1 .1 .1 .1 .1 .0
+parse-slot-same-length-4 t c = c .before .before .before .before .before .before .before .before .before .before .before .before .before .parse-ref .kept .1 .1 .1 .1 .1 .1 .1 .0
 
+-- src/walk.rt:287:1
 pub parse-slot-same-length-5 : (t : ℕ) → parse-slot-lts.Need-same-length-5 (
   word-bytes-reads.Asked,
   word-bytes-reads.Learnt,
-  leaf-at-reads.Asked,
-  leaf-at-reads.Learnt,
-  place-leaf-reads.Asked,
-  place-leaf-reads.Learnt,
   parse-ref-below t,
   parse-ref.Post,
   place-item-reads.Asked,
   place-item-reads.Learnt,
 ) (parse-slot-at t) parse-slot.Post
-parse-slot-same-length-5 t c = c .before .before .before .before .before .before .before .before .before .before .before .before .before .parse-ref .kept .1 .1 .1 .1 .1 .1 .0
+parse-slot-same-length-5 t c = c .before .before .before .before .before .before .before .before .before .before .before .before .before .parse-ref .kept .1 .1 .1 .1 .1 .1 .1 .1 .1 .1 .1 .0
 
+-- src/walk.rt:287:1
+pub parse-slot-returns : (t : ℕ) → parse-slot-lts.Need-returns (
+  word-bytes-reads.Asked,
+  word-bytes-reads.Learnt,
+  parse-ref-below t,
+  parse-ref.Post,
+  place-item-reads.Asked,
+  place-item-reads.Learnt,
+) (parse-slot-at t) parse-slot.Post
+parse-slot-returns t c = (slot-no _ _ _ _ _ (seen-no _ (c .before .n .given .1) (c .before .before .before .before .before .before .before .before .before .before .before .before .before .parse-ref .ensures .0)), tt)
+
+-- src/walk.rt:287:1
 pub parse-slot-same-length-6 : (t : ℕ) → parse-slot-lts.Need-same-length-6 (
   word-bytes-reads.Asked,
   word-bytes-reads.Learnt,
-  leaf-at-reads.Asked,
-  leaf-at-reads.Learnt,
-  place-leaf-reads.Asked,
-  place-leaf-reads.Learnt,
   parse-ref-below t,
   parse-ref.Post,
   place-item-reads.Asked,
   place-item-reads.Learnt,
 ) (parse-slot-at t) parse-slot.Post
-parse-slot-same-length-6 t c = c .before .before .before .before .before .before .before .before .before .before .before .before .before .parse-ref .kept .1 .1 .1 .1 .1 .1 .1 .0
+parse-slot-same-length-6 t c = c .before .before .before .before .before .before .before .before .place-item .kept .0 ∙ c .before .before .before .before .before .before .before .before .before .before .before .before .before .before .before .before .before .before .before .before .before .before .before .before .before .before .parse-ref .kept .1 .1 .1 .1 .0
 
+-- src/walk.rt:287:1
 pub parse-slot-same-length-7 : (t : ℕ) → parse-slot-lts.Need-same-length-7 (
   word-bytes-reads.Asked,
   word-bytes-reads.Learnt,
-  leaf-at-reads.Asked,
-  leaf-at-reads.Learnt,
-  place-leaf-reads.Asked,
-  place-leaf-reads.Learnt,
   parse-ref-below t,
   parse-ref.Post,
   place-item-reads.Asked,
   place-item-reads.Learnt,
 ) (parse-slot-at t) parse-slot.Post
-parse-slot-same-length-7 t c = c .before .before .before .before .before .before .before .before .before .before .before .before .before .parse-ref .kept .1 .1 .1 .1 .1 .1 .1 .1 .1 .1 .1 .0
+parse-slot-same-length-7 t c = c .before .before .before .before .before .before .before .before .place-item .kept .1 .0 ∙ c .before .before .before .before .before .before .before .before .before .before .before .before .before .before .before .before .before .before .before .before .before .before .before .before .before .before .parse-ref .kept .1 .1 .1 .1 .1 .0
 
-pub parse-slot-returns-2 : (t : ℕ) → parse-slot-lts.Need-returns-2 (
-  word-bytes-reads.Asked,
-  word-bytes-reads.Learnt,
-  leaf-at-reads.Asked,
-  leaf-at-reads.Learnt,
-  place-leaf-reads.Asked,
-  place-leaf-reads.Learnt,
-  parse-ref-below t,
-  parse-ref.Post,
-  place-item-reads.Asked,
-  place-item-reads.Learnt,
-) (parse-slot-at t) parse-slot.Post
-parse-slot-returns-2 t c = (slot-no _ _ _ _ _ (seen-no _ (c .before .n .given .1) (c .before .before .before .before .before .before .before .before .before .before .before .before .before .parse-ref .ensures .0)), tt)
-
+-- src/walk.rt:287:1
 pub parse-slot-same-length-8 : (t : ℕ) → parse-slot-lts.Need-same-length-8 (
   word-bytes-reads.Asked,
   word-bytes-reads.Learnt,
-  leaf-at-reads.Asked,
-  leaf-at-reads.Learnt,
-  place-leaf-reads.Asked,
-  place-leaf-reads.Learnt,
   parse-ref-below t,
   parse-ref.Post,
   place-item-reads.Asked,
   place-item-reads.Learnt,
 ) (parse-slot-at t) parse-slot.Post
-parse-slot-same-length-8 t c = c .before .before .before .before .before .before .before .before .place-item .kept .0 ∙ c .before .before .before .before .before .before .before .before .before .before .before .before .before .before .before .before .before .before .before .before .before .before .before .before .before .before .parse-ref .kept .1 .1 .1 .1 .0
+parse-slot-same-length-8 t c = c .before .before .before .before .before .before .before .before .place-item .kept .1 .1 .0 ∙ c .before .before .before .before .before .before .before .before .before .before .before .before .before .before .before .before .before .before .before .before .before .before .before .before .before .before .parse-ref .kept .1 .1 .1 .1 .1 .1 .0
 
+-- src/walk.rt:287:1
 pub parse-slot-same-length-9 : (t : ℕ) → parse-slot-lts.Need-same-length-9 (
   word-bytes-reads.Asked,
   word-bytes-reads.Learnt,
-  leaf-at-reads.Asked,
-  leaf-at-reads.Learnt,
-  place-leaf-reads.Asked,
-  place-leaf-reads.Learnt,
   parse-ref-below t,
   parse-ref.Post,
   place-item-reads.Asked,
   place-item-reads.Learnt,
 ) (parse-slot-at t) parse-slot.Post
-parse-slot-same-length-9 t c = c .before .before .before .before .before .before .before .before .place-item .kept .1 .0 ∙ c .before .before .before .before .before .before .before .before .before .before .before .before .before .before .before .before .before .before .before .before .before .before .before .before .before .before .parse-ref .kept .1 .1 .1 .1 .1 .0
+parse-slot-same-length-9 t c = c .before .before .before .before .before .before .before .before .before .before .before .before .before .before .before .before .before .before .before .before .before .before .before .before .before .before .parse-ref .kept .1 .1 .1 .1 .1 .1 .1 .0
 
+-- src/walk.rt:287:1
 pub parse-slot-same-length-10 : (t : ℕ) → parse-slot-lts.Need-same-length-10 (
   word-bytes-reads.Asked,
   word-bytes-reads.Learnt,
-  leaf-at-reads.Asked,
-  leaf-at-reads.Learnt,
-  place-leaf-reads.Asked,
-  place-leaf-reads.Learnt,
   parse-ref-below t,
   parse-ref.Post,
   place-item-reads.Asked,
   place-item-reads.Learnt,
 ) (parse-slot-at t) parse-slot.Post
-parse-slot-same-length-10 t c = c .before .before .before .before .before .before .before .before .place-item .kept .1 .1 .0 ∙ c .before .before .before .before .before .before .before .before .before .before .before .before .before .before .before .before .before .before .before .before .before .before .before .before .before .before .parse-ref .kept .1 .1 .1 .1 .1 .1 .0
+parse-slot-same-length-10 t c = c .before .before .before .before .before .before .before .before .place-item .kept .1 .1 .1 .0 ∙ c .before .before .before .before .before .before .before .before .before .before .before .before .before .before .before .before .before .before .before .before .before .before .before .before .before .before .parse-ref .kept .1 .1 .1 .1 .1 .1 .1 .1 .1 .1 .1 .0
 
-pub parse-slot-same-length-11 : (t : ℕ) → parse-slot-lts.Need-same-length-11 (
+-- src/walk.rt:287:1
+pub parse-slot-returns-2 : (t : ℕ) → parse-slot-lts.Need-returns-2 (
   word-bytes-reads.Asked,
   word-bytes-reads.Learnt,
-  leaf-at-reads.Asked,
-  leaf-at-reads.Learnt,
-  place-leaf-reads.Asked,
-  place-leaf-reads.Learnt,
   parse-ref-below t,
   parse-ref.Post,
   place-item-reads.Asked,
   place-item-reads.Learnt,
 ) (parse-slot-at t) parse-slot.Post
-parse-slot-same-length-11 t c = c .before .before .before .before .before .before .before .before .before .before .before .before .before .before .before .before .before .before .before .before .before .before .before .before .before .before .parse-ref .kept .1 .1 .1 .1 .1 .1 .1 .0
-
-pub parse-slot-same-length-12 : (t : ℕ) → parse-slot-lts.Need-same-length-12 (
-  word-bytes-reads.Asked,
-  word-bytes-reads.Learnt,
-  leaf-at-reads.Asked,
-  leaf-at-reads.Learnt,
-  place-leaf-reads.Asked,
-  place-leaf-reads.Learnt,
-  parse-ref-below t,
-  parse-ref.Post,
-  place-item-reads.Asked,
-  place-item-reads.Learnt,
-) (parse-slot-at t) parse-slot.Post
-parse-slot-same-length-12 t c = c .before .before .before .before .before .before .before .before .place-item .kept .1 .1 .1 .0 ∙ c .before .before .before .before .before .before .before .before .before .before .before .before .before .before .before .before .before .before .before .before .before .before .before .before .before .before .parse-ref .kept .1 .1 .1 .1 .1 .1 .1 .1 .1 .1 .1 .0
-
-pub parse-slot-returns-3 : (t : ℕ) → parse-slot-lts.Need-returns-3 (
-  word-bytes-reads.Asked,
-  word-bytes-reads.Learnt,
-  leaf-at-reads.Asked,
-  leaf-at-reads.Learnt,
-  place-leaf-reads.Asked,
-  place-leaf-reads.Learnt,
-  parse-ref-below t,
-  parse-ref.Post,
-  place-item-reads.Asked,
-  place-item-reads.Learnt,
-) (parse-slot-at t) parse-slot.Post
-parse-slot-returns-3 t c = (
-  slot-got _ _ _ _ _ (seen-got _ (c .before .before .before .before .before .before .before .before .before .before .before .before .before .before .x .given .1) (c .before .before .before .before .before .before .before .before .before .before .before .before .before .before .before .before .before .before .before .before .before .before .before .before .before .before .parse-ref .ensures .0)) (c .before .before .before .before .before .before .before .before .place-item .ensures .0 _ (lent [] [] [] _ _ _ _) (sym (c .before .before .before .before .before .before .before .before .before .before .before .before .before .before .before .before .before .before .before .before .before .before .before .before .before .before .before .before .before .before .before .before .before .before .before .before .word-bytes .ensures .0))),
-  count-index _ _ _ _ (c .before .before .before .before .before .before .before .before .place-item .ensures .1 .1) ((out-index _ (seen-got (lent _ _ _ _ _ _ _) (c .before .before .before .before .before .before .before .before .before .before .before .before .before .before .x .given .1) refl) (c .before .before .before .before .before .before .before .before .before .before .before .before .before .before .before .before .before .before .before .before .before .before .before .before .before .before .parse-ref .ensures .1)) .linked) (c .before .before .before .before .before .before .before .before .place-item .result) (lent _ _ _ _ _ _ _) (c .before .before .before .before .before .before .before .before .place-item .ensures .0 (input (c .before .before .before .before .before .before .before .before .before .before .before .before .before .before .before .before .before .before .before .before .before .before .before .before .before .before .before .before .before .before .before .before .before .before .before .before .before .before .before .before .before .before .before .before .before .args .v .now) (c .before .before .before .before .before .before .before .before .before .before .before .before .before .before .before .before .before .before .before .before .before .before .before .before .before .before .before .before .before .before .before .before .before .before .before .before .before .before .before .before .before .before .before .before .before .args .p .now) (c .before .before .before .before .before .before .before .before .before .before .before .before .before .before .before .before .before .before .before .before .before .before .before .before .before .before .before .before .before .before .before .before .before .before .before .before .before .before .before .before .before .before .before .before .before .args .k) (c .before .before .before .before .before .before .before .before .before .before .before .before .before .before .before .before .before .before .before .before .before .before .before .before .before .before .before .before .before .before .before .before .before .before .before .before .before .before .before .before .before .before .before .before .before .args .tr .now)) (lent [] [] [] _ _ _ _) (sym (c .before .before .before .before .before .before .before .before .before .before .before .before .before .before .before .before .before .before .before .before .before .before .before .before .before .before .before .before .before .before .before .before .before .before .before .before .word-bytes .ensures .0))) (placeItem-ground _ (c .before .before .before .before .before .before .before .before .before .before .before .before .before .before .before .before .before .before .before .before .before .before .before .before .before .before .before .before .before .before .before .before .before .before .before .before .before .before .before .before .before .before .before .before .before .args .o) (c .before .before .before .before .before .before .before .before .before .before .before .before .before .before .before .before .before .before .before .before .before .before .before .before .before .before .before .before .before .before .before .before .before .before .before .before .before .before .before .before .before .before .before .before .before .args .done) _ _) (c .before .before .before .before .before .before .before .before .place-item .ensures .1 .0),
+parse-slot-returns-2 t c = (
+  slot-got _ _ _ _ _ (seen-got _ (c .before .before .before .before .before .before .before .before .before .before .before .before .before .before .x .given .1) (c .before .before .before .before .before .before .before .before .before .before .before .before .before .before .before .before .before .before .before .before .before .before .before .before .before .before .parse-ref .ensures .0)) (c .before .before .before .before .before .before .before .before .place-item .ensures .0 _ (lent [] [] [] _ _ _ _) (sym (c .before .before .before .before .before .before .before .before .before .before .before .before .before .before .before .before .before .before .before .before .before .before .before .before .before .before .before .before .before .before .before .before .before .before .before .word-bytes .ensures .0))),
+  count-index _ _ _ _ (c .before .before .before .before .before .before .before .before .place-item .ensures .1 .1) ((out-index _ (seen-got (lent _ _ _ _ _ _ _) (c .before .before .before .before .before .before .before .before .before .before .before .before .before .before .x .given .1) refl) (c .before .before .before .before .before .before .before .before .before .before .before .before .before .before .before .before .before .before .before .before .before .before .before .before .before .before .parse-ref .ensures .1)) .linked) (c .before .before .before .before .before .before .before .before .place-item .result) (lent _ _ _ _ _ _ _) (c .before .before .before .before .before .before .before .before .place-item .ensures .0 (input (c .before .before .before .before .before .before .before .before .before .before .before .before .before .before .before .before .before .before .before .before .before .before .before .before .before .before .before .before .before .before .before .before .before .before .before .before .before .before .before .before .before .before .before .before .args .v .now) (c .before .before .before .before .before .before .before .before .before .before .before .before .before .before .before .before .before .before .before .before .before .before .before .before .before .before .before .before .before .before .before .before .before .before .before .before .before .before .before .before .before .before .before .before .args .p .now) (c .before .before .before .before .before .before .before .before .before .before .before .before .before .before .before .before .before .before .before .before .before .before .before .before .before .before .before .before .before .before .before .before .before .before .before .before .before .before .before .before .before .before .before .before .args .k) (c .before .before .before .before .before .before .before .before .before .before .before .before .before .before .before .before .before .before .before .before .before .before .before .before .before .before .before .before .before .before .before .before .before .before .before .before .before .before .before .before .before .before .before .before .args .tr .now)) (lent [] [] [] _ _ _ _) (sym (c .before .before .before .before .before .before .before .before .before .before .before .before .before .before .before .before .before .before .before .before .before .before .before .before .before .before .before .before .before .before .before .before .before .before .before .word-bytes .ensures .0))) (placeItem-ground _ (c .before .before .before .before .before .before .before .before .before .before .before .before .before .before .before .before .before .before .before .before .before .before .before .before .before .before .before .before .before .before .before .before .before .before .before .before .before .before .before .before .before .before .before .before .args .o) (c .before .before .before .before .before .before .before .before .before .before .before .before .before .before .before .before .before .before .before .before .before .before .before .before .before .before .before .before .before .before .before .before .before .before .before .before .before .before .before .before .before .before .before .before .args .done) _ _) (c .before .before .before .before .before .before .before .before .place-item .ensures .1 .0),
 )
