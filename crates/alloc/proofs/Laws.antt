@@ -9,15 +9,14 @@ use native.Mathlib.Omega.{arith}
 use borrow.Author.Tests.{lt-ltb, le-ltb, le-leb, lt-leb, eq-eqb, ne-eqb}
 use lib.Dec.{ltb, eqb}
 use lib.ListN.{length, getD, set, drop}
-use lib.Seq.{drop-cons, drop-length}
+use lib.Seq.{drop-cons, drop-length, set-getD}
 use Rattle.tables.specs.Records.{room, field, Put, written, addressRow}
 use Rattle.alloc.specs.declared.legacy_alloc.LegacyAlloc.{LegacyAlloc}
 use Rattle.alloc.specs.declared.legacy_alloc.Request.{Request}
-use Rattle.alloc.specs.declared.legacy_alloc.Allocated.{Allocated}
 use Rattle.alloc.specs.declared.resolve.Found.{Found}
 use Rattle.alloc.specs.declared.resolve.Found.the-variants.{Object, Nothing}
 use Rattle.alloc.specs.Fill.{pickℕ, maxFillToAlign, fillToAlign}
-use Rattle.alloc.specs.Allocation.{ends, spacesOf, nextChunk, advanceOf, outcome, placed, allocateOf, seen}
+use Rattle.alloc.specs.Allocation.{ends, spacesOf, nextChunk, advanceOf, outcome, placed, allocateOf, Places}
 use Rattle.alloc.specs.Resolve.{pickFound, isAddress, addressed, resolveOf, ordinalFrom}
 
 -- ---- fillers
@@ -112,18 +111,21 @@ module _ (c : LegacyAlloc) (spaces space : ℕ) where
 
 -- ---- allocation
 
-pub kept : (r : Allocated) {k a : ℕ} {c : LegacyAlloc} (t : List ℕ) → (r .number ≡ k) × (r .alignment ≡ a) × (r .alloc ≡ c) → seen r t ≡ outcome k a c t
-kept r t e = cc
+module _ (t : List ℕ) (n spaces : ℕ) (want : Request) (used chunk : ℕ) where
+  -- the counters stay: the offset that is stored is the one that is there
+  stays : {number alignment : ℕ} {after : List ℕ}
+      → ((c : LegacyAlloc) → getD (c .used) (want .space) 0 ≡ used → outcome number alignment c after ≡ allocateOf t n spaces want c)
+      → Places t n spaces want used chunk (record { number = number; alignment = alignment; free = used }) after
+  stays e = record { stored = λ c u k. rw (← u, set-getD (c .used) (want .space) 0) (e c u) }
 
-module _ (t : List ℕ) (n spaces : ℕ) (want : Request) (c : LegacyAlloc) where
-  pub no-room : room 5 t ≤ n → outcome 3 (want .alignment) c t ≡ allocateOf t n spaces want c
+  pub no-room : room 5 t ≤ n → Places t n spaces want used chunk (record { number = 3; alignment = want .alignment; free = used }) t
   unfolding allocateOf
-  no-room h = rw (le-leb (room 5 t) n h)
+  no-room h = stays (λ c u. rw (le-leb (room 5 t) n h))
 
   module _ (h : n < room 5 t) where
-    pub size-over : 4294967295 < want .size → outcome 16 (want .alignment) c t ≡ allocateOf t n spaces want c
+    pub size-over : 4294967295 < want .size → Places t n spaces want used chunk (record { number = 16; alignment = want .alignment; free = used }) t
     unfolding allocateOf
-    size-over l = rw (lt-leb (room 5 t) n h, lt-ltb 4294967295 (want .size) l)
+    size-over l = stays (λ c u. rw (lt-leb (room 5 t) n h, lt-ltb 4294967295 (want .size) l))
 
     -- there is room, so the record is put
     put-roomy : {space chunk offset object placed : ℕ} {r : Bool} {after : List ℕ} → Put t n (addressRow space chunk offset object placed) r after
@@ -132,30 +134,31 @@ module _ (t : List ℕ) (n spaces : ℕ) (want : Request) (c : LegacyAlloc) wher
 
     module _ (l : want .size ≤ 4294967295) where
       pub not-placed : spaces ≤ want .space → {r : Bool} {after : List ℕ} → Put t n (addressRow (want .space) 0 0 (want .object) 0) r after
-          → outcome 0 (want .alignment) c after ≡ allocateOf t n spaces want c
+          → Places t n spaces want used chunk (record { number = 0; alignment = want .alignment; free = used }) after
       unfolding allocateOf
-      not-placed g p = rw (put-roomy p, lt-leb (room 5 t) n h, le-ltb 4294967295 (want .size) l, le-leb spaces (want .space) g)
+      not-placed g p =
+          stays (λ c u. rw (put-roomy p, lt-leb (room 5 t) n h, le-ltb 4294967295 (want .size) l, le-leb spaces (want .space) g))
 
-      module _ (g : want .space < spaces) {fill advance : ℕ}
-          (f : fill ≡ fillToAlign (getD (c .used) (want .space) 0) (want .alignment) (want .word))
+      module _ (g : want .space < spaces) {fill advance : ℕ} (f : fill ≡ fillToAlign used (want .alignment) (want .word))
           (a : advance ≡ advanceOf (want .size) (want .alignment) (want .word)) where
-        in-counters : placed t n want c (getD (c .used) (want .space) 0) ≡ allocateOf t n spaces want c
+        in-counters : (c : LegacyAlloc) → getD (c .used) (want .space) 0 ≡ used → placed t n want c used ≡ allocateOf t n spaces want c
         unfolding allocateOf
-        in-counters = rw (lt-leb (room 5 t) n h, le-ltb 4294967295 (want .size) l, lt-leb spaces (want .space) g)
+        in-counters c u = rw (lt-leb (room 5 t) n h, le-ltb 4294967295 (want .size) l, lt-leb spaces (want .space) g, u)
 
-        pub address-over : 4294967295 < getD (c .used) (want .space) 0 + fill → outcome 16 (want .alignment) c t ≡ allocateOf t n spaces want c
-        address-over p = rw (← in-counters, ← f, lt-ltb 4294967295 (getD (c .used) (want .space) 0 + fill) p)
+        pub address-over : 4294967295 < used + fill → Places t n spaces want used chunk (record { number = 16; alignment = want .alignment; free = used }) t
+        address-over p = stays (λ c u. rw (← in-counters c u, ← f, lt-ltb 4294967295 (used + fill) p))
 
-        module _ (p : getD (c .used) (want .space) 0 + fill ≤ 4294967295) where
-          pub free-over : ltb 4294967295 (getD (c .used) (want .space) 0 + advance) ≡ true → outcome 16 (want .alignment) c t ≡ allocateOf t n spaces want c
-          free-over q = rw (← in-counters, ← f, ← a, le-ltb 4294967295 (getD (c .used) (want .space) 0 + fill) p, q)
+        module _ (p : used + fill ≤ 4294967295) where
+          pub free-over : ltb 4294967295 (used + advance) ≡ true → Places t n spaces want used chunk (record { number = 16; alignment = want .alignment; free = used }) t
+          free-over q = stays (λ c u. rw (← in-counters c u, ← f, ← a, le-ltb 4294967295 (used + fill) p, q))
 
-          pub is-placed : ltb 4294967295 (getD (c .used) (want .space) 0 + advance) ≡ false → {r : Bool} {after : List ℕ}
-              → Put t n (addressRow (want .space) (getD (c .cur) (want .space) 0) (getD (c .used) (want .space) 0 + fill) (want .object) 1) r after
-              → outcome 0 0 (record { cur = c .cur; used = set (c .used) (want .space) (getD (c .used) (want .space) 0 + advance) }) after
-              ≡ allocateOf t n spaces want c
+          pub is-placed : ltb 4294967295 (used + advance) ≡ false → {r : Bool} {after : List ℕ}
+              → Put t n (addressRow (want .space) chunk (used + fill) (want .object) 1) r after
+              → Places t n spaces want used chunk (record { number = 0; alignment = 0; free = used + advance }) after
           is-placed q w =
-              rw (← in-counters, put-roomy w, ← f, ← a, le-ltb 4294967295 (getD (c .used) (want .space) 0 + fill) p, q)
+              record {
+                stored = λ c u k. rw (← in-counters c u, put-roomy w, k, ← f, ← a, le-ltb 4294967295 (used + fill) p, q);
+              }
 
 -- ---- back-references
 

@@ -1,6 +1,7 @@
 -- Allocation in legacy spaces (`LegacyAlloc`; V8's `DeserializerAllocator` up to 8.7). Assumes nothing: these are definitions.
 -- Here the Rust leaves V8: map and large-object spaces run through the counters too (D28), a space without counters leaves the
 -- alignment pending (D30), and chunk ends are not checked (D32); docs/DIFFERENCES.md.
+use mathlib.Core.Path.{_≡_}
 use mathlib.Core.Bool.{Bool, true, false, _||_}
 use mathlib.Core.List.{List, [], _∷_}
 use Prim.Native.Nat.{ℕ, suc, _+_, _^_}
@@ -11,6 +12,7 @@ use Rattle.alloc.specs.Fill.{pickℕ, maxFillToAlign, fillToAlign}
 use Rattle.alloc.specs.declared.legacy_alloc.LegacyAlloc.{LegacyAlloc}
 use Rattle.alloc.specs.declared.legacy_alloc.Request.{Request}
 use Rattle.alloc.specs.declared.legacy_alloc.Allocated.{Allocated}
+use Rattle.alloc.specs.declared.legacy_alloc.Placed.{Placed}
 
 -- an entry of the reservation list ends its space by its top bit
 abbrev pub ends : ℕ → ℕ
@@ -77,3 +79,10 @@ allocateOf t n spaces want c =
 -- what the code returns, with the table that it leaves
 abbrev pub seen : Allocated → List ℕ → Outcome
 seen r t = outcome (r .number) (r .alignment) (r .alloc) t
+
+-- `place` sees of the counters only the space's chunk and its next free offset: in all counters that have these, storing the offset that
+-- it answers is the allocation
+pub record Places (t : List ℕ) (n spaces : ℕ) (want : Request) (used chunk : ℕ) (r : Placed) (after : List ℕ) : Type 0 where
+  pub stored : (c : LegacyAlloc) → getD (c .used) (want .space) 0 ≡ used → getD (c .cur) (want .space) 0 ≡ chunk
+      → outcome (r .number) (r .alignment) (record { cur = c .cur; used = set (c .used) (want .space) (r .free) }) after
+      ≡ allocateOf t n spaces want c

@@ -5,7 +5,7 @@ use tables::records::add_address;
 ghost use mathlib.Core.Path.{_≡_};
 ghost use Prim.Native.Nat.{_-_, _^_, _<_, _≤_};
 ghost use lib.ListN.{getD};
-ghost use Rattle.alloc.specs.Allocation.{zeroCounters, spacesOf, nextChunk, advanceOf, allocateOf, seen};
+ghost use Rattle.alloc.specs.Allocation.{zeroCounters, spacesOf, nextChunk, advanceOf, allocateOf, seen, Places};
 
 // Two counters for each of 256 spaces: the current chunk, and the next free offset in it.
 pub struct LegacyAlloc {
@@ -27,6 +27,13 @@ pub struct Allocated {
     pub number: u64,
     pub alignment: u64,
     pub alloc: LegacyAlloc,
+}
+
+// What an allocation does in its space: a refusal's number or 0, the alignment that is pending now, and the next free offset.
+struct Placed {
+    number: u64,
+    alignment: u64,
+    free: u32,
 }
 
 // How many spaces a reservation list gives counters: its top bits plus 1.
@@ -56,7 +63,7 @@ impl LegacyAlloc {
     }
 
     // A chunk change: the space goes on at offset 0 of its next chunk. A space without counters stays.
-    pub fn next_chunk(self, spaces: u64, space: u64) -> LegacyAlloc
+    pub fn next_chunk(mut self, spaces: u64, space: u64) -> LegacyAlloc
         requires { ⌜ (space < 256) × (getD (self .cur) space 0 < 2 ^ 32 - 1) ⌝ }
         ensures { λ r. ⌜ r ≡ nextChunk self spaces space ⌝ }
     {
@@ -64,56 +71,63 @@ impl LegacyAlloc {
             return self;
         }
         let i = space as usize;
-        let mut next = self;
-        next.cur[i] = next.cur[i] + 1;
-        next.used[i] = 0;
-        next
+        self.cur[i] = self.cur[i] + 1;
+        self.used[i] = 0;
+        self
     }
 
     // Address record n of an object. 3: no room for the record; 16: the size, the address or the next free offset passes 2^32 - 1; then
     // nothing changes. A space without counters gets a record that is not placed, and the alignment stays pending.
-    pub fn allocate(self, table: &mut [u64], n: usize, spaces: u64, want: Request) -> Allocated
+    // The counters are copied in and out once, so each way out stores an offset: where nothing is placed, the one that was there.
+    pub fn allocate(mut self, table: &mut [u64], n: usize, spaces: u64, want: Request) -> Allocated
         requires { ⌜ (want .space < 256) × (want .word ≤ 8) ⌝ }
         ensures { λ r. ⌜ seen r (now (table .exit)) ≡ allocateOf (now (table .entry)) n spaces want self ⌝ }
     {
-        if table.len() / 5 <= n {
-            return refused(self, want.alignment, 3);
-        }
-        if 4294967295 < want.size {
-            return refused(self, want.alignment, 16);
-        }
-        if spaces <= want.space {
-            add_address(table, n, want.space, 0, 0, want.object, 0);
-            return refused(self, want.alignment, 0);
-        }
         let i = want.space as usize;
         let used = self.used[i] as u64;
-        let offset = used + fill_to_align(used, want.alignment, want.word);
-        let free = used + advance(want.size, want.alignment, want.word);
-        if 4294967295 < offset || 4294967295 < free {
-            return refused(self, want.alignment, 16);
-        }
         let chunk = self.cur[i] as u64;
-        add_address(table, n, want.space, chunk, offset, want.object, 1);
-        let mut next = self;
-        next.used[i] = free as u32;
+        let placed = place(table, n, spaces, want, used, chunk);
+        self.used[i] = placed.free;
         Allocated {
-            number: 0,
-            alignment: 0,
-            alloc: next,
+            number: placed.number,
+            alignment: placed.alignment,
+            alloc: self,
         }
     }
 }
 
-// The counters as they are, the alignment still pending.
-fn refused(alloc: LegacyAlloc, alignment: u64, number: u64) -> Allocated
-    ensures { λ r. ⌜ (r .number ≡ number) × (r .alignment ≡ alignment) × (r .alloc ≡ alloc) ⌝ }
+// The tests of an allocation and its record, in a space with this next free offset and this chunk.
+fn place(table: &mut [u64], n: usize, spaces: u64, want: Request, used: u64, chunk: u64) -> Placed
+    requires { ⌜ (used < 2 ^ 32) × (want .word ≤ 8) ⌝ }
+    ensures { λ r. ⌜ Places (now (table .entry)) n spaces want used chunk r (now (table .exit)) ⌝ }
 {
-    Allocated {
-        number,
-        alignment,
-        alloc,
+    let mut answer = Placed {
+        number: 0,
+        alignment: want.alignment,
+        free: used as u32,
+    };
+    if table.len() / 5 <= n {
+        answer.number = 3;
+        return answer;
     }
+    if 4294967295 < want.size {
+        answer.number = 16;
+        return answer;
+    }
+    if spaces <= want.space {
+        add_address(table, n, want.space, 0, 0, want.object, 0);
+        return answer;
+    }
+    let offset = used + fill_to_align(used, want.alignment, want.word);
+    let free = used + advance(want.size, want.alignment, want.word);
+    if 4294967295 < offset || 4294967295 < free {
+        answer.number = 16;
+        return answer;
+    }
+    add_address(table, n, want.space, chunk, offset, want.object, 1);
+    answer.alignment = 0;
+    answer.free = free as u32;
+    answer
 }
 
 // How far the next free offset moves: by the size, and with an alignment pending by the most that a filler can take as well.
