@@ -33,7 +33,7 @@ use Rattle.alloc.specs.declared.legacy_alloc.Request.{Request}
 use Rattle.alloc.specs.declared.legacy_alloc.Allocated.{Allocated}
 use Rattle.alloc.specs.Fill.{fillToAlign}
 use Rattle.alloc.specs.Allocation.{nextChunk, Outcome, allocateOf, seen}
-use Rattle.alloc.proofs.AllocationLaws.{next-chunk-cur, allocate-refused, allocate-room}
+use Rattle.alloc.proofs.AllocationLaws.{next-chunk-cur, allocate-cur, allocate-refused, allocate-room}
 use Rattle.address_index.specs.Links.{spaceOf, Linked}
 use Rattle.address_index.proofs.LinkLaws.{linked-same}
 use Rattle.definition.specs.Memory.{Input, word, inMap, Mem, Out, got, no, Reader, choose, hasRoom, table, moved, withAlloc, aligned}
@@ -80,6 +80,12 @@ module _ (x : Input) (s : State) (space bytes o : ℕ) (addresses cur used : Lis
   refused-table : (r .number ≡ 0 → ⊥) → after ≡ addresses
   refused-table h = ap (λ a. a .table) (e ∙ allocate-refused addresses (s .addresses) (x .spaces) _ _ (λ z. h (ap (λ a. a .number) e ∙ z)))
 
+  -- the chunks stay, so only the offsets are stored
+  same-chunks : _≡_ {A = LegacyAlloc} (record { cur = cur; used = r .alloc .used }) (r .alloc)
+  same-chunks =
+      let k : r .alloc .cur ≡ cur = ap (λ a. a .alloc .cur) e ∙ allocate-cur addresses (s .addresses) (x .spaces) _ _ in
+      ap (λ c. record { cur = c; used = r .alloc .used }) (sym k)
+
   -- the record that was added
   abbrev want : Request
   want = record { space = space; size = bytes; object = o; alignment = s .alignment; word = w }
@@ -114,9 +120,9 @@ module _ (x : Input) (s : State) (space bytes o : ℕ) (addresses cur used : Lis
     unfolding allocate
     allocated-no h = rw (← ew, ← e, ne-eqb (r .number) 0 h, refused-table h)
 
-    pub allocated : r .number ≡ 0 → got tt (withAlloc (table after (s .addresses + 1)) (r .alignment) (r .alloc) (mem s (addressesIs addresses (countersIs cur used l)))) ≡ allocate x space bytes o (mem s (addressesIs addresses (countersIs cur used l)))
+    pub allocated : r .number ≡ 0 → got tt (withAlloc (table after (s .addresses + 1)) (r .alignment) (record { cur = cur; used = r .alloc .used }) (mem s (addressesIs addresses (countersIs cur used l)))) ≡ allocate x space bytes o (mem s (addressesIs addresses (countersIs cur used l)))
     unfolding allocate
-    allocated h = rw (← ew, ← e, eq-eqb (r .number) 0 h)
+    allocated h = rw (same-chunks, ← ew, ← e, eq-eqb (r .number) 0 h)
 
 -- ---- chunk changes
 

@@ -78,10 +78,9 @@ fn allocate_object(
     if done.number != 0 {
         return Went::Refused(done.number, at, s);
     }
+    // an allocation leaves the chunks as they are: `cur` is not written again
     let next = done.alloc;
-    let nc = next.cur;
     let nu = next.used;
-    *cur = nc;
     *used = nu;
     enter_record(addresses, scratch, size, n);
     let mut t = s;
