@@ -51,7 +51,7 @@ int-got : (x : Input) (m : Mem) {v n : ℕ} → intAt (x .payload) (m .at) ≡ I
 unfolding int
 int-got x m e = rw e
 
-pub words-small : {n w : ℕ} → n < 65536 → w ≤ 8 → n * w < 2 ^ 64
+pub words-small : {n w : ℕ} → n < 2 ^ 30 → w ≤ 8 → n * w < 2 ^ 64
 words-small h l = let z = mul-le-mul (le-of-lt h) l in omega (arith, z)
 
 module _ (p hots : List ℕ) (objects ts at : ℕ) where

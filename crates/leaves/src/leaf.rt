@@ -1,13 +1,19 @@
 // The commonest references that hold no other, read without a state, so that a slot with one of them costs little: a root constant, a hot
 // place, a back-reference, a read-only reference and fixed raw data. What is refused is left to the readers of every reference.
 use backref::hot_ring::add;
+use readers::map::is_flagged;
 use readers::state::State;
 use readers::state::Step;
+use sheet::names::K_RESOLVE_PENDING_FORWARD_REF;
+use sheet::numbers::legacy;
+use sheet::tests::is_tag;
 use stream::bytes::Range;
 use stream::bytes::byte;
+use stream::bytes::peek;
 use stream::bytes::raw;
 use stream::putint::Int;
 use stream::putint::putint;
+use tables::records::add_object;
 use tables::records::add_slot;
 use tables::records::count_slot;
 use tables::values::Fields;
@@ -22,6 +28,7 @@ ghost use Rattle.tables.specs.Records.{field};
 ghost use Rattle.definition.specs.Memory.{got};
 ghost use Rattle.readers.specs.Views.{Lent, mem, seen, hotIs};
 ghost use Rattle.leaves.specs.Leaf.{ring, after, valueOf, Found, Placed};
+ghost use Rattle.leaves.specs.Opening.{MapAt, Opens};
 
 // Kind, a and b of a slot, its width, the cursor after it, and whether the object a enters the hot ring. Kind 0: none of these references, or
 // one to refuse.
@@ -255,4 +262,104 @@ pub fn place_leaf(
     count_slot(objects, o as u64);
     enter(hot, leaf);
     leaf
+}
+
+// An object whose map is a leaf: its size in words, how many bytes that integer has, and the map. Kind 0 of the map: none.
+pub struct Opened {
+    pub words: u64,
+    pub size: usize,
+    pub map: Leaf,
+}
+
+// No object.
+fn unopened() -> Opened
+    ensures { λ r. ⌜ r .map .kind ≡ 0 ⌝ }
+{
+    let map = none();
+    Opened {
+        words: 0,
+        size: 0,
+        map,
+    }
+}
+
+// The size of an object and its map, where the map is a leaf that is not flagged and no resolve follows it. In a legacy sheet more follows a map.
+fn map_at(
+    v: &[u16],
+    h: &[u16; 512],
+    tr: &[u8],
+    p: &[u8],
+    hot: &[u64; 25],
+    at: usize,
+    count: usize,
+    word: u64,
+) -> Opened
+    requires { ⌜ (word ≤ 8) × ((b : ℕ) → b < 256 → (getD (now h) b 0 < 65536) × (getD (now h) (256 + b) 0 < 65536)) ⌝ }
+    ensures { λ r. ⌜ ((r .map .kind ≡ 0 → ⊥) → MapAt (now (v .entry)) (now (h .entry)) (now (tr .entry)) (now (p .entry)) (now (hot .entry)) at count word r) ⌝ }
+{
+    if legacy(v) {
+        return unopened();
+    }
+    let Int::Is(words, size) = putint(p, at) else {
+        return unopened();
+    };
+    let map = leaf_at(h, p, hot, at + size, count, word);
+    if is_tag(v, K_RESOLVE_PENDING_FORWARD_REF, peek(p, map.next)) {
+        return unopened();
+    }
+    if is_flagged(tr, value_of(map)) {
+        return unopened();
+    }
+    Opened {
+        words: words as u64,
+        size,
+        map,
+    }
+}
+
+// Object o, whose head stands at `tag` and its size after it, with its map as slot record n. Kind 0 of the map where `map_at` finds none, where a
+// record has no room, and at the last level, where a map is refused; then nothing is changed.
+pub fn open_leaf(
+    v: &[u16],
+    h: &[u16; 512],
+    tr: &[u8],
+    p: &[u8],
+    objects: &mut [u64],
+    slots: &mut [u64],
+    hot: &mut [u64; 25],
+    at: usize,
+    tag: usize,
+    o: usize,
+    n: usize,
+    word: u64,
+    d: usize,
+) -> Opened
+    requires { ⌜ (word ≤ 8) × ((b : ℕ) → b < 256 → (getD (now h) b 0 < 65536) × (getD (now h) (256 + b) 0 < 65536)) ⌝ }
+    requires { ⌜ o < 2 ^ 63 ⌝ }
+    ensures { λ r. ⌜ (r .map .kind ≡ 0 → (now (objects .exit) ≡ now (objects .entry)) × (now (slots .exit) ≡ now (slots .entry)) × (now (hot .exit) ≡ now (hot .entry))) ⌝ }
+    ensures opens { λ r. ⌜ ((r .map .kind ≡ 0 → ⊥) → (d < 64) × MapAt (now (v .entry)) (now (h .entry)) (now (tr .entry)) (now (p .entry)) (now (hot .entry)) at (o + 1) word r × Opens tag o n word r (now (objects .entry)) (now (slots .entry)) (now (hot .entry)) (now (objects .exit)) (now (slots .exit)) (now (hot .exit))) ⌝ }
+{
+    if 64 <= d {
+        return unopened();
+    }
+    let opened = map_at(v, h, tr, p, hot, at, o + 1, word);
+    let map = opened.map;
+    if map.kind == 0 {
+        return opened;
+    }
+    if slots.len() / 6 <= n {
+        return unopened();
+    }
+    if !add_object(objects, o, opened.words * word, tag as u64) {
+        return unopened();
+    }
+    let f = Fields {
+        kind: map.kind,
+        a: map.a,
+        b: map.b,
+    };
+    add_slot(slots, n, o as u64, 0, f, 0);
+    count_slot(objects, o as u64);
+    enter(hot, map);
+    opened
 }

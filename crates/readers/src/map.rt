@@ -182,7 +182,7 @@ pub fn after_map(
 }
 
 // A map that is a root which the trusted list flags.
-fn is_flagged(trusted: &[u8], v: SlotValue) -> bool
+pub fn is_flagged(trusted: &[u8], v: SlotValue) -> bool
     ensures { λ r. ⌜ ((sh p : List ℕ) (sp : ℕ) → r ≡ isFlagged (input sh p sp (now (trusted .entry))) v) ⌝ }
 {
     let SlotValue::Ref(r) = v else {

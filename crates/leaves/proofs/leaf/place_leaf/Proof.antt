@@ -64,7 +64,7 @@ same-length-3 c = search needs
 
 -- src/leaf.rt:220:1
 returns-4 : tie.Need-returns-4
-returns-4 c = let e = c .before .before .before .before .before .before .before .before .before .before .before .before .before .leaf-at .ensures in let q = c .before .before .before .before .before .before .before .before .before .add-slot .ensures in let y = not-false _ (c .before .before .before .before .before .before .if3 .left) in (λ h. let z = e .0 h in (omega (arith, c .before .before .before .before .before .before .before .before .before .before .before .before .before .before .before .if1 .left), z .0, z .1), (e .1, some-placed _ _ _ _ _ _ _ _ _ _ (c .before .before .before .before .before .before .before .before .before .before .before .if2 .left) (put-below q y) (put-done q y .1) (c .before .before .before .before .count-slot .ensures) (c .enter .ensures)))
+returns-4 c = let e = c .before .before .before .before .before .before .before .before .before .before .before .before .before .leaf-at .ensures in let q = c .before .before .before .before .before .before .before .before .before .add-slot .ensures in (λ h. let z = e .0 h in (omega (arith, c .before .before .before .before .before .before .before .before .before .before .before .before .before .before .before .if1 .left), z .0, z .1), let y = not-false _ (c .before .before .before .before .before .before .if3 .left) in (e .1, some-placed _ _ _ _ _ _ _ _ _ _ (c .before .before .before .before .before .before .before .before .before .before .before .if2 .left) (put-below q y) (put-done q y .1) (c .before .before .before .before .count-slot .ensures) (c .enter .ensures)))
 
 pub place-leaf-spec : {M : Type 1} → statement M
 place-leaf-spec =

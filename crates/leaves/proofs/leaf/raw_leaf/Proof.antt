@@ -6,7 +6,7 @@ use Rattle.leaves.proofs.leaf.raw_leaf.Statement.{statement}
 use Rattle.leaves.proofs.leaf.raw_leaf.Tie as tie
 
 mul-bytes : tie.Need-mul-bytes
-mul-bytes c = record { fits = words-small (c .before .pre .0) (c .before .pre .1) }
+mul-bytes c = record { fits = words-small (omega (arith, c .before .pre .0)) (c .before .pre .1) }
 
 raw-requires : tie.Need-raw-requires
 raw-requires c κs = search needs
