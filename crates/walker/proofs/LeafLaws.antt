@@ -52,13 +52,13 @@ module _ (v p : List ℕ) (sp : ℕ) (tr h sc : List ℕ) (s : State) (l : Lent)
   abbrev x : Input
   x = input v p sp tr
 
-  stands : Stands x (s .at) (getD h (getD p (s .at) 0) 0) (getD h (256 + getD p (s .at) 0) 0) (next s) l leaf
+  pub stands : Stands x (s .at) (getD h (getD p (s .at) 0) 0) (getD h (256 + getD p (s .at) 0) 0) (next s) l leaf
   stands = found some v tr sp (s .at) (next s) l (sym ew) refl refl
 
   abbrev m₁ : Mem
   m₁ = mem (after leaf s) (hotIs (ring (leaf .enters) (leaf .a) (l .hot)) l)
 
-  read : got (stands .value) m₁ ≡ refAt x (65 - (d + 1)) (mem s l)
+  pub read : got (stands .value) m₁ ≡ refAt x (65 - (d + 1)) (mem s l)
   read = stands .is (refAt x (64 - (d + 1))) ∙ ref-head g (there some .0) (getD p (s .at) 0) (refl, there some .1) (d + 1) (omega arith)
 
   -- the leaf as a reference that was read

@@ -5,3 +5,4 @@ pub mod ItemsLaws
 pub mod ObjectLaws
 pub mod ReferenceLaws
 pub mod LeafLaws
+pub mod OpeningLaws

@@ -37,7 +37,7 @@ use Rattle.readers.proofs.ViewLaws.{then-got, then-no}
 use Rattle.readers.proofs.ItemLaws.{slot-added}
 use Rattle.readers.proofs.MapSteps.{map-no, map-got, object-no, object-got}
 use Rattle.readers.proofs.WaiterLaws.{indexed-plain}
-use Rattle.walker.specs.Ready.{Index, Ready, mapped, filledFrom}
+use Rattle.walker.specs.Ready.{Index, Ready, mapped, headed, filledFrom}
 use Rattle.walker.proofs.SameLaws.{Same, Leaves, same-choose, next-leaves, same-got}
 use Rattle.walker.proofs.GroundLaws.{Ground, groundOf, ground-ascends, keepMap-ground, resolves-ground}
 use Rattle.walker.proofs.ReadyLaws.{one-less, Went, went, Free, ready-after, ref-went, map-went, keepMap-went}
@@ -265,10 +265,41 @@ module _ {x : Input} {h sc : List ℕ} {m : Mem} (g : Ready x h m sc) where
     pub mapped-ready : {m₃ : Mem} → got tt m₃ ≡ mapped x (refAt x k) space bytes o m → {sc₃ : List ℕ} → Index (length (x .payload)) (m₃ .slots) (m₃ .addresses) sc₃ → (Ready x h m₃ sc₃) × (o < m₃ .objects .count) × (0 < m₃ .slots .count)
     mapped-ready e i = let w = mapped-kept e in (ready-after g (w .0) (w .1) (w .2) i, omega (arith, b, w .0 .onward .objects-up), w .3)
 
+-- ---- the head with the map, as one reading
+
+module _ (x : Input) (r : Reader SlotValue) (space tag : ℕ) (m : Mem) where
+  pub headed-cut : {n q : ℕ} {m₁ : Mem} → no n q m₁ ≡ opening x space tag m → no n q m₁ ≡ headed x r space tag m
+  headed-cut e = then-no (λ words. mapped x r space (words * word x) (m .objects .count) >> give (words * word x)) e
+
+  module _ {words : ℕ} {m₁ : Mem} (e : got words m₁ ≡ opening x space tag m) {bytes : ℕ} (b : bytes ≡ words * word x) where
+    after-head : {out : Out ℕ} → out ≡ (mapped x r space (words * word x) (m .objects .count) >> give (words * word x)) m₁ → out ≡ headed x r space tag m
+    after-head h = then-got (λ words. mapped x r space (words * word x) (m .objects .count) >> give (words * word x)) e h
+
+    pub headed-bad : {n q : ℕ} {m₂ : Mem} → no n q m₂ ≡ mapped x r space bytes (m .objects .count) m₁ → no n q m₂ ≡ headed x r space tag m
+    headed-bad f = after-head (then-no (λ _. give (words * word x)) (rw b at f))
+
+    pub headed-on : {m₂ : Mem} → got tt m₂ ≡ mapped x r space bytes (m .objects .count) m₁ → got bytes m₂ ≡ headed x r space tag m
+    headed-on f = after-head (then-got (λ _. give (words * word x)) (rw b at f) (rw b))
+
+abbrev memOf : Out ℕ → Mem
+memOf (got n m) = m
+memOf (no n q m) = m
+
+-- what holds after it
+pub headed-ready : {x : Input} {h sc : List ℕ} {m : Mem} → Ready x h m sc → (k space tag : ℕ) → space < 256 → {n : ℕ} {m₂ : Mem} → got n m₂ ≡ headed x (refAt x k) space tag m → {sc₂ : List ℕ} → Index (length (x .payload)) (m₂ .slots) (m₂ .addresses) sc₂ → (Ready x h m₂ sc₂) × (m .objects .count < m₂ .objects .count) × (0 < m₂ .slots .count)
+headed-ready {x} {m = m} g k space tag l {m₂ = m₂} e i =
+    let t = through (opening x space tag m) (λ words. mapped x (refAt x k) space (words * word x) (m .objects .count) >> give (words * word x)) e in
+    let bytes : ℕ = t .value * word x in
+    let u = through (mapped x (refAt x k) space bytes (m .objects .count) (t .between)) (λ _. give bytes) (t .second) in
+    let z : m₂ ≡ u .between = ap memOf (u .second) in
+    let f : got tt m₂ ≡ mapped x (refAt x k) space bytes (m .objects .count) (t .between) = subst (λ (m₃ : Mem). got tt m₃ ≡ mapped x (refAt x k) space bytes (m .objects .count) (t .between)) (sym z) (u .first) in
+    let r = opened-ready g space tag (t .first) in
+    mapped-ready (r .0) k space bytes (m .objects .count) (r .1) l (bytes-whole (t .value) refl) f i
+
 -- ---- the object, from its head and its map
 
 module _ (x : Input) (r : Reader SlotValue) (space tag : ℕ) (m : Mem) where
-  pub object-cut : {n q : ℕ} {m₁ : Mem} → no n q m₁ ≡ opening x space tag m → no n q m₁ ≡ object x r space tag m
+  object-cut : {n q : ℕ} {m₁ : Mem} → no n q m₁ ≡ opening x space tag m → no n q m₁ ≡ object x r space tag m
   object-cut e = sym (object-no x r space tag m (sym e))
 
   module _ {words : ℕ} {m₁ : Mem} (e : got words m₁ ≡ opening x space tag m) {bytes : ℕ} (b : bytes ≡ words * word x) where
@@ -278,10 +309,26 @@ module _ (x : Input) (r : Reader SlotValue) (space tag : ℕ) (m : Mem) where
     goes-on : {out : Out SlotValue} → out ≡ body x r space tag words o m₁ → out ≡ object x r space tag m
     goes-on h = h ∙ sym (object-got x r space tag m (sym e))
 
-    pub object-bad : {n q : ℕ} {m₂ : Mem} → no n q m₂ ≡ mapped x r space bytes o m₁ → no n q m₂ ≡ object x r space tag m
+    object-bad : {n q : ℕ} {m₂ : Mem} → no n q m₂ ≡ mapped x r space bytes o m₁ → no n q m₂ ≡ object x r space tag m
     unfolding body
     object-bad f = goes-on (then-no (closed o tag (words * word x)) (then-no _ (rw b at f)))
 
-    pub object-on : {m₂ : Mem} {out : Out SlotValue} → got tt m₂ ≡ mapped x r space bytes o m₁ → out ≡ filledFrom x r o tag bytes m₂ → out ≡ object x r space tag m
+    object-on : {m₂ : Mem} {out : Out SlotValue} → got tt m₂ ≡ mapped x r space bytes o m₁ → out ≡ filledFrom x r o tag bytes m₂ → out ≡ object x r space tag m
     unfolding body
     object-on f h = goes-on (rw (← (rw b at f)) (rw b at h))
+
+  -- the same from the head with the map
+  module _ {words : ℕ} {m₁ : Mem} (e : got words m₁ ≡ opening x space tag m) where
+    mapped-object : (out : Out (Unit {0})) → out ≡ mapped x r space (words * word x) (m .objects .count) m₁ → andThen (andThen out (λ _. give (words * word x))) (λ n. filledFrom x r (m .objects .count) tag n) ≡ object x r space tag m
+    mapped-object (got tt m₂) f = object-on e refl f refl
+    mapped-object (no n q m₂) f = object-bad e refl f
+
+  headed-object : (out : Out ℕ) → out ≡ opening x space tag m → andThen (andThen out (λ words. mapped x r space (words * word x) (m .objects .count) >> give (words * word x))) (λ n. filledFrom x r (m .objects .count) tag n) ≡ object x r space tag m
+  headed-object (got words m₁) e = mapped-object e (mapped x r space (words * word x) (m .objects .count) m₁) refl
+  headed-object (no n q m₁) e = object-cut e
+
+  pub head-no : {n q : ℕ} {m₁ : Mem} → no n q m₁ ≡ headed x r space tag m → no n q m₁ ≡ object x r space tag m
+  head-no e = then-no (λ n. filledFrom x r (m .objects .count) tag n) e ∙ headed-object (opening x space tag m) refl
+
+  pub head-on : {n : ℕ} {m₁ : Mem} {out : Out SlotValue} → got n m₁ ≡ headed x r space tag m → out ≡ filledFrom x r (m .objects .count) tag n m₁ → out ≡ object x r space tag m
+  head-on e h = then-got (λ n. filledFrom x r (m .objects .count) tag n) e h ∙ headed-object (opening x space tag m) refl

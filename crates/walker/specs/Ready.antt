@@ -1,17 +1,18 @@
 -- What holds at the start of each of the readers that call each other, and the parts of an object that they read. Assumes nothing: these are
 -- definitions.
 use mathlib.Core.List.{List}
-use Prim.Native.Nat.{ℕ, _+_, _-_}
+use Prim.Native.Nat.{ℕ, _+_, _-_, _*_}
 use lib.ListN.{length, take, drop}
 use Rattle.heads.specs.Heads.{Heads}
 use Rattle.tables.specs.declared.values.SlotValue.{SlotValue}
 use Rattle.address_index.specs.Links.{Linked}
-use Rattle.definition.specs.Memory.{Input, word, Table, Mem, Out, got, no, Reader, _>>=_, _>>_}
+use Rattle.definition.specs.Memory.{Input, word, Table, Mem, Out, got, no, Reader, _>>=_, _>>_, give}
 use Rattle.definition.specs.Slots.{placeItem}
 use Rattle.definition.specs.Object.{readMap, keepMap, resolves, items, closed}
 use Rattle.laws.specs.Sound.{Proper, Sound, Counted}
 use Rattle.laws.specs.Numbered.{Numbered}
 use Rattle.laws.specs.Addresses.{Ascending}
+use Rattle.readers.specs.Head.{opening}
 use Rattle.readers.specs.Views.{Lent}
 use Rattle.readers.specs.Index.{Indexed}
 
@@ -43,6 +44,13 @@ pub record Ready (x : Input) (heads : List ℕ) (m : Mem) (scratch : List ℕ) :
 abbrev pub mapped : Input → Reader SlotValue → ℕ → ℕ → ℕ → Reader (Unit {0})
 mapped x r space size o =
     readMap x r space size o >>= keepMap x o >> (λ m. resolves x o (length (x .payload) - m .at) m)
+
+-- an object's head, its map with what follows it, and its resolves: its declared bytes
+abbrev pub headed : Input → Reader SlotValue → ℕ → ℕ → Reader ℕ
+headed x r space tag m =
+    (opening x space tag
+    >>= (λ words. mapped x r space (words * word x) (m .objects .count) >> give (words * word x)))
+    m
 
 -- an item, of whose object `done` bytes have been read
 abbrev pub slotIn : Input → Reader SlotValue → ℕ → ℕ → Reader ℕ

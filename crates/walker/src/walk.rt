@@ -3,6 +3,7 @@
 // vt, dt, the hot ring hr, the chunk counters c and u (chunk, next free offset) of k spaces, and the
 // scratch sc.
 use leaves::leaf::leaf_at;
+use leaves::leaf::open_leaf;
 use leaves::leaf::place_leaf;
 use leaves::leaf::take_leaf;
 use readers::head::open_object;
@@ -31,8 +32,8 @@ ghost use lib.ListN.{length};
 ghost use Rattle.sheet.specs.Sheet.{wordBytes};
 ghost use Rattle.definition.specs.Object.{object};
 ghost use Rattle.definition.specs.Reference.{refAt};
-ghost use Rattle.readers.specs.Views.{input, mem, seen, seenCount, seenWent};
-ghost use Rattle.walker.specs.Ready.{lent, OutIndex, Ready, mapped, slotIn, filledFrom};
+ghost use Rattle.readers.specs.Views.{input, mem, seen, seenCount, seenWent, Below};
+ghost use Rattle.walker.specs.Ready.{lent, OutIndex, Ready, headed, mapped, slotIn, filledFrom};
 
 // A reference at depth d.
 pub fn parse_ref(
@@ -147,33 +148,78 @@ pub fn parse_object(
     ensures index { λ r. ⌜ OutIndex (length (now (p .entry))) (seen r (lent (now (ot .exit)) (now (st .exit)) (now (vt .exit)) (now (dt .exit)) (now (hr .exit)) (now (c .exit)) (now (u .exit)))) (now (sc .exit)) ⌝ }
 {
     let o = s.objects;
-    match open_object(v, p, ot, s, at, a) {
+    match parse_head(v, h, tr, p, ot, st, vt, dt, hr, c, u, sc, k, s, d, at, a) {
         Count::Refused(m, q, t) => Step::Refused(m, q, t),
+        Count::Is(n, t) => parse_items(
+            v,
+            h,
+            tr,
+            p,
+            ot,
+            st,
+            vt,
+            dt,
+            hr,
+            c,
+            u,
+            sc,
+            k,
+            t,
+            d,
+            at,
+            n,
+            o,
+        ),
+    }
+}
+
+// The head of an object at depth d in space a, its map and its resolves: its bytes. Where the map is one of the commonest references, this needs no
+// call of the cycle.
+fn parse_head(
+    v: &[u16],
+    h: &[u16; 512],
+    tr: &[u8],
+    p: &[u8],
+    ot: &mut [u64],
+    st: &mut [u64],
+    vt: &mut [u64],
+    dt: &mut [u64],
+    hr: &mut [u64; 25],
+    c: &mut [u32; 256],
+    u: &mut [u32; 256],
+    sc: &mut [u64],
+    k: u64,
+    s: State,
+    d: usize,
+    at: usize,
+    a: u64,
+) -> Count
+    requires { ⌜ Ready (input (now v) (now p) k (now tr)) (now h) (mem s (lent (now ot) (now st) (now vt) (now dt) (now hr) (now c) (now u))) (now sc) ⌝ }
+    requires { ⌜ (d ≤ 64) × (a < 256) ⌝ }
+    ensures { λ r. ⌜ seenCount r (lent (now (ot .exit)) (now (st .exit)) (now (vt .exit)) (now (dt .exit)) (now (hr .exit)) (now (c .exit)) (now (u .exit))) ≡ headed (input (now (v .entry)) (now (p .entry)) k (now (tr .entry))) (refAt (input (now (v .entry)) (now (p .entry)) k (now (tr .entry))) (64 - d)) a at (mem s (lent (now (ot .entry)) (now (st .entry)) (now (vt .entry)) (now (dt .entry)) (now (hr .entry)) (now (c .entry)) (now (u .entry)))) ⌝ }
+    ensures index { λ r. ⌜ OutIndex (length (now (p .entry))) (seenCount r (lent (now (ot .exit)) (now (st .exit)) (now (vt .exit)) (now (dt .exit)) (now (hr .exit)) (now (c .exit)) (now (u .exit)))) (now (sc .exit)) ⌝ }
+    ensures small { λ r. ⌜ Below (2 ^ 33) r ⌝ }
+{
+    let o = s.objects;
+    let next = s.at;
+    let i = s.slots;
+    let word = word_bytes(v);
+    let opened = open_leaf(v, h, tr, p, ot, st, hr, next, at, o, i, word, d);
+    let map = opened.map;
+    if map.kind != 0 {
+        let mut t = s;
+        t.at = map.next;
+        t.objects = o + 1;
+        t.slots = i + 1;
+        return Count::Is(opened.words * word, t);
+    }
+    match open_object(v, p, ot, s, at, a) {
+        Count::Refused(m, q, t) => Count::Refused(m, q, t),
         Count::Is(words, t) => {
-            let n = words * word_bytes(v);
-            let map = parse_map(v, h, tr, p, ot, st, vt, dt, hr, c, u, sc, k, t, d, a, n, o);
-            match map {
-                Went::Refused(m, q, y) => Step::Refused(m, q, y),
-                Went::On(y) => parse_items(
-                    v,
-                    h,
-                    tr,
-                    p,
-                    ot,
-                    st,
-                    vt,
-                    dt,
-                    hr,
-                    c,
-                    u,
-                    sc,
-                    k,
-                    y,
-                    d,
-                    at,
-                    n,
-                    o,
-                ),
+            let n = words * word;
+            match parse_map(v, h, tr, p, ot, st, vt, dt, hr, c, u, sc, k, t, d, a, n, o) {
+                Went::Refused(m, q, y) => Count::Refused(m, q, y),
+                Went::On(y) => Count::Is(n, y),
             }
         }
     }

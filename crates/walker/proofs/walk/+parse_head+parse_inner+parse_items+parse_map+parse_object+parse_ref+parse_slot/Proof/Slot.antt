@@ -5,7 +5,7 @@ use native.Mathlib.Omega.{arith}
 use mathlib.Core.Path.{refl, sym, _∙_}
 use Rattle.walker.proofs.walk.parse_ref.Reads as parse-ref
 use Rattle.walker.proofs.walk.parse_slot.Reads as parse-slot
-use Rattle.walker.proofs.walk.+parse_inner+parse_items+parse_map+parse_object+parse_ref+parse_slot.Lts-parse_slot as parse-slot-lts
+use Rattle.walker.proofs.walk.+parse_head+parse_inner+parse_items+parse_map+parse_object+parse_ref+parse_slot.Lts-parse_slot as parse-slot-lts
 use Rattle.readers.proofs.item.place_item.Reads as place-item-reads
 use Rattle.leaves.proofs.leaf.leaf_at.Reads as leaf-at-reads
 use Rattle.leaves.proofs.leaf.place_leaf.Reads as place-leaf-reads
@@ -17,7 +17,7 @@ use Rattle.readers.specs.Views.{input}
 use Rattle.walker.proofs.GroundLaws.{placeItem-ground, count-index}
 use Rattle.walker.proofs.ReadyLaws.{out-index}
 use Rattle.walker.proofs.ItemsLaws.{slot-no, slot-got, place-asks}
-use Rattle.walker.proofs.walk.+parse_inner+parse_items+parse_map+parse_object+parse_ref+parse_slot.Proof.Common.{parse-ref-below, parse-slot-at}
+use Rattle.walker.proofs.walk.+parse_head+parse_inner+parse_items+parse_map+parse_object+parse_ref+parse_slot.Proof.Common.{parse-ref-below, parse-slot-at}
 
 -- src/walk.rt:311:9
 pub parse-slot-word-bytes-requires : (t : ℕ) → parse-slot-lts.Need-word-bytes-requires (

@@ -1,0 +1,412 @@
+-- The needs of `parse_head`: the laws are in ObjectLaws and OpeningLaws. Assumes nothing.
+use Prim.Native.Nat.{ℕ, _+_, _-_, _*_, _^_}
+use Rattle.readers.proofs.ViewLaws.{count-is, count-no, count-below, went-on, went-no}
+use mathlib.Core.List.{[]}
+use Rattle.readers.specs.Views.{input}
+use Rattle.definition.specs.Reference.{refAt}
+use Rattle.readers.proofs.HeadLaws.{bytes-small}
+use Rattle.walker.proofs.ReadyLaws.{out-index}
+use Rattle.walker.proofs.ObjectLaws.{bytes-whole, opened-ready, headed-cut, headed-bad, headed-on}
+use Rattle.walker.proofs.LeafLaws.{leaf-asks}
+use Rattle.walker.proofs.OpeningLaws.{leaf-headed, opened-index, unopened-ready, unopened-headed}
+use borrow.Author.Needs.{needs}
+use native.Mathlib.Omega.{arith}
+use mathlib.Core.Path.{_≡_, refl, sym, ap, subst, _∙_}
+use Rattle.walker.proofs.walk.parse_head.Reads as parse-head
+use Rattle.walker.proofs.walk.parse_map.Reads as parse-map
+use Rattle.walker.proofs.walk.+parse_head+parse_inner+parse_items+parse_map+parse_object+parse_ref+parse_slot.Lts-parse_head as parse-head-lts
+use Rattle.leaves.proofs.leaf.open_leaf.Reads as open-leaf-reads
+use Rattle.readers.proofs.head.open_object.Reads as open-object-reads
+use Rattle.sheet.proofs.numbers.word_bytes.Reads as word-bytes-reads
+use Rattle.walker.specs.Ready.{lent}
+use Rattle.walker.proofs.walk.+parse_head+parse_inner+parse_items+parse_map+parse_object+parse_ref+parse_slot.Proof.Common.{parse-head-at, parse-map-below}
+
+-- src/walk.rt:206:9
+pub parse-head-word-bytes-requires : (t : ℕ) → parse-head-lts.Need-word-bytes-requires (
+  word-bytes-reads.Asked,
+  word-bytes-reads.Learnt,
+  open-leaf-reads.Asked,
+  open-leaf-reads.Learnt,
+  open-object-reads.Asked,
+  open-object-reads.Learnt,
+  parse-map-below t,
+  parse-map.Post,
+) (parse-head-at t) parse-head.Post
+parse-head-word-bytes-requires t c κs = tt
+
+-- src/walk.rt:207:9
+pub parse-head-open-leaf-requires : (t : ℕ) → parse-head-lts.Need-open-leaf-requires (
+  word-bytes-reads.Asked,
+  word-bytes-reads.Learnt,
+  open-leaf-reads.Asked,
+  open-leaf-reads.Learnt,
+  open-object-reads.Asked,
+  open-object-reads.Learnt,
+  parse-map-below t,
+  parse-map.Post,
+) (parse-head-at t) parse-head.Post
+parse-head-open-leaf-requires t c κs = let g = c .before .before .before .before .before .before .before .before .before .before .before .before .pre .1 in (leaf-asks (g .0) _ (c .before .before .before .word-bytes .ensures .0), omega (arith, g .0 .sound .objects-fit, c .before .before .before .before .before .before .before .before .before .before .before .before .good .1 .1 .1 .1 .0 .0))
+
+-- src/walk.rt:212:21
+pub parse-head-add-t : (t : ℕ) → parse-head-lts.Need-add-t (
+  word-bytes-reads.Asked,
+  word-bytes-reads.Learnt,
+  open-leaf-reads.Asked,
+  open-leaf-reads.Learnt,
+  open-object-reads.Asked,
+  open-object-reads.Learnt,
+  parse-map-below t,
+  parse-map.Post,
+) (parse-head-at t) parse-head.Post
+parse-head-add-t t c = omega (arith, c .before .before .before .before .before .before .before .before .before .before .before .before .before .before .before .before .before .before .before .before .pre .1 .0 .sound .objects-fit, c .before .before .before .before .before .before .before .before .before .before .before .before .before .before .before .before .before .before .before .before .good .1 .1 .1 .1 .0 .0)
+
+-- src/walk.rt:213:19
+pub parse-head-add-t-2 : (t : ℕ) → parse-head-lts.Need-add-t-2 (
+  word-bytes-reads.Asked,
+  word-bytes-reads.Learnt,
+  open-leaf-reads.Asked,
+  open-leaf-reads.Learnt,
+  open-object-reads.Asked,
+  open-object-reads.Learnt,
+  parse-map-below t,
+  parse-map.Post,
+) (parse-head-at t) parse-head.Post
+parse-head-add-t-2 t c = omega (arith, c .before .before .before .before .before .before .before .before .before .before .before .before .before .before .before .before .before .before .before .before .pre .1 .0 .sound .slots-fit, c .before .before .before .before .before .before .before .before .before .before .before .before .before .before .before .before .before .before .before .before .good .1 .1 .1 .1 .1 .0 .0)
+
+-- src/walk.rt:214:26
+pub parse-head-mul-t41 : (t : ℕ) → parse-head-lts.Need-mul-t41 (
+  word-bytes-reads.Asked,
+  word-bytes-reads.Learnt,
+  open-leaf-reads.Asked,
+  open-leaf-reads.Learnt,
+  open-object-reads.Asked,
+  open-object-reads.Learnt,
+  parse-map-below t,
+  parse-map.Post,
+) (parse-head-at t) parse-head.Post
+parse-head-mul-t41 t c = let b = bytes-small _ (c .before .before .before .before .before .before .before .before .before .before .before .before .before .before .before .before .before .before .before .before .before .pre .1 .0 .proper .sheet-usable) (c .before .before .before .before .before .before .before .before .before .before .before .before .word-bytes .ensures .0) (c .before .before .before .before .before .before .before .before .open-leaf .ensures .1 (c .before .if1 .taken) .1 .small) in omega (arith, b)
+
+-- src/walk.rt:214:9
+pub parse-head-same-length : (t : ℕ) → parse-head-lts.Need-same-length (
+  word-bytes-reads.Asked,
+  word-bytes-reads.Learnt,
+  open-leaf-reads.Asked,
+  open-leaf-reads.Learnt,
+  open-object-reads.Asked,
+  open-object-reads.Learnt,
+  parse-map-below t,
+  parse-map.Post,
+) (parse-head-at t) parse-head.Post
+parse-head-same-length t c = search needs
+
+-- src/walk.rt:214:9
+pub parse-head-same-length-2 : (t : ℕ) → parse-head-lts.Need-same-length-2 (
+  word-bytes-reads.Asked,
+  word-bytes-reads.Learnt,
+  open-leaf-reads.Asked,
+  open-leaf-reads.Learnt,
+  open-object-reads.Asked,
+  open-object-reads.Learnt,
+  parse-map-below t,
+  parse-map.Post,
+) (parse-head-at t) parse-head.Post
+parse-head-same-length-2 t c = search needs
+
+-- src/walk.rt:214:9
+pub parse-head-returns : (t : ℕ) → parse-head-lts.Need-returns (
+  word-bytes-reads.Asked,
+  word-bytes-reads.Learnt,
+  open-leaf-reads.Asked,
+  open-leaf-reads.Learnt,
+  open-object-reads.Asked,
+  open-object-reads.Learnt,
+  parse-map-below t,
+  parse-map.Post,
+) (parse-head-at t) parse-head.Post
+parse-head-returns t c = let a = c .before .before .before .before .before .before .before .before .before .before .before .before .before .before .before .before .before .before .before .before .before .args in let g = c .before .before .before .before .before .before .before .before .before .before .before .before .before .before .before .before .before .before .before .before .before .pre .1 in let z = c .before .before .before .before .before .before .before .before .open-leaf .ensures .1 (c .before .if1 .taken) in (leaf-headed (a .v .now) (a .p .now) (a .k) (a .tr .now) (a .h .now) (a .sc .now) (a .s) (lent (a .ot .now) (a .st .now) (a .vt .now) (a .dt .now) (a .hr .now) (a .c .now) (a .u .now)) (g .0) (a .d) (z .0) (c .before .before .before .before .before .before .before .before .open-leaf .result) (c .before .if1 .taken) (c .before .before .before .before .before .before .before .before .before .before .before .before .word-bytes .result) (c .before .before .before .before .before .before .before .before .before .before .before .before .word-bytes .ensures .0) (z .1) (a .a) (a .at) _ _ _ (z .2) refl, (opened-index (a .v .now) (a .p .now) (a .k) (a .tr .now) (a .h .now) (a .sc .now) (a .s) (lent (a .ot .now) (a .st .now) (a .vt .now) (a .dt .now) (a .hr .now) (a .c .now) (a .u .now)) (g .0) (a .d) (z .0) (c .before .before .before .before .before .before .before .before .open-leaf .result) (c .before .if1 .taken) (c .before .before .before .before .before .before .before .before .before .before .before .before .word-bytes .result) (c .before .before .before .before .before .before .before .before .before .before .before .before .word-bytes .ensures .0) (z .1) (a .a) (a .at) _ _ _ (z .2), bytes-small _ (g .0 .proper .sheet-usable) (c .before .before .before .before .before .before .before .before .before .before .before .before .word-bytes .ensures .0) (z .1 .small)))
+
+-- src/walk.rt:216:11
+pub parse-head-open-object-requires : (t : ℕ) → parse-head-lts.Need-open-object-requires (
+  word-bytes-reads.Asked,
+  word-bytes-reads.Learnt,
+  open-leaf-reads.Asked,
+  open-leaf-reads.Learnt,
+  open-object-reads.Asked,
+  open-object-reads.Learnt,
+  parse-map-below t,
+  parse-map.Post,
+) (parse-head-at t) parse-head.Post
+parse-head-open-object-requires t c κs = c .before .before .before .before .before .before .before .before .before .before .before .before .before .before .before .before .before .before .before .before .before .pre .1 .0 .proper .sheet-usable
+
+-- src/walk.rt:217:24
+pub parse-head-enum-known-m : (t : ℕ) → parse-head-lts.Need-enum-known-m (
+  word-bytes-reads.Asked,
+  word-bytes-reads.Learnt,
+  open-leaf-reads.Asked,
+  open-leaf-reads.Learnt,
+  open-object-reads.Asked,
+  open-object-reads.Learnt,
+  parse-map-below t,
+  parse-map.Post,
+) (parse-head-at t) parse-head.Post
+parse-head-enum-known-m t c = search needs
+
+-- src/walk.rt:218:19
+pub parse-head-enum-known-words : (t : ℕ) → parse-head-lts.Need-enum-known-words (
+  word-bytes-reads.Asked,
+  word-bytes-reads.Learnt,
+  open-leaf-reads.Asked,
+  open-leaf-reads.Learnt,
+  open-object-reads.Asked,
+  open-object-reads.Learnt,
+  parse-map-below t,
+  parse-map.Post,
+) (parse-head-at t) parse-head.Post
+parse-head-enum-known-words t c = search needs
+
+-- src/walk.rt:219:21
+pub parse-head-mul-n : (t : ℕ) → parse-head-lts.Need-mul-n (
+  word-bytes-reads.Asked,
+  word-bytes-reads.Learnt,
+  open-leaf-reads.Asked,
+  open-leaf-reads.Learnt,
+  open-object-reads.Asked,
+  open-object-reads.Learnt,
+  parse-map-below t,
+  parse-map.Post,
+) (parse-head-at t) parse-head.Post
+parse-head-mul-n t c = let b = bytes-small _ (c .before .before .before .before .before .before .before .before .before .before .before .before .before .before .before .before .before .before .before .before .before .before .before .before .before .before .before .pre .1 .0 .proper .sheet-usable) (c .before .before .before .before .before .before .before .before .before .before .before .before .before .before .before .before .before .before .word-bytes .ensures .0) (count-below (2 ^ 30) (c .before .words .given .1) (c .before .before .before .before .before .open-object .ensures .1)) in omega (arith, b)
+
+-- src/walk.rt:220:19
+pub parse-head-parse-map-requires : (t : ℕ) → parse-head-lts.Need-parse-map-requires (
+  word-bytes-reads.Asked,
+  word-bytes-reads.Learnt,
+  open-leaf-reads.Asked,
+  open-leaf-reads.Learnt,
+  open-object-reads.Asked,
+  open-object-reads.Learnt,
+  parse-map-below t,
+  parse-map.Post,
+) (parse-head-at t) parse-head.Post
+parse-head-parse-map-requires t c κs = let a = c .before .before .before .before .before .before .before .before .before .before .before .before .before .before .before .before .before .before .before .before .before .before .before .before .before .before .before .before .before .before .before .before .before .before .before .args in let g = c .before .before .before .before .before .before .before .before .before .before .before .before .before .before .before .before .before .before .before .before .before .before .before .before .before .before .before .before .before .before .before .before .before .before .before .pre .1 in let e = count-is (lent _ _ _ _ _ _ _) (c .before .before .before .before .before .before .before .before .before .words .given .1) (c .before .before .before .before .before .before .before .before .before .before .before .before .before .open-object .ensures .0 _ _ (lent [] _ _ _ _ _ _)) in let b = bytes-small _ (g .0 .proper .sheet-usable) (c .before .before .before .before .before .before .before .before .before .before .before .before .before .before .before .before .before .before .before .before .before .before .before .before .before .before .word-bytes .ensures .0) (count-below (2 ^ 30) (c .before .before .before .before .before .before .before .before .before .words .given .1) (c .before .before .before .before .before .before .before .before .before .before .before .before .before .open-object .ensures .1)) in let q = opened-ready (unopened-ready (a .s) (lent (a .ot .now) (a .st .now) (a .vt .now) (a .dt .now) (a .hr .now) (a .c .now) (a .u .now)) (c .before .before .before .before .before .before .before .before .before .before .before .before .before .before .before .before .before .before .before .before .before .before .open-leaf .ensures .0 (c .before .before .before .before .before .before .before .before .before .before .before .before .before .before .before .if1 .left)) (g .0)) (a .a) (a .at) e in (omega (arith, c .before .before .before .before .before .before .before .before .before .before .before .before .before .before .before .before .before .before .before .before .before .before .before .before .before .before .before .before .before .before .before .before .before .before .before .pre .0), (q .0, (g .1 .0, g .1 .1, b, q .1, bytes-whole _ (c .before .before .before .before .before .before .before .before .before .before .before .before .before .before .before .before .before .before .before .before .before .before .before .before .before .before .word-bytes .ensures .0))))
+
+-- src/walk.rt:221:31
+pub parse-head-enum-known-m-2 : (t : ℕ) → parse-head-lts.Need-enum-known-m-2 (
+  word-bytes-reads.Asked,
+  word-bytes-reads.Learnt,
+  open-leaf-reads.Asked,
+  open-leaf-reads.Learnt,
+  open-object-reads.Asked,
+  open-object-reads.Learnt,
+  parse-map-below t,
+  parse-map.Post,
+) (parse-head-at t) parse-head.Post
+parse-head-enum-known-m-2 t c = search needs
+
+-- src/walk.rt:222:26
+pub parse-head-enum-known-y : (t : ℕ) → parse-head-lts.Need-enum-known-y (
+  word-bytes-reads.Asked,
+  word-bytes-reads.Learnt,
+  open-leaf-reads.Asked,
+  open-leaf-reads.Learnt,
+  open-object-reads.Asked,
+  open-object-reads.Learnt,
+  parse-map-below t,
+  parse-map.Post,
+) (parse-head-at t) parse-head.Post
+parse-head-enum-known-y t c = search needs
+
+-- src/walk.rt:178:1
+pub parse-head-same-length-3 : (t : ℕ) → parse-head-lts.Need-same-length-3 (
+  word-bytes-reads.Asked,
+  word-bytes-reads.Learnt,
+  open-leaf-reads.Asked,
+  open-leaf-reads.Learnt,
+  open-object-reads.Asked,
+  open-object-reads.Learnt,
+  parse-map-below t,
+  parse-map.Post,
+) (parse-head-at t) parse-head.Post
+parse-head-same-length-3 t c = c .before .before .before .before .before .open-object .kept .1 .1 .0 ∙ c .before .before .before .before .before .before .before .before .before .before .before .before .before .before .open-leaf .kept .1 .1 .1 .1 .0
+
+-- src/walk.rt:178:1
+pub parse-head-same-length-4 : (t : ℕ) → parse-head-lts.Need-same-length-4 (
+  word-bytes-reads.Asked,
+  word-bytes-reads.Learnt,
+  open-leaf-reads.Asked,
+  open-leaf-reads.Learnt,
+  open-object-reads.Asked,
+  open-object-reads.Learnt,
+  parse-map-below t,
+  parse-map.Post,
+) (parse-head-at t) parse-head.Post
+parse-head-same-length-4 t c = c .before .before .before .before .before .before .before .before .before .before .before .before .before .before .open-leaf .kept .1 .1 .1 .1 .1 .0
+
+-- src/walk.rt:178:1
+pub parse-head-returns-2 : (t : ℕ) → parse-head-lts.Need-returns-2 (
+  word-bytes-reads.Asked,
+  word-bytes-reads.Learnt,
+  open-leaf-reads.Asked,
+  open-leaf-reads.Learnt,
+  open-object-reads.Asked,
+  open-object-reads.Learnt,
+  parse-map-below t,
+  parse-map.Post,
+) (parse-head-at t) parse-head.Post
+parse-head-returns-2 t c = let a = c .before .before .before .before .before .before .before .before .before .before .before .before .before .before .before .before .before .before .before .before .before .before .before .before .before .before .before .args in (unopened-headed (a .s) (lent (a .ot .now) (a .st .now) (a .vt .now) (a .dt .now) (a .hr .now) (a .c .now) (a .u .now)) (c .before .before .before .before .before .before .before .before .before .before .before .before .before .before .open-leaf .ensures .0 (c .before .before .before .before .before .before .before .if1 .left)) (input (a .v .now) (a .p .now) (a .k) (a .tr .now)) (refAt (input (a .v .now) (a .p .now) (a .k) (a .tr .now)) (64 - a .d)) (a .a) (a .at) (headed-cut _ _ (a .a) (a .at) _ (count-no (lent _ _ _ _ _ _ _) (c .before .m .given .1) (c .before .before .before .before .before .open-object .ensures .0 _ _ (lent [] _ _ _ _ _ _)))), (tt, tt))
+
+-- src/walk.rt:178:1
+pub parse-head-same-length-5 : (t : ℕ) → parse-head-lts.Need-same-length-5 (
+  word-bytes-reads.Asked,
+  word-bytes-reads.Learnt,
+  open-leaf-reads.Asked,
+  open-leaf-reads.Learnt,
+  open-object-reads.Asked,
+  open-object-reads.Learnt,
+  parse-map-below t,
+  parse-map.Post,
+) (parse-head-at t) parse-head.Post
+parse-head-same-length-5 t c = c .before .before .before .before .before .before .before .before .before .before .before .before .before .parse-map .kept .1 .1 .1 .1 .0 ∙ c .before .before .before .before .before .before .before .before .before .before .before .before .before .before .before .before .before .before .before .before .before .before .before .before .before .before .before .open-object .kept .1 .1 .0 ∙ c .before .before .before .before .before .before .before .before .before .before .before .before .before .before .before .before .before .before .before .before .before .before .before .before .before .before .before .before .before .before .before .before .before .before .before .before .open-leaf .kept .1 .1 .1 .1 .0
+
+-- src/walk.rt:178:1
+pub parse-head-same-length-6 : (t : ℕ) → parse-head-lts.Need-same-length-6 (
+  word-bytes-reads.Asked,
+  word-bytes-reads.Learnt,
+  open-leaf-reads.Asked,
+  open-leaf-reads.Learnt,
+  open-object-reads.Asked,
+  open-object-reads.Learnt,
+  parse-map-below t,
+  parse-map.Post,
+) (parse-head-at t) parse-head.Post
+parse-head-same-length-6 t c = c .before .before .before .before .before .before .before .before .before .before .before .before .before .parse-map .kept .1 .1 .1 .1 .1 .0 ∙ c .before .before .before .before .before .before .before .before .before .before .before .before .before .before .before .before .before .before .before .before .before .before .before .before .before .before .before .before .before .before .before .before .before .before .before .before .open-leaf .kept .1 .1 .1 .1 .1 .0
+
+-- src/walk.rt:178:1
+pub parse-head-same-length-7 : (t : ℕ) → parse-head-lts.Need-same-length-7 (
+  word-bytes-reads.Asked,
+  word-bytes-reads.Learnt,
+  open-leaf-reads.Asked,
+  open-leaf-reads.Learnt,
+  open-object-reads.Asked,
+  open-object-reads.Learnt,
+  parse-map-below t,
+  parse-map.Post,
+) (parse-head-at t) parse-head.Post
+parse-head-same-length-7 t c = search needs
+
+-- src/walk.rt:178:1
+pub parse-head-same-length-8 : (t : ℕ) → parse-head-lts.Need-same-length-8 (
+  word-bytes-reads.Asked,
+  word-bytes-reads.Learnt,
+  open-leaf-reads.Asked,
+  open-leaf-reads.Learnt,
+  open-object-reads.Asked,
+  open-object-reads.Learnt,
+  parse-map-below t,
+  parse-map.Post,
+) (parse-head-at t) parse-head.Post
+parse-head-same-length-8 t c = search needs
+
+-- src/walk.rt:178:1
+pub parse-head-same-length-9 : (t : ℕ) → parse-head-lts.Need-same-length-9 (
+  word-bytes-reads.Asked,
+  word-bytes-reads.Learnt,
+  open-leaf-reads.Asked,
+  open-leaf-reads.Learnt,
+  open-object-reads.Asked,
+  open-object-reads.Learnt,
+  parse-map-below t,
+  parse-map.Post,
+) (parse-head-at t) parse-head.Post
+parse-head-same-length-9 t c = search needs
+
+-- src/walk.rt:178:1
+pub parse-head-returns-3 : (t : ℕ) → parse-head-lts.Need-returns-3 (
+  word-bytes-reads.Asked,
+  word-bytes-reads.Learnt,
+  open-leaf-reads.Asked,
+  open-leaf-reads.Learnt,
+  open-object-reads.Asked,
+  open-object-reads.Learnt,
+  parse-map-below t,
+  parse-map.Post,
+) (parse-head-at t) parse-head.Post
+parse-head-returns-3 t c = let a = c .before .before .before .before .before .before .before .before .before .before .before .before .before .before .before .before .before .before .before .before .before .before .before .before .before .before .before .before .before .before .before .before .before .before .before .before .before .before .before .before .before .before .before .before .before .before .before .before .before .args in let e = count-is (lent _ _ _ _ _ _ _) (c .before .before .before .before .before .before .before .before .before .before .before .before .before .before .before .before .before .before .before .before .before .before .before .words .given .1) (c .before .before .before .before .before .before .before .before .before .before .before .before .before .before .before .before .before .before .before .before .before .before .before .before .before .before .before .open-object .ensures .0 _ _ (lent [] _ _ _ _ _ _)) in (unopened-headed (a .s) (lent (a .ot .now) (a .st .now) (a .vt .now) (a .dt .now) (a .hr .now) (a .c .now) (a .u .now)) (c .before .before .before .before .before .before .before .before .before .before .before .before .before .before .before .before .before .before .before .before .before .before .before .before .before .before .before .before .before .before .before .before .before .before .before .before .open-leaf .ensures .0 (c .before .before .before .before .before .before .before .before .before .before .before .before .before .before .before .before .before .before .before .before .before .before .before .before .before .before .before .before .before .if1 .left)) (input (a .v .now) (a .p .now) (a .k) (a .tr .now)) (refAt (input (a .v .now) (a .p .now) (a .k) (a .tr .now)) (64 - a .d)) (a .a) (a .at) (headed-bad _ _ (a .a) (a .at) _ e (ap (λ (w : ℕ). c .before .before .before .before .before .before .before .before .before .before .before .before .before .before .before .before .before .before .before .before .before .before .before .words .given .0 .0 * w) (c .before .before .before .before .before .before .before .before .before .before .before .before .before .before .before .before .before .before .before .before .before .before .before .before .before .before .before .before .before .before .before .before .before .before .before .before .before .before .before .before .word-bytes .ensures .0)) (went-no (lent _ _ _ _ _ _ _) (c .before .m2 .given .1) (c .before .before .before .before .before .before .before .before .before .before .before .before .before .parse-map .ensures .0))), (tt, tt))
+
+-- src/walk.rt:178:1
+pub parse-head-same-length-10 : (t : ℕ) → parse-head-lts.Need-same-length-10 (
+  word-bytes-reads.Asked,
+  word-bytes-reads.Learnt,
+  open-leaf-reads.Asked,
+  open-leaf-reads.Learnt,
+  open-object-reads.Asked,
+  open-object-reads.Learnt,
+  parse-map-below t,
+  parse-map.Post,
+) (parse-head-at t) parse-head.Post
+parse-head-same-length-10 t c = c .before .before .before .before .before .before .before .before .before .before .before .before .before .parse-map .kept .1 .1 .1 .1 .0 ∙ c .before .before .before .before .before .before .before .before .before .before .before .before .before .before .before .before .before .before .before .before .before .before .before .before .before .before .before .open-object .kept .1 .1 .0 ∙ c .before .before .before .before .before .before .before .before .before .before .before .before .before .before .before .before .before .before .before .before .before .before .before .before .before .before .before .before .before .before .before .before .before .before .before .before .open-leaf .kept .1 .1 .1 .1 .0
+
+-- src/walk.rt:178:1
+pub parse-head-same-length-11 : (t : ℕ) → parse-head-lts.Need-same-length-11 (
+  word-bytes-reads.Asked,
+  word-bytes-reads.Learnt,
+  open-leaf-reads.Asked,
+  open-leaf-reads.Learnt,
+  open-object-reads.Asked,
+  open-object-reads.Learnt,
+  parse-map-below t,
+  parse-map.Post,
+) (parse-head-at t) parse-head.Post
+parse-head-same-length-11 t c = c .before .before .before .before .before .before .before .before .before .before .before .before .before .parse-map .kept .1 .1 .1 .1 .1 .0 ∙ c .before .before .before .before .before .before .before .before .before .before .before .before .before .before .before .before .before .before .before .before .before .before .before .before .before .before .before .before .before .before .before .before .before .before .before .before .open-leaf .kept .1 .1 .1 .1 .1 .0
+
+-- src/walk.rt:178:1
+pub parse-head-same-length-12 : (t : ℕ) → parse-head-lts.Need-same-length-12 (
+  word-bytes-reads.Asked,
+  word-bytes-reads.Learnt,
+  open-leaf-reads.Asked,
+  open-leaf-reads.Learnt,
+  open-object-reads.Asked,
+  open-object-reads.Learnt,
+  parse-map-below t,
+  parse-map.Post,
+) (parse-head-at t) parse-head.Post
+parse-head-same-length-12 t c = search needs
+
+-- src/walk.rt:178:1
+pub parse-head-same-length-13 : (t : ℕ) → parse-head-lts.Need-same-length-13 (
+  word-bytes-reads.Asked,
+  word-bytes-reads.Learnt,
+  open-leaf-reads.Asked,
+  open-leaf-reads.Learnt,
+  open-object-reads.Asked,
+  open-object-reads.Learnt,
+  parse-map-below t,
+  parse-map.Post,
+) (parse-head-at t) parse-head.Post
+parse-head-same-length-13 t c = search needs
+
+-- src/walk.rt:178:1
+pub parse-head-same-length-14 : (t : ℕ) → parse-head-lts.Need-same-length-14 (
+  word-bytes-reads.Asked,
+  word-bytes-reads.Learnt,
+  open-leaf-reads.Asked,
+  open-leaf-reads.Learnt,
+  open-object-reads.Asked,
+  open-object-reads.Learnt,
+  parse-map-below t,
+  parse-map.Post,
+) (parse-head-at t) parse-head.Post
+parse-head-same-length-14 t c = search needs
+
+-- src/walk.rt:178:1
+pub parse-head-returns-4 : (t : ℕ) → parse-head-lts.Need-returns-4 (
+  word-bytes-reads.Asked,
+  word-bytes-reads.Learnt,
+  open-leaf-reads.Asked,
+  open-leaf-reads.Learnt,
+  open-object-reads.Asked,
+  open-object-reads.Learnt,
+  parse-map-below t,
+  parse-map.Post,
+) (parse-head-at t) parse-head.Post
+parse-head-returns-4 t c = let a = c .before .before .before .before .before .before .before .before .before .before .before .before .before .before .before .before .before .before .before .before .before .before .before .before .before .before .before .before .before .before .before .before .before .before .before .before .before .before .before .before .before .before .before .before .before .before .before .before .before .args in let g = c .before .before .before .before .before .before .before .before .before .before .before .before .before .before .before .before .before .before .before .before .before .before .before .before .before .before .before .before .before .before .before .before .before .before .before .before .before .before .before .before .before .before .before .before .before .before .before .before .before .pre .1 in let e = count-is (lent _ _ _ _ _ _ _) (c .before .before .before .before .before .before .before .before .before .before .before .before .before .before .before .before .before .before .before .before .before .before .before .words .given .1) (c .before .before .before .before .before .before .before .before .before .before .before .before .before .before .before .before .before .before .before .before .before .before .before .before .before .before .before .open-object .ensures .0 _ _ (lent [] _ _ _ _ _ _)) in (unopened-headed (a .s) (lent (a .ot .now) (a .st .now) (a .vt .now) (a .dt .now) (a .hr .now) (a .c .now) (a .u .now)) (c .before .before .before .before .before .before .before .before .before .before .before .before .before .before .before .before .before .before .before .before .before .before .before .before .before .before .before .before .before .before .before .before .before .before .before .before .open-leaf .ensures .0 (c .before .before .before .before .before .before .before .before .before .before .before .before .before .before .before .before .before .before .before .before .before .before .before .before .before .before .before .before .before .if1 .left)) (input (a .v .now) (a .p .now) (a .k) (a .tr .now)) (refAt (input (a .v .now) (a .p .now) (a .k) (a .tr .now)) (64 - a .d)) (a .a) (a .at) (headed-on _ _ (a .a) (a .at) _ e (ap (λ (w : ℕ). c .before .before .before .before .before .before .before .before .before .before .before .before .before .before .before .before .before .before .before .before .before .before .before .words .given .0 .0 * w) (c .before .before .before .before .before .before .before .before .before .before .before .before .before .before .before .before .before .before .before .before .before .before .before .before .before .before .before .before .before .before .before .before .before .before .before .before .before .before .before .before .word-bytes .ensures .0)) (went-on (lent _ _ _ _ _ _ _) (c .before .y .given .1) (c .before .before .before .before .before .before .before .before .before .before .before .before .before .parse-map .ensures .0))), (out-index _ (went-on (lent _ _ _ _ _ _ _) (c .before .y .given .1) refl) (c .before .before .before .before .before .before .before .before .before .before .before .before .before .parse-map .ensures .1), bytes-small _ (g .0 .proper .sheet-usable) (c .before .before .before .before .before .before .before .before .before .before .before .before .before .before .before .before .before .before .before .before .before .before .before .before .before .before .before .before .before .before .before .before .before .before .before .before .before .before .before .before .word-bytes .ensures .0) (count-below (2 ^ 30) (c .before .before .before .before .before .before .before .before .before .before .before .before .before .before .before .before .before .before .before .before .before .before .before .words .given .1) (c .before .before .before .before .before .before .before .before .before .before .before .before .before .before .before .before .before .before .before .before .before .before .before .before .before .before .before .open-object .ensures .1))))
