@@ -186,12 +186,12 @@ pub fn leaf_at(
     }
 }
 
-// The ring after it.
-fn enter(hot: &mut [u64; 25], leaf: Leaf)
-    ensures { λ _. ⌜ now (hot .exit) ≡ ring (leaf .enters) (leaf .a) (now (hot .entry)) ⌝ }
+// The ring after a leaf: where it enters, with object i.
+fn enter(hot: &mut [u64; 25], enters: bool, i: u64)
+    ensures { λ _. ⌜ now (hot .exit) ≡ ring enters i (now (hot .entry)) ⌝ }
 {
-    if leaf.enters {
-        add(hot, Ref::Object(leaf.a));
+    if enters {
+        add(hot, Ref::Object(i));
     }
 }
 
@@ -216,7 +216,7 @@ fn value_of(leaf: Leaf) -> SlotValue
 pub fn take_leaf(hot: &mut [u64; 25], s: State, leaf: Leaf) -> Step
     ensures { λ r. ⌜ ((l : Lent) → seen r (hotIs (now (hot .exit)) l) ≡ got (valueOf leaf) (mem (after leaf s) (hotIs (ring (leaf .enters) (leaf .a) (now (hot .entry))) l))) ⌝ }
 {
-    enter(hot, leaf);
+    enter(hot, leaf.enters, leaf.a);
     let mut t = s;
     t.at = leaf.next;
     Step::Got(value_of(leaf), t)
@@ -260,7 +260,7 @@ pub fn place_leaf(
         return none();
     }
     count_slot(objects, o as u64);
-    enter(hot, leaf);
+    enter(hot, leaf.enters, leaf.a);
     leaf
 }
 
@@ -360,6 +360,6 @@ pub fn open_leaf(
     };
     add_slot(slots, n, o as u64, 0, f, 0);
     count_slot(objects, o as u64);
-    enter(hot, map);
+    enter(hot, map.enters, map.a);
     opened
 }
