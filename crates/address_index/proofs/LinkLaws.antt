@@ -8,7 +8,7 @@ use native.Mathlib.Numerals.{add-one}
 use native.Mathlib.Omega.{arith}
 use borrow.Author.Tests.{eqb-true, eqb-false, eq-eqb, ne-eqb}
 use lib.Dec.{eqb}
-use lib.ListN.{length, getD, set, replicate, length-set, getD-replicate}
+use lib.ListN.{length, getD, set, length-set}
 use lib.Seq.{getD-set-same, getD-set-other}
 use Rattle.tables.specs.Values.{pickℕ}
 use Rattle.tables.specs.Records.{field}
@@ -222,12 +222,12 @@ linked-same t t′ n ix h w fits =
       ordinals = λ i l. rw (h i l) (v .ordinals i l ∙ sym (count-same t t′ (spaceOf t i) i (λ k b. h k (omega (arith, b, l)))));
     }
 
--- an index of zeros is that of no records
-pub linked-start : (t ix : List ℕ) → ix ≡ replicate (length ix) 0 → Linked t 0 ix
+-- an index whose first 256 numbers are zero is that of no records; what follows them may be anything
+pub linked-start : (t ix : List ℕ) → (256 ≤ length ix → (s : ℕ) → s < 256 → getD ix s 0 ≡ 0) → Linked t 0 ix
 unfolding newest
 linked-start t ix e fits =
     record {
-      heads = λ s b. ap (λ (l : List ℕ). getD l s 0) e ∙ getD-replicate (length ix) s 0 0 (omega (arith, b, fits));
+      heads = e (omega arith);
       olders = λ i l. absurd (omega (arith, l));
       jumps = λ i l. absurd (omega (arith, l));
       ordinals = λ i l. absurd (omega (arith, l));

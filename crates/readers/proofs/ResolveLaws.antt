@@ -7,7 +7,7 @@ use Prim.Native.Nat.{ℕ, zero, suc, _+_, _-_, _<_, _≤_}
 use native.Mathlib.Omega.{arith}
 use borrow.Author.Tests.{eqb-true, eq-eqb, ne-eqb, lt-ltb, ltb-true, ltb-false}
 use lib.Dec.{eqb, ltb}
-use lib.ListN.{length, set, take, drop}
+use lib.ListN.{length, take}
 use Rattle.stream.specs.declared.putint.Int.{Int}
 use Rattle.stream.specs.declared.putint.Int.the-variants.{Is as IntIs, Cut}
 use Rattle.stream.specs.Bytes.{peekAt}
@@ -81,8 +81,8 @@ module _ (s : State) (st : List ℕ) (n o : ℕ) where
       pub resolve-length : length st′ ≡ length st
       resolve-length = rw f (filled-length st (k - 1) o)
 
-      pub resolve-index : (sc : List ℕ) {sc′ : List ℕ} → s .slots ≤ room 6 st → Indexed st (s .slots) sc → Waits st (s .slots) (s .pending) (s .waiting) → sc′ ≡ set sc n 0 → Indexed st′ (s .slots) sc′
-      resolve-index sc h x w g = rw (f, g) (indexed-filled st (s .slots) h n (k - 1) o found w sc x)
+      pub resolve-index : (sc : List ℕ) → s .slots ≤ room 6 st → Indexed st (s .slots) sc → Waits st (s .slots) (s .pending) (s .waiting) → Indexed st′ (s .slots) sc
+      resolve-index sc h x w = rw f (indexed-filled st (s .slots) h n (k - 1) o found w sc x)
 
 fill-at : (k o : ℕ) (m : Mem) → fillWaiter k o m .at ≡ m .at
 fill-at zero o m = refl
@@ -175,24 +175,22 @@ module _ (p : List ℕ) (s : State) {r : Count} (i : (v tr : List ℕ) (sp : ℕ
       }
 
 -- what is left of the resolves, with the turns left, gives what all of them give
-pub record Resolving (v p : List ℕ) (o : ℕ) (s₀ : State) (st₀ sc₀ : List ℕ) (s : State) (st sc : List ℕ) : Type 0 where
+pub record Resolving (v p : List ℕ) (o : ℕ) (sc : List ℕ) (s₀ : State) (st₀ : List ℕ) (s : State) (st : List ℕ) : Type 0 where
   pub left : ℕ
   pub enough : length p ≤ s .at + left
   pub within : s .at ≤ length p
   pub fits : s .slots ≤ room 6 st
   pub slots-length : length st ≡ length st₀
-  pub scratch-length : length sc ≡ length sc₀
   pub same : (tr : List ℕ) (sp : ℕ) (l : Lent) → resolves (input v p sp tr) o left (mem s (slotsIs st l)) ≡ resolves (input v p sp tr) o (length p - s₀ .at) (mem s₀ (slotsIs st₀ l))
   pub indexed : Indexed st (s .slots) (take (length p) sc)
-  pub rest : drop (length p) sc ≡ drop (length p) sc₀
   pub waits : Waits st (s .slots) (s .pending) (s .waiting)
 
-module _ (v p : List ℕ) (o : ℕ) (s₀ : State) (st₀ sc₀ : List ℕ) where
-  pub resolving-start : s₀ .at ≤ length p → s₀ .slots ≤ room 6 st₀ → Indexed st₀ (s₀ .slots) (take (length p) sc₀) → Waits st₀ (s₀ .slots) (s₀ .pending) (s₀ .waiting) → Resolving v p o s₀ st₀ sc₀ s₀ st₀ sc₀
+module _ (v p : List ℕ) (o : ℕ) (sc : List ℕ) (s₀ : State) (st₀ : List ℕ) where
+  pub resolving-start : s₀ .at ≤ length p → s₀ .slots ≤ room 6 st₀ → Indexed st₀ (s₀ .slots) (take (length p) sc) → Waits st₀ (s₀ .slots) (s₀ .pending) (s₀ .waiting) → Resolving v p o sc s₀ st₀ s₀ st₀
   resolving-start h g x w =
-      record { left = length p - s₀ .at; enough = omega arith; within = h; fits = g; slots-length = refl; scratch-length = refl; same = λ tr sp l. refl; indexed = x; rest = refl; waits = w }
+      record { left = length p - s₀ .at; enough = omega arith; within = h; fits = g; slots-length = refl; same = λ tr sp l. refl; indexed = x; waits = w }
 
-  module _ (s : State) (st sc : List ℕ) (k : Resolving v p o s₀ st₀ sc₀ s st sc) where
+  module _ (s : State) (st : List ℕ) (k : Resolving v p o sc s₀ st₀ s st) where
     pub resolving-stop : isResolve v (peekAt p (s .at)) ≡ false → (tr : List ℕ) (sp : ℕ) (l : Lent) → got tt (mem s (slotsIs st l)) ≡ resolves (input v p sp tr) o (length p - s₀ .at) (mem s₀ (slotsIs st₀ l))
     resolving-stop e tr sp l = resolves-stop (input v p sp tr) o (mem s (slotsIs st l)) (k .left) e ∙ k .same tr sp l
 
@@ -224,8 +222,8 @@ module _ (v p : List ℕ) (o : ℕ) (s₀ : State) (st₀ sc₀ : List ℕ) wher
         pub resolving-less : length p - s′ .at < length p - s .at
         resolving-less = let b = numbered p s i g in omega (arith, b .more, b .within, turn-at)
 
-        pub resolving-turn : (sc′ : List ℕ) → length st′ ≡ length st → length sc′ ≡ length sc → Indexed st′ (s′ .slots) (take (length p) sc′) → drop (length p) sc′ ≡ drop (length p) sc → Resolving v p o s₀ st₀ sc₀ s′ st′ sc′
-        resolving-turn sc′ et ec x er =
+        pub resolving-turn : length st′ ≡ length st → Indexed st′ (s′ .slots) (take (length p) sc) → Resolving v p o sc s₀ st₀ s′ st′
+        resolving-turn et x =
             let b = numbered p s i g in
             let c = resolving-asks i g in
             record {
@@ -234,7 +232,6 @@ module _ (v p : List ℕ) (o : ℕ) (s₀ : State) (st₀ sc₀ : List ℕ) wher
               within = omega (arith, b .within, turn-at);
               fits = rw (turn-count, b .slots-same, et) (k .fits);
               slots-length = et ∙ k .slots-length;
-              scratch-length = ec ∙ k .scratch-length;
               same =
                   λ tr sp l. let y = input v p sp tr in
                   ap (resolves y o (k .left - 1)) (a l)
@@ -242,6 +239,5 @@ module _ (v p : List ℕ) (o : ℕ) (s₀ : State) (st₀ sc₀ : List ℕ) wher
                   ∙ ap (λ (n : ℕ). resolves y o n (mem s (slotsIs st l))) (sym (one-more h))
                   ∙ k .same tr sp l;
               indexed = x;
-              rest = er ∙ k .rest;
               waits = subst Waiting (sym (a nothing)) (resolved-numbered (mem t (slotsIs st nothing)) o n (omega (arith, c .0)) (c .2));
             }

@@ -8,7 +8,7 @@ use native.Mathlib.Numerals.{add-one}
 use native.Mathlib.Omega.{arith}
 use borrow.Author.Tests.{eqb-true, eqb-false, eq-eqb, ne-eqb}
 use lib.Dec.{eqb}
-use lib.ListN.{length, getD, set, replicate, length-set, getD-replicate}
+use lib.ListN.{length, getD, set, length-set}
 use lib.Seq.{getD-set-same, getD-set-other}
 use Rattle.sheet.proofs.UsableSheet.{and-left, and-right}
 use Rattle.tables.specs.declared.values.Fields.{Fields}
@@ -16,7 +16,7 @@ use Rattle.tables.specs.Records.{room, field, slotRow, written, filled}
 use Rattle.tables.proofs.RecordLaws.{written-same, written-else, filled-same, filled-else}
 use Rattle.definition.specs.Slots.{waitsFor, waiter}
 use Rattle.laws.specs.Waiting.{Waits, waiter-one}
-use Rattle.readers.specs.Index.{Indexed}
+use Rattle.readers.specs.Index.{Entry, Indexed}
 
 pub by-case : (P : Type 0) (t : Bool) → (t ≡ true → P) → (t ≡ false → P) → P
 by-case P true y n = y refl
@@ -88,8 +88,31 @@ module _ (st : List ℕ) (n : ℕ) where
       (λ t. let z : suc j ≡ suc c = sym e ∙ waiter-yes st n c t in let y : c ≡ j = omega arith in (omega arith, subst (λ (k : ℕ). waitsFor st n k ≡ true) y t))
       (λ f. let r = waiter-found c j (sym (waiter-no st n c f) ∙ e) in (omega (arith, r .0), r .1))
 
-pub indexed-start : (st sc : List ℕ) → sc ≡ replicate (length sc) 0 → Indexed st 0 sc
-indexed-start st sc e n h = ap (λ (l : List ℕ). getD l n 0) e ∙ getD-replicate (length sc) n 0 0 h ∙ sym (waiter-zero st n 0)
+  waiter-some : (c i : ℕ) → i < c → waitsFor st n i ≡ true → 0 < waiter st n c
+  waiter-some zero i h e = absurd (omega arith)
+  waiter-some (suc c) i h e =
+      by-case _ (waitsFor st n c)
+      (λ t. omega (arith, waiter-yes st n c t))
+      (λ f. same-or _ i c
+      (λ y. clash (waitsFor st n c) (subst (λ (k : ℕ). waitsFor st n k ≡ true) y e) f)
+      (λ ne. let r = waiter-some c i (omega (arith, h)) e in omega (arith, r, waiter-no st n c f)))
+
+-- ---- the index
+
+pub indexed-start : (st sc : List ℕ) → Indexed st 0 sc
+indexed-start st sc n h w = absurd (omega (arith, waiter-zero st n 0))
+
+-- an entry whose slot waits is the waiter; where it does not, no slot waits
+module _ (st : List ℕ) (c n k : ℕ) (x : Entry st c n k) where
+  pub confirmed-yes : 0 < k → k ≤ c → waitsFor st n (k - 1) ≡ true → k ≡ waiter st n c
+  confirmed-yes h l e = x (waiter-some st n c (k - 1) (omega arith) e)
+
+  pub confirmed-no : (0 < k → k ≤ c → waitsFor st n (k - 1) ≡ false) → 0 ≡ waiter st n c
+  confirmed-no f =
+      same-or _ (waiter st n c) 0 sym
+      (λ ne. let e : k ≡ waiter st n c = x (omega arith) in
+      let r = waiter-found st n c (k - 1) (omega arith) in
+      clash (waitsFor st n (k - 1)) (r .1) (f (omega arith) (omega (arith, r .0))))
 
 -- ---- a slot record is added
 
@@ -128,7 +151,7 @@ module _ (st : List ℕ) (c o i : ℕ) (f : Fields) (w : ℕ) where
       added-plain n = rw (add-one c) (plain-waiter n)
 
       pub indexed-plain : (sc : List ℕ) → Indexed st c sc → Indexed after (c + 1) sc
-      indexed-plain sc x n h = x n h ∙ sym (added-plain n)
+      indexed-plain sc x n h = rw (added-plain n) (x n h)
 
     -- one that waits
     module _ (on : w ≡ 1) where
@@ -144,8 +167,8 @@ module _ (st : List ℕ) (c o i : ℕ) (f : Fields) (w : ℕ) where
       pub indexed-waits : (sc : List ℕ) → Indexed st c sc → Indexed after (c + 1) (set sc (f .a) (c + 1))
       indexed-waits sc x n h =
           same-or _ n (f .a)
-          (λ y. rw y (getD-set-same sc (f .a) (c + 1) 0 (omega (arith, length-set sc (f .a) (c + 1))) ∙ sym added-own))
-          (λ ne. getD-set-other sc (f .a) n (c + 1) 0 ne ∙ x n (omega (arith, length-set sc (f .a) (c + 1))) ∙ sym (added-others n ne))
+          (λ y w. rw y (getD-set-same sc (f .a) (c + 1) 0 (omega (arith, length-set sc (f .a) (c + 1))) ∙ sym added-own))
+          (λ ne. rw (added-others n ne, getD-set-other sc (f .a) n (c + 1) 0 ne) (x n (omega (arith, length-set sc (f .a) (c + 1)))))
 
 -- ---- a slot is filled
 
@@ -182,8 +205,9 @@ module _ (st : List ℕ) (c : ℕ) (fits : c ≤ room 6 st) (n j o : ℕ) (e : w
         (λ t. absurd (let z : suc i ≡ suc j = waiter-one w n i l t ∙ e in ne (omega arith)))
         (λ t. fill-same st j o n i ne ∙ t)))
 
-    pub indexed-filled : (sc : List ℕ) → Indexed st c sc → Indexed (filled st j o) c (set sc n 0)
+    -- the entry of the number stays, and is no longer the number of a slot that waits
+    pub indexed-filled : (sc : List ℕ) → Indexed st c sc → Indexed (filled st j o) c sc
     indexed-filled sc x m h =
         same-or _ m n
-        (λ y. rw y (getD-set-same sc n 0 0 (omega (arith, length-set sc n 0)) ∙ sym filled-gone))
-        (λ ne. getD-set-other sc n m 0 0 ne ∙ x m (omega (arith, length-set sc n 0)) ∙ sym (filled-other m ne))
+        (λ y w. absurd (let z : waiter (filled st j o) m c ≡ 0 = rw y filled-gone in omega arith))
+        (λ ne. rw (filled-other m ne) (x m h))

@@ -13,9 +13,13 @@ use Rattle.readers.specs.declared.state.Went.the-variants.{On, Refused a
 
 -- Scratch has two parts: a place for each pending number, as many as the payload has bytes, and from there on the index of legacy addresses.
 
--- for each number that it has room for: the slot that waits under it, counted from 1, or 0
+-- k is right for a number: where one of the first `count` slots waits under it, k is that slot, counted from 1; else k may be anything
+abbrev pub Entry : List ℕ → ℕ → ℕ → ℕ → Type 0
+Entry slots count n k = 0 < waiter slots n count → k ≡ waiter slots n count
+
+-- so for each number that there is room for; with no slots this holds of any contents
 abbrev pub Indexed : List ℕ → ℕ → List ℕ → Type 0
-Indexed slots count scratch = (n : ℕ) → n < length scratch → getD scratch n 0 ≡ waiter slots n count
+Indexed slots count scratch = (n : ℕ) → n < length scratch → Entry slots count n (getD scratch n 0)
 
 -- where the reader went on, the index is right
 abbrev pub CountIndexed : Count → List ℕ → List ℕ → Type 0

@@ -18,7 +18,7 @@ ghost use Rattle.definition.specs.Slots.{waitsFor, waiter, renumbered, resolved
 ghost use Rattle.definition.specs.Object.{resolves as resolvesFrom};
 ghost use Rattle.laws.specs.Waiting.{Waits};
 ghost use Rattle.readers.specs.Views.{Lent, input, mem, seenWent, slotsIs};
-ghost use Rattle.readers.specs.Index.{Indexed, WentIndexed};
+ghost use Rattle.readers.specs.Index.{Entry, Indexed, WentIndexed};
 
 // x at place i of the first part of scratch, which ends at `size`, where scratch has that place.
 pub fn note(scratch: &mut [u64], size: usize, i: u64, x: u64)
@@ -56,6 +56,22 @@ fn find_waiter(slots: &[u64], number: u64, n: usize) -> u64
     0
 }
 
+// The same, from k, which stands under the number in the index. Where no slot waits under it, k may be anything; so it counts only if the slot
+// that it names waits.
+fn confirmed(slots: &[u64], number: u64, n: usize, k: u64) -> u64
+    requires { ⌜ (n ≤ room 6 (now slots)) × Entry (now slots) n number k ⌝ }
+    ensures { λ r. ⌜ r ≡ waiter (now (slots .entry)) number n ⌝ }
+{
+    if k == 0 {
+        return 0;
+    }
+    if (n as u64) < k {
+        return 0;
+    }
+    let waits = waits_for(slots, number, (k - 1) as usize);
+    if waits { k } else { 0 }
+}
+
 // The same, by the index where it has room; and with no search under a number that was not given out, or where no slot waits.
 fn lookup(slots: &[u64], scratch: &[u64], size: usize, s: State, number: u64) -> u64
     requires { ⌜ (s .slots ≤ room 6 (now slots)) × Indexed (now slots) (s .slots) (take size (now scratch)) × Waits (now slots) (s .slots) (s .pending) (s .waiting) ⌝ }
@@ -67,7 +83,7 @@ fn lookup(slots: &[u64], scratch: &[u64], size: usize, s: State, number: u64) ->
     if number < size as u64 {
         if number < scratch.len() as u64 {
             let k = number as usize;
-            return scratch[k];
+            return confirmed(slots, number, s.slots, scratch[k]);
         }
     }
     if s.waiting == 0 {
@@ -84,18 +100,10 @@ fn renumber(pending: u64, waiting: u64) -> u64
 }
 
 // A resolve of a number, after the map of object o.
-fn resolve(
-    slots: &mut [u64],
-    scratch: &mut [u64],
-    size: usize,
-    s: State,
-    number: u64,
-    o: u64,
-) -> State
+fn resolve(slots: &mut [u64], scratch: &[u64], size: usize, s: State, number: u64, o: u64) -> State
     requires { ⌜ (s .slots ≤ room 6 (now slots)) × Indexed (now slots) (s .slots) (take size (now scratch)) × Waits (now slots) (s .slots) (s .pending) (s .waiting) ⌝ }
     ensures { λ r. ⌜ ((l : Lent) → mem r (slotsIs (now (slots .exit)) l) ≡ resolved number o (mem s (slotsIs (now (slots .entry)) l))) ⌝ }
-    ensures index { λ r. ⌜ Indexed (now (slots .exit)) (r .slots) (take size (now (scratch .exit))) ⌝ }
-    ensures rest { λ _. ⌜ drop size (now (scratch .exit)) ≡ drop size (now (scratch .entry)) ⌝ }
+    ensures index { λ r. ⌜ Indexed (now (slots .exit)) (r .slots) (take size (now (scratch .entry))) ⌝ }
 {
     let k = lookup(slots, scratch, size, s, number);
     let mut t = s;
@@ -104,7 +112,6 @@ fn resolve(
         return t;
     }
     fill_slot(slots, (k - 1) as usize, o);
-    note(scratch, size, number, 0);
     t.waiting = s.waiting - 1;
     t.pending = renumber(s.pending, s.waiting - 1);
     t
@@ -115,15 +122,14 @@ pub fn resolves(
     sheet: &[u16],
     p: &[u8],
     slots: &mut [u64],
-    scratch: &mut [u64],
+    scratch: &[u64],
     s: State,
     o: u64,
 ) -> Went
     requires { ⌜ usable (now sheet) ≡ true ⌝ }
     requires { ⌜ (s .at ≤ length (now p)) × (s .slots ≤ room 6 (now slots)) × Indexed (now slots) (s .slots) (take (length (now p)) (now scratch)) × Waits (now slots) (s .slots) (s .pending) (s .waiting) ⌝ }
     ensures { λ r. ⌜ ((tr : List ℕ) (sp : ℕ) (l : Lent) → seenWent r (slotsIs (now (slots .exit)) l) ≡ resolvesFrom (input (now (sheet .entry)) (now (p .entry)) sp tr) o (length (now (p .entry)) - s .at) (mem s (slotsIs (now (slots .entry)) l))) ⌝ }
-    ensures index { λ r. ⌜ WentIndexed r (now (slots .exit)) (take (length (now (p .entry))) (now (scratch .exit))) ⌝ }
-    ensures rest { λ _. ⌜ drop (length (now (p .entry))) (now (scratch .exit)) ≡ drop (length (now (p .entry))) (now (scratch .entry)) ⌝ }
+    ensures index { λ r. ⌜ WentIndexed r (now (slots .exit)) (take (length (now (p .entry))) (now (scratch .entry))) ⌝ }
 {
     let mut cur = s;
     loop {

@@ -9,14 +9,17 @@ use Rattle.readers.proofs.pending.lookup.Tie as tie
 returns : tie.Need-returns
 returns c = sym (waiter-high (c .before .before .before .before .pre .2) _ (c .if1 .taken))
 
-mul-result : tie.Need-mul-result
-mul-result c = search needs
+mul-confirmed : tie.Need-mul-confirmed
+mul-confirmed c = search needs
 
-shared-slice-read-result : tie.Need-shared-slice-read-result
-shared-slice-read-result c = search needs
+shared-slice-read-confirmed : tie.Need-shared-slice-read-confirmed
+shared-slice-read-confirmed c = search needs
+
+confirmed-requires : tie.Need-confirmed-requires
+confirmed-requires c κs = let a = c .before .before .before .before .before .before .before .args in let f = in-front (a .size) (a .scratch .now) (a .number) (c .before .before .if2 .taken) (c .before .if3 .taken) in (c .before .before .before .before .before .before .before .pre .0, λ w. sym (f .1) ∙ c .before .before .before .before .before .before .before .pre .1 _ (f .0) w)
 
 returns-2 : tie.Need-returns-2
-returns-2 c = let a = c .before .before .before .before .before .before .before .args in let f = in-front (a .size) (a .scratch .now) (a .number) (c .before .before .if2 .taken) (c .before .if3 .taken) in sym (f .1) ∙ c .before .before .before .before .before .before .before .pre .1 _ (f .0)
+returns-2 c = search needs
 
 returns-3 : tie.Need-returns-3
 returns-3 c = sym (waiter-none (c .before .before .before .before .before .before .before .pre .2) (c .if4 .taken) _)
@@ -32,8 +35,9 @@ lookup-spec =
     tie.close
     (tie.spec
     returns
-    mul-result
-    shared-slice-read-result
+    mul-confirmed
+    shared-slice-read-confirmed
+    confirmed-requires
     returns-2
     returns-3
     find-waiter-requires

@@ -13,10 +13,10 @@ use Rattle.readers.proofs.pending.resolves.Statement.{statement}
 use Rattle.readers.proofs.pending.resolves.Tie as tie
 
 abbrev Inv-loop : tie.InvT-loop
-Inv-loop sheet p slots₀ scratch₀ o cur₀ slots scratch cur = Resolving sheet p o cur₀ slots₀ scratch₀ cur slots scratch
+Inv-loop sheet p slots₀ scratch o cur₀ slots cur = Resolving sheet p o scratch cur₀ slots₀ cur slots
 
 abbrev μ-loop : tie.MeasureT-loop
-μ-loop sheet p slots₀ scratch₀ o cur₀ slots scratch cur = length p - cur .at
+μ-loop sheet p slots₀ scratch o cur₀ slots cur = length p - cur .at
 
 loop-holds : tie.Need-loop-holds Inv-loop μ-loop
 loop-holds c = let q = c .before .before .before .before .pre .1 in resolving-start _ _ _ _ _ _ (q .0) (q .1) (q .2) (q .3)
@@ -30,15 +30,12 @@ is-tag-requires c κs = tt
 same-length : tie.Need-same-length Inv-loop μ-loop
 same-length c = c .before .before .before .loop .inv .slots-length
 
-same-length-2 : tie.Need-same-length-2 Inv-loop μ-loop
-same-length-2 c = c .before .before .before .loop .inv .scratch-length
-
 returns : tie.Need-returns Inv-loop μ-loop
 returns c =
     let b = c .before .before .before .before .before .before .before .before in
     let k = c .before .before .before .loop in (
-      resolving-stop _ _ _ _ _ _ _ _ _ (k .inv) (tag-test (b .args .sheet .now) (b .args .p .now) (k .cur .at) (c .before .is-tag .ensures) (c .before .before .peek .ensures) (not-true _ (c .if1 .taken))),
-      (k .inv .indexed, k .inv .rest),
+      resolving-stop _ _ _ _ _ _ _ _ (k .inv) (tag-test (b .args .sheet .now) (b .args .p .now) (k .cur .at) (c .before .is-tag .ensures) (c .before .before .peek .ensures) (not-true _ (c .if1 .taken))),
+      k .inv .indexed,
     )
 
 -- the byte at the cursor is the tag, and so it is one of the payload
@@ -58,30 +55,27 @@ read-int-requires c κs = tt
 enum-known-n : tie.Need-enum-known-n Inv-loop μ-loop
 enum-known-n c = search needs
 
-same-length-3 : tie.Need-same-length-3 Inv-loop μ-loop
-same-length-3 c = c .before .before .before .before .before .before .before .loop .inv .slots-length
-
-same-length-4 : tie.Need-same-length-4 Inv-loop μ-loop
-same-length-4 c = c .before .before .before .before .before .before .before .loop .inv .scratch-length
+same-length-2 : tie.Need-same-length-2 Inv-loop μ-loop
+same-length-2 c = c .before .before .before .before .before .before .before .loop .inv .slots-length
 
 returns-2 : tie.Need-returns-2 Inv-loop μ-loop
-returns-2 c = (resolving-cut _ _ _ _ _ _ _ _ _ (c .before .before .before .before .before .before .before .loop .inv) (within (c .before .before .before .before)) (tagged (c .before .before .before .before)) (c .before .before .before .read-int .ensures .0) (c .before .n .given .1), (tt, c .before .before .before .before .before .before .before .loop .inv .rest))
+returns-2 c = (resolving-cut _ _ _ _ _ _ _ _ (c .before .before .before .before .before .before .before .loop .inv) (within (c .before .before .before .before)) (tagged (c .before .before .before .before)) (c .before .before .before .read-int .ensures .0) (c .before .n .given .1), tt)
 
 enum-known-number : tie.Need-enum-known-number Inv-loop μ-loop
 enum-known-number c = search needs
 
 resolve-requires : tie.Need-resolve-requires Inv-loop μ-loop
-resolve-requires c κs = resolving-asks _ _ _ _ _ _ _ _ _ (c .before .before .before .before .before .before .before .before .before .loop .inv) (c .before .before .before .before .before .read-int .ensures .0) (c .before .before .before .number .given .1)
+resolve-requires c κs = resolving-asks _ _ _ _ _ _ _ _ (c .before .before .before .before .before .before .before .before .loop .inv) (c .before .before .before .before .read-int .ensures .0) (c .before .before .number .given .1)
 
 loop-less : tie.Need-loop-less Inv-loop μ-loop
 loop-less c =
-    let r = c .before .before .before .before .resolve in
-    resolving-less _ _ _ _ _ _ _ _ _ (c .before .before .before .before .before .before .before .before .before .before .before .before .before .before .loop .inv) (within (c .before .before .before .before .before .before .before .before .before .before .before)) (tagged (c .before .before .before .before .before .before .before .before .before .before .before)) (c .before .before .before .before .before .before .before .before .before .before .read-int .ensures .0) (c .before .before .before .before .before .before .before .before .number .given .1) _ _ (r .ensures .0)
+    let r = c .before .before .resolve in
+    resolving-less _ _ _ _ _ _ _ _ (c .before .before .before .before .before .before .before .before .before .before .before .loop .inv) (within (c .before .before .before .before .before .before .before .before)) (tagged (c .before .before .before .before .before .before .before .before)) (c .before .before .before .before .before .before .before .read-int .ensures .0) (c .before .before .before .before .before .number .given .1) _ _ (r .ensures .0)
 
 loop-again : tie.Need-loop-again Inv-loop μ-loop
 loop-again c =
-    let r = c .before .before .before .before .resolve in
-    resolving-turn _ _ _ _ _ _ _ _ _ (c .before .before .before .before .before .before .before .before .before .before .before .before .before .before .loop .inv) (within (c .before .before .before .before .before .before .before .before .before .before .before)) (tagged (c .before .before .before .before .before .before .before .before .before .before .before)) (c .before .before .before .before .before .before .before .before .before .before .read-int .ensures .0) (c .before .before .before .before .before .before .before .before .number .given .1) _ _ (r .ensures .0) _ (r .kept .0) (r .kept .1 .0) (r .ensures .1 .0) (r .ensures .1 .1)
+    let r = c .before .before .resolve in
+    resolving-turn _ _ _ _ _ _ _ _ (c .before .before .before .before .before .before .before .before .before .before .before .loop .inv) (within (c .before .before .before .before .before .before .before .before)) (tagged (c .before .before .before .before .before .before .before .before)) (c .before .before .before .before .before .before .before .read-int .ensures .0) (c .before .before .before .before .before .number .given .1) _ _ (r .ensures .0) (r .kept .0) (r .ensures .1)
 
 pub resolves-spec : {M : Type 1} → statement M
 resolves-spec =
@@ -93,13 +87,11 @@ resolves-spec =
     peek-requires
     is-tag-requires
     same-length
-    same-length-2
     returns
     add-cur
     read-int-requires
     enum-known-n
-    same-length-3
-    same-length-4
+    same-length-2
     returns-2
     enum-known-number
     resolve-requires
