@@ -418,7 +418,7 @@ pub parse-map-same-length-16 : (t : ℕ) → parse-map-lts.Need-same-length-16 (
   resolves-reads.Asked,
   resolves-reads.Learnt,
 ) (parse-map-at t) parse-map.Post
-parse-map-same-length-16 t c = c .before .before .before .before .before .before .before .before .before .before .before .before .before .before .keep-map .kept .1 .0 ∙ c .before .before .before .before .before .before .before .before .before .before .before .before .before .before .before .before .before .before .before .before .before .before .before .before .before .before .before .before .before .before .before .before .before .before .before .before .before .before .before .before .before .before .parse-inner .kept .1 .1 .1 .1 .0
+parse-map-same-length-16 t c = c .before .before .before .before .before .before .before .before .before .before .before .before .keep-map .kept .1 .0 ∙ c .before .before .before .before .before .before .before .before .before .before .before .before .before .before .before .before .before .before .before .before .before .before .before .before .before .before .before .before .before .before .before .before .before .before .before .before .before .before .before .before .parse-inner .kept .1 .1 .1 .1 .0
 
 -- src/walk.rt:183:1
 pub parse-map-same-length-17 : (t : ℕ) → parse-map-lts.Need-same-length-17 (
@@ -431,7 +431,7 @@ pub parse-map-same-length-17 : (t : ℕ) → parse-map-lts.Need-same-length-17 (
   resolves-reads.Asked,
   resolves-reads.Learnt,
 ) (parse-map-at t) parse-map.Post
-parse-map-same-length-17 t c = c .before .before .before .before .resolves .kept .1 .1 .0 ∙ c .before .before .before .before .before .before .before .before .before .before .before .before .before .before .keep-map .kept .1 .1 .0 ∙ c .before .before .before .before .before .before .before .before .before .before .before .before .before .before .before .before .before .before .before .before .before .before .before .before .before .before .before .before .before .before .before .before .before .before .before .before .before .before .before .before .before .before .parse-inner .kept .1 .1 .1 .1 .1 .0
+parse-map-same-length-17 t c = c .before .before .resolves .kept .1 .1 .0 ∙ c .before .before .before .before .before .before .before .before .before .before .before .before .keep-map .kept .1 .1 .0 ∙ c .before .before .before .before .before .before .before .before .before .before .before .before .before .before .before .before .before .before .before .before .before .before .before .before .before .before .before .before .before .before .before .before .before .before .before .before .before .before .before .before .parse-inner .kept .1 .1 .1 .1 .1 .0
 
 -- src/walk.rt:183:1
 pub parse-map-same-length-18 : (t : ℕ) → parse-map-lts.Need-same-length-18 (
@@ -444,7 +444,7 @@ pub parse-map-same-length-18 : (t : ℕ) → parse-map-lts.Need-same-length-18 (
   resolves-reads.Asked,
   resolves-reads.Learnt,
 ) (parse-map-at t) parse-map.Post
-parse-map-same-length-18 t c = c .before .before .before .before .before .before .before .before .before .before .before .before .before .before .before .before .before .before .before .before .before .before .before .before .before .before .before .before .before .before .before .before .before .before .before .before .before .before .before .before .before .before .parse-inner .kept .1 .1 .1 .1 .1 .1 .0
+parse-map-same-length-18 t c = c .before .before .before .before .before .before .before .before .before .before .before .before .before .before .before .before .before .before .before .before .before .before .before .before .before .before .before .before .before .before .before .before .before .before .before .before .before .before .before .before .parse-inner .kept .1 .1 .1 .1 .1 .1 .0
 
 -- src/walk.rt:183:1
 pub parse-map-same-length-19 : (t : ℕ) → parse-map-lts.Need-same-length-19 (
@@ -457,7 +457,7 @@ pub parse-map-same-length-19 : (t : ℕ) → parse-map-lts.Need-same-length-19 (
   resolves-reads.Asked,
   resolves-reads.Learnt,
 ) (parse-map-at t) parse-map.Post
-parse-map-same-length-19 t c = c .before .before .before .before .before .before .before .before .before .before .before .before .before .before .before .before .before .before .before .before .before .before .before .before .after-map .kept .1 .1 .0 ∙ c .before .before .before .before .before .before .before .before .before .before .before .before .before .before .before .before .before .before .before .before .before .before .before .before .before .before .before .before .before .before .before .before .before .before .before .before .before .before .before .before .before .before .parse-inner .kept .1 .1 .1 .1 .1 .1 .1 .0
+parse-map-same-length-19 t c = c .before .before .before .before .before .before .before .before .before .before .before .before .before .before .before .before .before .before .before .before .before .before .after-map .kept .1 .1 .0 ∙ c .before .before .before .before .before .before .before .before .before .before .before .before .before .before .before .before .before .before .before .before .before .before .before .before .before .before .before .before .before .before .before .before .before .before .before .before .before .before .before .before .parse-inner .kept .1 .1 .1 .1 .1 .1 .1 .0
 
 -- src/walk.rt:183:1
 pub parse-map-same-length-20 : (t : ℕ) → parse-map-lts.Need-same-length-20 (
@@ -470,7 +470,7 @@ pub parse-map-same-length-20 : (t : ℕ) → parse-map-lts.Need-same-length-20 (
   resolves-reads.Asked,
   resolves-reads.Learnt,
 ) (parse-map-at t) parse-map.Post
-parse-map-same-length-20 t c = c .before .before .before .before .resolves .kept .1 .1 .1 .0 ∙ c .before .before .before .before .before .before .before .before .before .before .before .before .before .before .before .before .before .before .before .before .before .before .before .before .after-map .kept .1 .1 .1 .0 ∙ c .before .before .before .before .before .before .before .before .before .before .before .before .before .before .before .before .before .before .before .before .before .before .before .before .before .before .before .before .before .before .before .before .before .before .before .before .before .before .before .before .before .before .parse-inner .kept .1 .1 .1 .1 .1 .1 .1 .1 .1 .1 .1 .0
+parse-map-same-length-20 t c = c .before .before .before .before .before .before .before .before .before .before .before .before .before .before .before .before .before .before .before .before .before .before .after-map .kept .1 .1 .1 .0 ∙ c .before .before .before .before .before .before .before .before .before .before .before .before .before .before .before .before .before .before .before .before .before .before .before .before .before .before .before .before .before .before .before .before .before .before .before .before .before .before .before .before .parse-inner .kept .1 .1 .1 .1 .1 .1 .1 .1 .1 .1 .1 .0
 
 -- src/walk.rt:183:1
 pub parse-map-returns-4 : (t : ℕ) → parse-map-lts.Need-returns-4 (
@@ -484,12 +484,12 @@ pub parse-map-returns-4 : (t : ℕ) → parse-map-lts.Need-returns-4 (
   resolves-reads.Learnt,
 ) (parse-map-at t) parse-map.Post
 parse-map-returns-4 t c =
-    let a = c .before .before .before .before .before .before .before .before .before .before .before .before .before .before .before .before .before .before .before .before .before .before .before .before .before .before .before .before .before .before .before .before .before .before .before .before .before .before .before .before .before .before .before .before .before .before .before .before .before .before .before .before .before .before .before .before .before .before .before .args in
-    let g = c .before .before .before .before .before .before .before .before .before .before .before .before .before .before .before .before .before .before .before .before .before .before .before .before .before .before .before .before .before .before .before .before .before .before .before .before .before .before .before .before .before .before .before .before .before .before .before .before .before .before .before .before .before .before .before .before .before .before .before .pre .1 in
-    let e = seen-got (lent _ _ _ _ _ _ _) (c .before .before .before .before .before .before .before .before .before .before .before .before .before .before .before .before .before .before .before .before .before .before .before .before .before .before .before .before .before .before .x .given .1) (c .before .before .before .before .before .before .before .before .before .before .before .before .before .before .before .before .before .before .before .before .before .before .before .before .before .before .before .before .before .before .before .before .before .before .before .before .before .before .before .before .before .before .parse-inner .ensures .0) in
-    let f = went-on (lent _ _ _ _ _ _ _) (c .before .before .before .before .before .before .before .before .before .before .before .before .before .before .before .before .before .before .y .given .1) (c .before .before .before .before .before .before .before .before .before .before .before .before .before .before .before .before .before .before .before .before .before .before .before .before .after-map .ensures .0 _ (lent _ _ _ [] _ [] [])) in
-    let k = went-on (lent _ _ _ _ _ _ _) (c .before .before .before .before .before .before .before .before .w .given .1) (c .before .before .before .before .before .before .before .before .before .before .before .before .before .before .keep-map .ensures _ _ _ (lent [] [] _ _ _ _ _)) in
-    let r = kept-ready (g .0) (a .d) (a .a) (a .n) (a .o) e f (g .1 .3) (g .1 .1) (g .1 .4) (c .before .before .before .before .before .before .before .before .before .before .before .before .before .before .before .before .before .before .before .before .before .before .before .before .before .before .before .before .before .before .before .before .before .before .before .before .before .before .before .before .before .before .parse-inner .last .1 .1 .1 .1 .1 .1 .1 .1 .1 .1 .1 .0) (c .before .before .before .before .before .before .before .before .before .before .before .before .before .before .before .before .before .before .before .before .before .before .before .before .after-map .last .1 .1 .1 .0) (out-index _ (seen-got (lent _ _ _ _ _ _ _) (c .before .before .before .before .before .before .before .before .before .before .before .before .before .before .before .before .before .before .before .before .before .before .before .before .before .before .before .before .before .before .x .given .1) refl) (c .before .before .before .before .before .before .before .before .before .before .before .before .before .before .before .before .before .before .before .before .before .before .before .before .before .before .before .before .before .before .before .before .before .before .before .before .before .before .before .before .before .before .parse-inner .ensures .1)) (c .before .before .before .before .before .before .before .before .before .before .before .before .before .before .before .before .before .before .before .before .before .before .before .before .after-map .ensures .1 .1) (went-linked _ _ (c .before .before .before .before .before .before .before .before .before .before .before .before .before .before .before .before .before .before .y .given .1) (c .before .before .before .before .before .before .before .before .before .before .before .before .before .before .before .before .before .before .before .before .before .before .before .before .after-map .ensures .1 .0)) k in (
-      mapped-on (g .0) (a .d) (a .a) (a .n) (a .o) e f k (c .before .before .before .before .resolves .ensures .0 _ _ (lent _ [] _ _ _ _ _)),
-      went-index _ _ _ _ (c .before .before .before .before .resolves .ensures .1 .1) (r .index .linked) (c .before .before .before .before .resolves .result) (lent _ _ _ _ _ _ _) (c .before .before .before .before .resolves .ensures .0 (c .before .before .before .before .before .before .before .before .before .before .before .before .before .before .before .before .before .before .before .before .before .before .before .before .before .before .before .before .before .before .before .before .before .before .before .before .before .before .before .before .before .before .before .before .before .before .before .before .before .before .before .before .before .before .before .before .before .before .before .args .tr .now) (c .before .before .before .before .before .before .before .before .before .before .before .before .before .before .before .before .before .before .before .before .before .before .before .before .before .before .before .before .before .before .before .before .before .before .before .before .before .before .before .before .before .before .before .before .before .before .before .before .before .before .before .before .before .before .before .before .before .before .before .args .k) (lent _ [] _ _ _ _ _)) (resolves-ground _ _ _ _) (c .before .before .before .before .resolves .ensures .1 .0),
+    let a = c .before .before .before .before .before .before .before .before .before .before .before .before .before .before .before .before .before .before .before .before .before .before .before .before .before .before .before .before .before .before .before .before .before .before .before .before .before .before .before .before .before .before .before .before .before .before .before .before .before .before .before .before .before .before .before .before .before .args in
+    let g = c .before .before .before .before .before .before .before .before .before .before .before .before .before .before .before .before .before .before .before .before .before .before .before .before .before .before .before .before .before .before .before .before .before .before .before .before .before .before .before .before .before .before .before .before .before .before .before .before .before .before .before .before .before .before .before .before .before .pre .1 in
+    let e = seen-got (lent _ _ _ _ _ _ _) (c .before .before .before .before .before .before .before .before .before .before .before .before .before .before .before .before .before .before .before .before .before .before .before .before .before .before .before .before .x .given .1) (c .before .before .before .before .before .before .before .before .before .before .before .before .before .before .before .before .before .before .before .before .before .before .before .before .before .before .before .before .before .before .before .before .before .before .before .before .before .before .before .before .parse-inner .ensures .0) in
+    let f = went-on (lent _ _ _ _ _ _ _) (c .before .before .before .before .before .before .before .before .before .before .before .before .before .before .before .before .y .given .1) (c .before .before .before .before .before .before .before .before .before .before .before .before .before .before .before .before .before .before .before .before .before .before .after-map .ensures .0 _ (lent _ _ _ [] _ [] [])) in
+    let k = went-on (lent _ _ _ _ _ _ _) (c .before .before .before .before .before .before .w .given .1) (c .before .before .before .before .before .before .before .before .before .before .before .before .keep-map .ensures _ _ _ (lent [] [] _ _ _ _ _)) in
+    let r = kept-ready (g .0) (a .d) (a .a) (a .n) (a .o) e f (g .1 .3) (g .1 .1) (g .1 .4) (c .before .before .before .before .before .before .before .before .before .before .before .before .before .before .before .before .before .before .before .before .before .before .before .before .before .before .before .before .before .before .before .before .before .before .before .before .before .before .before .before .parse-inner .last .1 .1 .1 .1 .1 .1 .1 .1 .1 .1 .1 .0) (c .before .before .before .before .before .before .before .before .before .before .before .before .before .before .before .before .before .before .before .before .before .before .after-map .last .1 .1 .1 .0) (out-index _ (seen-got (lent _ _ _ _ _ _ _) (c .before .before .before .before .before .before .before .before .before .before .before .before .before .before .before .before .before .before .before .before .before .before .before .before .before .before .before .before .x .given .1) refl) (c .before .before .before .before .before .before .before .before .before .before .before .before .before .before .before .before .before .before .before .before .before .before .before .before .before .before .before .before .before .before .before .before .before .before .before .before .before .before .before .before .parse-inner .ensures .1)) (c .before .before .before .before .before .before .before .before .before .before .before .before .before .before .before .before .before .before .before .before .before .before .after-map .ensures .1 .1) (went-linked _ _ (c .before .before .before .before .before .before .before .before .before .before .before .before .before .before .before .before .y .given .1) (c .before .before .before .before .before .before .before .before .before .before .before .before .before .before .before .before .before .before .before .before .before .before .after-map .ensures .1 .0)) k in (
+      mapped-on (g .0) (a .d) (a .a) (a .n) (a .o) e f k (c .before .before .resolves .ensures .0 _ _ (lent _ [] _ _ _ _ _)),
+      went-index _ _ _ _ refl (r .index .linked) (c .before .before .resolves .result) (lent _ _ _ _ _ _ _) (c .before .before .resolves .ensures .0 (c .before .before .before .before .before .before .before .before .before .before .before .before .before .before .before .before .before .before .before .before .before .before .before .before .before .before .before .before .before .before .before .before .before .before .before .before .before .before .before .before .before .before .before .before .before .before .before .before .before .before .before .before .before .before .before .before .before .args .tr .now) (c .before .before .before .before .before .before .before .before .before .before .before .before .before .before .before .before .before .before .before .before .before .before .before .before .before .before .before .before .before .before .before .before .before .before .before .before .before .before .before .before .before .before .before .before .before .before .before .before .before .before .before .before .before .before .before .before .before .args .k) (lent _ [] _ _ _ _ _)) (resolves-ground _ _ _ _) (c .before .before .resolves .ensures .1),
     )
