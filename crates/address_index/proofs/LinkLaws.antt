@@ -223,11 +223,11 @@ linked-same t t′ n ix h w fits =
     }
 
 -- an index whose first 256 numbers are zero is that of no records; what follows them may be anything
-pub linked-start : (t ix : List ℕ) → (256 ≤ length ix → (s : ℕ) → s < 256 → getD ix s 0 ≡ 0) → Linked t 0 ix
+pub linked-start : (t ix : List ℕ) → ((s : ℕ) → s < 256 → getD ix s 0 ≡ 0) → Linked t 0 ix
 unfolding newest
 linked-start t ix e fits =
     record {
-      heads = e (omega arith);
+      heads = e;
       olders = λ i l. absurd (omega (arith, l));
       jumps = λ i l. absurd (omega (arith, l));
       ordinals = λ i l. absurd (omega (arith, l));
