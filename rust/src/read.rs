@@ -115,6 +115,7 @@ fn scratch_length(call: &Call, rooms: Rooms) -> usize {
 
 /// One call with these rooms: refused with 3 if they do not suffice.
 pub fn read_within<'a>(call: &Call<'a>, rooms: Rooms) -> Result<Graph<'a>, Refusal> {
+    // Zeros, because such memory is given without being written; the library asks nothing of what the tables and scratch hold.
     let table = |records: usize, fields: usize| vec![0; records.saturating_mul(fields)];
     let mut tables = Tables {
         objects: table(rooms.objects, OBJECT),

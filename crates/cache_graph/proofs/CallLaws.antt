@@ -1,20 +1,20 @@
 -- A call at each way out of the code. Assumes nothing.
 use mathlib.Core.Path.{_≡_, refl, sym, ap, subst, _∙_}
 use mathlib.Core.Bool.{Bool, true, false, _||_}
-use mathlib.Core.List.{List, [], _∷_}
-use Prim.Native.Nat.{ℕ, zero, suc, _<_, _≤_}
+use mathlib.Core.List.{List, _++_}
+use Prim.Native.Nat.{ℕ, _+_, _-_, _<_, _≤_}
 use native.Mathlib.Omega.{arith}
-use borrow.Author.Tests.{ltb-false}
+use borrow.Author.Tests.{ltb-true, ltb-false}
+use borrow.Rule.Slice.PartMut.{midOf, postOf, putMid, mid-len, same-len-mid}
 use lib.Dec.{ltb}
-use lib.ListN.{length, take, drop, replicate, length-replicate}
+use lib.ListN.{length, getD, take, drop, replicate, length-drop, length-replicate, getD-replicate, List·getD-append, List·getD-eq-default}
+use lib.Seq.{drop-at, length-take-le}
 use Rattle.stream.proofs.ByteLaws.{Bytes}
 use Rattle.sheet.specs.Sheet.{usable, plain}
-use Rattle.heads.specs.Heads.{Heads}
 use Rattle.alloc.specs.Allocation.{spacesOf}
 use Rattle.address_index.proofs.LinkLaws.{linked-start}
 use Rattle.definition.specs.Memory.{Input, off, told, Table, table, Mem, Out, got, no}
 use Rattle.definition.specs.Call.{Rooms, Call, inputOf, start, walk, tooLong, called, graph, tableOf, Answer, answerOf}
-use Rattle.laws.specs.Sound.{Proper}
 use Rattle.laws.specs.ClosingKeeps.{start-sound, start-counted}
 use Rattle.laws.specs.Waiting.{waits-start}
 use Rattle.laws.specs.Addresses.{start-ascending}
@@ -25,8 +25,8 @@ use Rattle.readers.specs.declared.state.State.{State}
 use Rattle.readers.specs.declared.state.Went.{Went}
 use Rattle.readers.specs.declared.state.Went.the-variants.{On, Refused}
 use Rattle.readers.specs.Views.{Lent, input, mem, seenWent}
-use Rattle.readers.proofs.WaiterLaws.{indexed-start}
-use Rattle.walker.specs.Ready.{lent, Index, Ready}
+use Rattle.readers.proofs.WaiterLaws.{by-case, indexed-start}
+use Rattle.walker.specs.Ready.{lent, Ready}
 use Rattle.cache_graph.specs.declared.parse.Outcome.{Outcome}
 use Rattle.cache_graph.specs.Promise.{roomsOf, answer, Reads, Assures, Started, Rows, Walked}
 use Rattle.cache_graph.specs.SecondCall.{accepted-graph}
@@ -36,36 +36,60 @@ use Rattle.cache_graph.specs.SecondCall.{accepted-graph}
 abbrev pub first : State
 first = record { at = 0; objects = 0; slots = 0; values = 0; addresses = 0; pending = 0; waiting = 0; skip = 0; alignment = 0 }
 
-abbrev blank : ℕ → List ℕ
-blank n = replicate n 0
+-- the heads of the index of legacy addresses, which begins at `size`, are zero
+abbrev HeadsZero : ℕ → List ℕ → Type 0
+HeadsZero size sc = (s : ℕ) → s < 256 → getD (drop size sc) s 0 ≡ 0
 
-take-zeros : (size n : ℕ) → take size (blank n) ≡ blank (length (take size (blank n)))
-take-zeros zero n = refl
-take-zeros (suc size) zero = refl
-take-zeros (suc size) (suc n) = ap (λ (t : List ℕ). 0 ∷ t) (take-zeros size n)
+-- so they are where scratch ends before
+pub heads-past : (size : ℕ) (sc : List ℕ) → length sc ≤ size → HeadsZero size sc
+heads-past size sc h s b = List·getD-eq-default (drop size sc) 0 (omega (arith, length-drop size sc))
 
-drop-zeros : (size n : ℕ) → drop size (blank n) ≡ blank (length (drop size (blank n)))
-drop-zeros zero n = ap blank (sym (length-replicate n 0))
-drop-zeros (suc size) zero = refl
-drop-zeros (suc size) (suc n) = drop-zeros size n
+-- and when the part from `size` to e was cleared: it has 256 numbers at least, or all that follow
+module _ (size e : ℕ) (sc : List ℕ) (below : size ≤ e) (within : e ≤ length sc) {part : List ℕ} (z : part ≡ replicate (length (midOf size (e - size) sc)) 0) where
+  part-length : length part ≡ e - size
+  part-length = ap (length {A = ℕ}) z ∙ length-replicate (length (midOf size (e - size) sc)) 0 ∙ mid-len size e sc within
 
--- zeros index no slot and no address record
-zeros-index : (size n : ℕ) (st dt : List ℕ) → Index size (table st 0) (table dt 0) (blank n)
-zeros-index size n st dt =
-    record { pending = indexed-start st (take size (blank n)) (take-zeros size n); linked = linked-start dt (drop size (blank n)) (drop-zeros size n) }
+  abbrev after : List ℕ
+  after = putMid size (e - size) sc part
 
-start-ready : {x : Input} {h : List ℕ} → Proper x → Heads (x .sheet) h → (rooms : Rooms) (n : ℕ) → Ready x h (start rooms off) (replicate n 0)
-start-ready {x} p d rooms n =
-    record { proper = p; decoded = d; sound = start-sound x rooms off; counted = start-counted rooms off; numbered = waits-start _; ascending = start-ascending p rooms off; index = zeros-index (length (x .payload)) n _ _ }
+  part-zero : (s : ℕ) → s < e - size → getD (drop size after) s 0 ≡ 0
+  part-zero s h =
+      rw (drop-at (take size sc) (part ++ postOf size (e - size) sc) size (length-take-le size sc (omega arith)))
+      (List·getD-append part (postOf size (e - size) sc) 0 s (omega (arith, part-length))
+      ∙ ap (λ (l : List ℕ). getD l s 0) z
+      ∙ getD-replicate (length (midOf size (e - size) sc)) s 0 0 (omega (arith, mid-len size e sc within)))
 
-module _ (x : Input) (h ot st vt dt sc : List ℕ) (s : Started x h ot st vt dt sc) where
-  pub started : mem first (lent ot st vt dt (replicate 25 0) (replicate 256 0) (replicate 256 0)) ≡ start (roomsOf ot st vt dt) off
+  after-length : length after ≡ length sc
+  after-length = same-len-mid size (e - size) sc part (part-length ∙ sym (mid-len size e sc within))
+
+  pub heads-cleared : (e < size + 256 → e ≡ length sc) → HeadsZero size after
+  heads-cleared g s b =
+      by-case _ (ltb s (e - size)) (λ t. part-zero s (ltb-true s (e - size) t))
+      (λ f. let q = ltb-false s (e - size) f in
+      let w = g (omega arith) in
+      List·getD-eq-default (drop size after) 0 (omega (arith, length-drop size after, after-length)))
+
+module _ (x : Input) (h ot st vt dt : List ℕ) (s : Started x h ot st vt dt) where
+  abbrev begins : Mem
+  begins = mem first (lent ot st vt dt (replicate 25 0) (replicate 256 0) (replicate 256 0))
+
+  pub started : begins ≡ start (roomsOf ot st vt dt) off
   started = rw (← s .objects-zero, ← s .slots-zero, ← s .values-zero, ← s .addresses-zero)
 
-  pub started-ready : Ready x h (mem first (lent ot st vt dt (replicate 25 0) (replicate 256 0) (replicate 256 0))) sc
-  started-ready =
+  -- whatever else scratch holds, it indexes no slot and no address record
+  pub started-ready : (sc : List ℕ) → HeadsZero (length (x .payload)) sc → Ready x h begins sc
+  started-ready sc z =
+      let rooms = roomsOf ot st vt dt in
       subst (λ (m : Mem). Ready x h m sc) (sym started)
-      (subst (λ (l : List ℕ). Ready x h (start (roomsOf ot st vt dt) off) l) (sym (s .scratch-zero)) (start-ready (s .proper) (s .decoded) (roomsOf ot st vt dt) (length sc)))
+      (record {
+        proper = s .proper;
+        decoded = s .decoded;
+        sound = start-sound x rooms off;
+        counted = start-counted rooms off;
+        numbered = waits-start _;
+        ascending = start-ascending (s .proper) rooms off;
+        index = record { pending = indexed-start _ (take (length (x .payload)) sc); linked = linked-start _ (drop (length (x .payload)) sc) z };
+      })
 
 -- ---- the walk's answer
 

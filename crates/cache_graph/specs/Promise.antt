@@ -46,15 +46,14 @@ pub record Assures (c : Call) (rooms : Rooms) (r : Outcome) (objects slots value
 
 -- ---- the walk inside the call
 
--- it starts with a payload that it takes, the sheet's heads, and zeros
-pub record Started (x : Input) (heads objects slots values addresses scratch : List ℕ) : Type 0 where
+-- it starts with a payload that it takes, the sheet's heads, and tables that are zero
+pub record Started (x : Input) (heads objects slots values addresses : List ℕ) : Type 0 where
   pub proper : Proper x
   pub decoded : Heads (x .sheet) heads
   pub objects-zero : objects ≡ replicate (length objects) 0
   pub slots-zero : slots ≡ replicate (length slots) 0
   pub values-zero : values ≡ replicate (length values) 0
   pub addresses-zero : addresses ≡ replicate (length addresses) 0
-  pub scratch-zero : scratch ≡ replicate (length scratch) 0
 
 -- the numbers of a table where the payload is accepted
 abbrev pub Rows : (Mem → Table) → Out (Unit {0}) → List ℕ → Type 0

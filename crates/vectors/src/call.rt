@@ -121,17 +121,15 @@ fn hold(
     slots: &[u64],
     values: &[u64],
     addresses: &[u64],
-    scratch: &[u64],
 ) -> Ran {
     let f = read_frozen(cases, start, o);
     let a = same_table(cases, f.at, numbers_of(f.objects, 4), objects);
     let b = same_table(cases, a.at, numbers_of(f.slots, 6), slots);
     let c = same_table(cases, b.at, numbers_of(f.values, 3), values);
     let d = same_table(cases, c.at, numbers_of(f.addresses, 5), addresses);
-    let e = same_table(cases, d.at, 0, scratch);
-    let equal = f.same & a.same & b.same & c.same & d.same & e.same;
+    let equal = f.same & a.same & b.same & c.same & d.same;
     if !equal {
-        difference(k, f.same, a.same, b.same, c.same, d.same, e.same);
+        difference(k, f.same, a.same, b.same, c.same, d.same);
     }
     Ran {
         family,
@@ -141,7 +139,7 @@ fn hold(
     }
 }
 
-// Runs a call over tables of the frozen rooms, and compares.
+// Runs a call over tables of the frozen rooms, and compares. What scratch holds before could be the number of a slot and of a record.
 fn compare(
     cases: &[u8],
     start: usize,
@@ -178,7 +176,6 @@ fn compare(
         slots,
         values,
         addresses,
-        &scratch,
     )
 }
 

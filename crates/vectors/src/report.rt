@@ -29,7 +29,6 @@ pub fn difference(
     slots: bool,
     values: bool,
     addresses: bool,
-    scratch: bool,
 ) {
     text(b"case ");
     decimal(k);
@@ -39,7 +38,6 @@ pub fn difference(
     part(!slots, b" slots");
     part(!values, b" values");
     part(!addresses, b" addresses");
-    part(!scratch, b" scratch");
     text(b"\n");
 }
 

@@ -52,7 +52,7 @@ fn scratch_length(bytes: usize, legacy: bool, addresses: usize) -> usize {
 }
 
 impl Tables {
-    /// Tables with room for so many records, which hold other numbers before.
+    /// Tables with room for so many records, and scratch, which hold other numbers before.
     pub fn with_room(rooms: [usize; 4], scratch: usize) -> Tables {
         let table = |k: usize| vec![OTHER; rooms[k] * FIELDS[k]];
         Tables { records: [table(0), table(1), table(2), table(3)], scratch: vec![OTHER; scratch] }

@@ -75,8 +75,8 @@ fn main() -> ExitCode {
     tally.report("longest payload, accepted", &empty(&sheets[0]), difference);
     for number in 0..given.count {
         // A case depends on the seed and its number alone.
-        let mut random = Random::new(given.seed.wrapping_mul(1_000_003).wrapping_add(number));
-        let (family, call) = generated(&mut random, &sheets);
+        let seed = given.seed.wrapping_mul(1_000_003).wrapping_add(number);
+        let (family, call) = generated(seed, &sheets);
         let difference = compared(&mut capture, &mut tally, &family, &call);
         tally.report(&format!("case {number}, {family}"), &call, difference);
     }
@@ -100,7 +100,8 @@ fn main() -> ExitCode {
 
 // ---- inputs
 
-fn generated(random: &mut Random, sheets: &[sheets::Sheet]) -> (String, Call) {
+fn generated(seed: u64, sheets: &[sheets::Sheet]) -> (String, Call) {
+    let random = &mut Random::new(seed);
     let fixed = random.chance(700);
     let sheet =
         if fixed { sheets[random.below(sheets.len())].clone() } else { sheets::coinciding(random, sheets) };
@@ -130,7 +131,7 @@ fn generated(random: &mut Random, sheets: &[sheets::Sheet]) -> (String, Call) {
         payloads::damage(random, &sheet, &mut payload);
     }
     let scratch = scratch_length(random, &payload);
-    let mut call = Call { sheet: sheet.numbers.to_vec(), payload, reserve, trusted, scratch };
+    let mut call = Call { sheet: sheet.numbers.to_vec(), payload, reserve, trusted, scratch, fill: seed };
     if random.chance(10) {
         call.sheet = sheets::unusable(random, sheets);
         return ("unusable".into(), call);
@@ -154,6 +155,7 @@ fn limits(sheets: &[sheets::Sheet]) -> Vec<(&'static str, Call, &'static str)> {
         reserve: vec![0; reserve],
         trusted: Vec::new(),
         scratch: 0,
+        fill: 0,
     };
     let (bytes, most) = (oracle::MOST_BYTES, oracle::MOST_RESERVATIONS);
     let unusable = Call { sheet: Vec::new(), ..call(bytes + 1, 0) };
@@ -172,6 +174,7 @@ fn empty(sheet: &sheets::Sheet) -> Call {
         reserve: Vec::new(),
         trusted: Vec::new(),
         scratch: 0,
+        fill: 0,
     }
 }
 
@@ -305,13 +308,13 @@ fn different(got: &str, wanted: &str) -> Option<String> {
     Some(format!("{got}, the Rust has {wanted}"))
 }
 
-/// Without scratch, and with as much as is of use, the graph is the same.
+/// Without scratch, and with as much as is of use, which holds other numbers than before, the graph is the same.
 fn other_scratch(call: &Call, graph: &Graph) -> Option<String> {
     if graph.number != 0 {
         return None;
     }
     [0, Call::full_scratch(&call.payload)].into_iter().find_map(|scratch| {
-        let other = port::graph(&Call { scratch, ..call.clone() }, graph.lengths());
+        let other = port::graph(&Call { scratch, fill: !call.fill, ..call.clone() }, graph.lengths());
         let changed = || (!graph.is_same(&other)).then(|| format!("another graph with {scratch} of scratch"));
         other.left_over().or_else(changed)
     })
@@ -366,7 +369,7 @@ impl Tally {
         println!("  sheet {}", hex(&sheet));
         println!("  payload {}", hex(&call.payload));
         println!("  reserve {}", hex(&reserve));
-        println!("  trusted {}, scratch {}", hex(&call.trusted), call.scratch);
+        println!("  trusted {}, scratch {} of {}", hex(&call.trusted), call.scratch, call.fill);
     }
 
     fn print(&self) {

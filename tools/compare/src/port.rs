@@ -1,5 +1,6 @@
 //! The port, by the declaration of include/dawichko.h.
 
+use crate::random::Random;
 use oracle::serializer::{Object, Ref, SlotValue};
 
 extern "C" {
@@ -29,7 +30,7 @@ extern "C" {
 pub const FIELDS: [usize; 4] = [4, 6, 3, 5];
 const LETTERS: [char; 4] = ['o', 's', 'v', 'd'];
 
-/// A call's input; the sheet may have any length.
+/// A call's input; the sheet may have any length. Scratch is as long as `scratch` says, and `fill` is the seed of what it holds before.
 #[derive(Clone)]
 pub struct Call {
     pub sheet: Vec<u16>,
@@ -37,6 +38,7 @@ pub struct Call {
     pub reserve: Vec<u32>,
     pub trusted: Vec<u8>,
     pub scratch: usize,
+    pub fill: u64,
 }
 
 impl Call {
@@ -45,6 +47,16 @@ impl Call {
         let records = payload.len() / 2 + 2;
         payload.len() + 256 + 3 * records
     }
+
+    /// What scratch holds before: numbers that slots and records can have, and larger ones.
+    fn filled_scratch(&self) -> Vec<u64> {
+        let mut random = Random::new(!self.fill);
+        let mut number = || {
+            let bits = random.one_of(&[2, 4, 6, 12, 32, 64]);
+            random.next() >> (64 - bits)
+        };
+        (0..self.scratch).map(|_| number()).collect()
+    }
 }
 
 /// What a call gives: number, counts with `end` and place, and the four tables whole.
@@ -52,13 +64,12 @@ pub struct Graph {
     pub number: u64,
     pub outcome: [u64; 6],
     pub tables: [Vec<u64>; 4],
-    scratch: Vec<u64>,
 }
 
 /// Calls the port with tables of these lengths, which hold other numbers before.
 pub fn graph(call: &Call, lengths: [usize; 4]) -> Graph {
     let mut tables = lengths.map(|n| vec![0xabab_abab_abab_abab_u64; n]);
-    let mut scratch = vec![0xcdcd_cdcd_cdcd_cdcd_u64; call.scratch];
+    let mut scratch = call.filled_scratch();
     let mut outcome = [u64::MAX; 6];
     let [objects, slots, values, addresses] = &mut tables;
     // Each length is that of the slice whose pointer stands before it, and no two of them overlap.
@@ -85,7 +96,7 @@ pub fn graph(call: &Call, lengths: [usize; 4]) -> Graph {
             outcome.as_mut_ptr(),
         )
     };
-    Graph { number, outcome, tables, scratch }
+    Graph { number, outcome, tables }
 }
 
 impl Graph {
@@ -105,9 +116,6 @@ impl Graph {
 
     /// What is not zero and should be, or a count past its table's room.
     pub fn left_over(&self) -> Option<String> {
-        if self.scratch.iter().any(|n| *n != 0) {
-            return Some("scratch is not zero".into());
-        }
         let lengths = self.lengths();
         for table in 0..4 {
             if lengths[table] > self.tables[table].len() {

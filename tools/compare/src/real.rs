@@ -39,6 +39,7 @@ fn read(family: &str, sheet: &Sheet, folder: &Path) -> Result<Vec<(String, Strin
         let call = Call {
             sheet: sheet.numbers().to_vec(),
             scratch: Call::full_scratch(&payload),
+            fill: payload.len() as u64,
             payload,
             reserve: reservations(&reserve)?,
             trusted: Vec::new(),

@@ -1,6 +1,5 @@
 use borrow.Author.Needs.{needs}
 use mathlib.Core.Path.{sym, _∙_}
-use native.Mathlib.Omega.{arith}
 use Rattle.laws.specs.Waiting.{waiter-high, waiter-none}
 use Rattle.readers.proofs.PartLaws.{in-front}
 use Rattle.readers.proofs.pending.lookup.Statement.{statement}
