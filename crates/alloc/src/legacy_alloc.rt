@@ -62,20 +62,6 @@ impl LegacyAlloc {
         }
     }
 
-    // A chunk change: the space goes on at offset 0 of its next chunk. A space without counters stays.
-    pub fn next_chunk(mut self, spaces: u64, space: u64) -> LegacyAlloc
-        requires { ⌜ (space < 256) × (getD (self .cur) space 0 < 2 ^ 32 - 1) ⌝ }
-        ensures { λ r. ⌜ r ≡ nextChunk self spaces space ⌝ }
-    {
-        if spaces <= space {
-            return self;
-        }
-        let i = space as usize;
-        self.cur[i] = self.cur[i] + 1;
-        self.used[i] = 0;
-        self
-    }
-
     // Address record n of an object. 3: no room for the record; 16: the size, the address or the next free offset passes 2^32 - 1; then
     // nothing changes. A space without counters gets a record that is not placed, and the alignment stays pending.
     // The counters are copied in and out once, so each way out stores an offset: where nothing is placed, the one that was there.
@@ -94,6 +80,19 @@ impl LegacyAlloc {
             alloc: self,
         }
     }
+}
+
+// A chunk change: the space goes on at offset 0 of its next chunk. A space without counters stays.
+pub fn next_chunk(cur: &mut [u32; 256], used: &mut [u32; 256], spaces: u64, space: u64)
+    requires { ⌜ (space < 256) × (getD (now cur) space 0 < 2 ^ 32 - 1) ⌝ }
+    ensures { λ _. ⌜ (now (cur .exit) ≡ nextChunk (record { cur = now (cur .entry); used = now (used .entry) }) spaces space .cur) × (now (used .exit) ≡ nextChunk (record { cur = now (cur .entry); used = now (used .entry) }) spaces space .used) ⌝ }
+{
+    if spaces <= space {
+        return;
+    }
+    let i = space as usize;
+    cur[i] = cur[i] + 1;
+    used[i] = 0;
 }
 
 // The tests of an allocation and its record, in a space with this next free offset and this chunk.

@@ -4,7 +4,7 @@ use crate::ints::read_int;
 use crate::state::Count;
 use crate::state::State;
 use crate::state::Step;
-use alloc::legacy_alloc::LegacyAlloc;
+use alloc::legacy_alloc::next_chunk;
 use tables::records::add_value;
 use tables::values::SlotValue;
 ghost use mathlib.Core.Path.{_≡_};
@@ -29,14 +29,7 @@ pub fn change_chunk(cur: &mut [u32; 256], used: &mut [u32; 256], spaces: u64, sp
     requires { ⌜ (space < 256) × (getD (now cur) space 0 < 2 ^ 32 - 1) ⌝ }
     ensures { λ _. ⌜ (now (cur .exit) ≡ nextChunk (record { cur = now (cur .entry); used = now (used .entry) }) spaces space .cur) × (now (used .exit) ≡ nextChunk (record { cur = now (cur .entry); used = now (used .entry) }) spaces space .used) ⌝ }
 {
-    let c = *cur;
-    let u = *used;
-    let alloc = LegacyAlloc { cur: c, used: u };
-    let next = alloc.next_chunk(spaces, space);
-    let nc = next.cur;
-    let nu = next.used;
-    *cur = nc;
-    *used = nu;
+    next_chunk(cur, used, spaces, space);
 }
 
 // The head of a reference that holds another, or of a repeated root.

@@ -1,4 +1,3 @@
-use mathlib.Core.Path.{ap}
 use borrow.Author.Needs.{needs}
 use Rattle.readers.proofs.prefix.change_chunk.Statement.{statement}
 use Rattle.readers.proofs.prefix.change_chunk.Tie as tie
@@ -7,7 +6,7 @@ next-chunk-requires : tie.Need-next-chunk-requires
 next-chunk-requires c κs = search needs
 
 returns : tie.Need-returns
-returns c = (ap (λ a. a .cur) (c .before .before .next-chunk .ensures), ap (λ a. a .used) (c .before .before .next-chunk .ensures))
+returns c = c .next-chunk .ensures
 
 pub change-chunk-spec : {M : Type 1} → statement M
 change-chunk-spec = tie.close (tie.spec next-chunk-requires returns)
