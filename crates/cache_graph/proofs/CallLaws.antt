@@ -25,7 +25,7 @@ use Rattle.readers.specs.declared.state.State.{State}
 use Rattle.readers.specs.declared.state.Went.{Went}
 use Rattle.readers.specs.declared.state.Went.the-variants.{On, Refused}
 use Rattle.readers.specs.Views.{Lent, input, mem, seenWent}
-use Rattle.readers.proofs.WaiterLaws.{by-case, indexed-start}
+use Rattle.objects.proofs.WaiterLaws.{by-case, indexed-start}
 use Rattle.walker.specs.Ready.{lent, Ready}
 use Rattle.cache_graph.specs.declared.parse.Outcome.{Outcome}
 use Rattle.cache_graph.specs.Promise.{roomsOf, answer, Reads, Assures, Started, Rows, Walked}

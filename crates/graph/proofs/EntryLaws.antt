@@ -28,7 +28,7 @@ use Rattle.readers.proofs.ViewLaws.{then-got, then-no}
 use Rattle.readers.specs.declared.state.State.{State}
 use Rattle.readers.specs.declared.state.Went.{Went as Answer}
 use Rattle.readers.specs.declared.state.Went.the-variants.{On}
-use Rattle.readers.specs.Index.{Indexed, WentIndexed}
+use Rattle.objects.specs.Index.{Indexed, WentIndexed}
 use Rattle.walker.specs.Ready.{Index, Ready}
 use Rattle.walker.proofs.ReadyLaws.{Went, Free, None, ready-after, ref-went}
 use Rattle.walker.proofs.SameLaws.{Leaves, same-choose, then-leaves, next-leaves, same-got}

@@ -21,11 +21,11 @@ use Rattle.readers.specs.declared.state.State.{State}
 use Rattle.readers.specs.declared.state.Count.{Count}
 use Rattle.readers.specs.declared.state.Count.the-variants.{Is, Refused as CountRefused}
 use Rattle.readers.specs.Views.{Lent, mem, seenCount, objectsIs, slotsIs}
-use Rattle.readers.specs.Index.{Indexed}
-use Rattle.readers.specs.Item.{slotOf}
 use Rattle.readers.proofs.ViewLaws.{count-is, count-no, then-got, then-no, nothing}
-use Rattle.readers.proofs.ItemLaws.{Added, slot-added}
-use Rattle.readers.proofs.WaiterLaws.{indexed-plain}
+use Rattle.objects.specs.Index.{Indexed}
+use Rattle.objects.specs.Item.{slotOf}
+use Rattle.objects.proofs.ItemLaws.{Added, slot-added}
+use Rattle.objects.proofs.WaiterLaws.{indexed-plain}
 
 -- ---- an item's value
 

@@ -1,7 +1,7 @@
 // Legacy deferred entries: slots of an object that was opened before.
+use objects::item::push_slot;
 use readers::ints::read_byte;
 use readers::ints::read_int;
-use readers::item::push_slot;
 use readers::simple::legacy_ref;
 use readers::state::Count;
 use readers::state::State;
@@ -28,7 +28,7 @@ ghost use Rattle.address_index.specs.Sorted.{Sorted};
 ghost use Rattle.definition.specs.Memory.{Input, word as wordOf, table};
 ghost use Rattle.definition.specs.Closing as Closing;
 ghost use Rattle.readers.specs.Views.{Lent, input, mem, seenCount, seenWent, objectsIs, slotsIs, addressesIs, hotIs};
-ghost use Rattle.readers.specs.Index.{Indexed, WentIndexed};
+ghost use Rattle.objects.specs.Index.{Indexed, WentIndexed};
 ghost use Rattle.walker.specs.Ready.{lent, OutIndex, Ready};
 ghost use Rattle.graph.specs.Driver.{entryObject};
 

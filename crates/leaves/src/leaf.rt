@@ -1,7 +1,7 @@
 // The commonest references that hold no other, read without a state, so that a slot with one of them costs little: a root constant, a hot
 // place, a back-reference, a read-only reference and fixed raw data. What is refused is left to the readers of every reference.
 use backref::hot_ring::add;
-use readers::map::is_flagged;
+use objects::map::is_flagged;
 use readers::state::State;
 use readers::state::Step;
 use sheet::names::K_RESOLVE_PENDING_FORWARD_REF;

@@ -3,10 +3,4 @@ pub mod IntLaws
 pub mod SimpleLaws
 pub mod HeadFacts
 pub mod PrefixLaws
-pub mod HeadLaws
-pub mod MapLaws
-pub mod MapSteps
-pub mod WaiterLaws
-pub mod ResolveLaws
-pub mod ItemLaws
 pub mod PartLaws

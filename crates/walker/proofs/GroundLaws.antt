@@ -24,7 +24,7 @@ use Rattle.readers.specs.declared.state.Count.the-variants.{Is, Refused as Coun
 use Rattle.readers.specs.declared.state.Went.{Went}
 use Rattle.readers.specs.declared.state.Went.the-variants.{On, Refused as WentRefused}
 use Rattle.readers.specs.Views.{Lent, mem, seenCount, seenWent}
-use Rattle.readers.specs.Index.{Indexed, CountIndexed, WentIndexed}
+use Rattle.objects.specs.Index.{Indexed, CountIndexed, WentIndexed}
 use Rattle.walker.specs.Ready.{OutIndex}
 use Rattle.walker.proofs.SameLaws.{Same, Leaves, same-choose, then-leaves, next-leaves}
 

@@ -27,8 +27,8 @@ use Rattle.laws.specs.Keeps.{sheet-gives, word-low, Placed}
 use Rattle.laws.specs.Theorems.{ref-keeps, placeItem-keeps}
 use Rattle.laws.specs.Numbered.{placeItem-numbered}
 use Rattle.laws.specs.Fuel.{items-fuel}
-use Rattle.readers.specs.Index.{Indexed}
 use Rattle.readers.proofs.ViewLaws.{then-got, then-no}
+use Rattle.objects.specs.Index.{Indexed}
 use Rattle.walker.specs.Ready.{Index, Ready, slotIn, filledFrom}
 use Rattle.walker.proofs.GroundLaws.{ground-ascends, placeItem-ground}
 use Rattle.walker.proofs.ReadyLaws.{one-less, Went, went, Free, None, ready-after, moved-ready, ref-went}

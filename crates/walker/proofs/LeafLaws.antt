@@ -16,7 +16,7 @@ use Rattle.readers.specs.declared.state.State.{State}
 use Rattle.readers.specs.declared.state.Step.{Step}
 use Rattle.readers.specs.Views.{Lent, input, mem, seen, objectsIs, slotsIs, hotIs}
 use Rattle.readers.proofs.HeadFacts.{head-fits}
-use Rattle.readers.proofs.WaiterLaws.{indexed-plain}
+use Rattle.objects.proofs.WaiterLaws.{indexed-plain}
 use Rattle.leaves.specs.declared.leaf.Leaf.{Leaf}
 use Rattle.leaves.specs.Leaf.{ring, after, valueOf, Stands, Found, Placed}
 use Rattle.walker.specs.Ready.{Index, OutIndex, Ready, slotIn}

@@ -27,16 +27,16 @@ use Rattle.laws.specs.Waiting.{Waits}
 use Rattle.laws.specs.Theorems.{byte-keeps, int-keeps, addObject-keeps, keepMap-keeps, resolves-keep}
 use Rattle.laws.specs.Addresses.{Ascending}
 use Rattle.laws.specs.Numbered.{Numbered, keepMap-numbered, resolves-numbered}
-use Rattle.readers.specs.Head.{recording, opening}
 use Rattle.readers.specs.declared.state.State.{State}
 use Rattle.readers.specs.declared.state.Went.{Went as Answer}
 use Rattle.readers.specs.declared.state.Went.the-variants.{On}
-use Rattle.readers.specs.Index.{Indexed, WentLinked}
-use Rattle.readers.specs.Map.{afterMap}
 use Rattle.readers.proofs.ViewLaws.{then-got, then-no}
-use Rattle.readers.proofs.ItemLaws.{slot-added}
-use Rattle.readers.proofs.MapSteps.{map-no, map-got, object-no, object-got}
-use Rattle.readers.proofs.WaiterLaws.{indexed-plain}
+use Rattle.objects.specs.Head.{recording, opening}
+use Rattle.objects.specs.Index.{Indexed, WentLinked}
+use Rattle.objects.specs.Map.{afterMap}
+use Rattle.objects.proofs.ItemLaws.{slot-added}
+use Rattle.objects.proofs.MapSteps.{map-no, map-got, object-no, object-got}
+use Rattle.objects.proofs.WaiterLaws.{indexed-plain}
 use Rattle.walker.specs.Ready.{Index, Ready, mapped, headed, filledFrom}
 use Rattle.walker.proofs.SameLaws.{Same, Leaves, same-choose, next-leaves, same-got}
 use Rattle.walker.proofs.GroundLaws.{Ground, groundOf, ground-ascends, keepMap-ground, resolves-ground}

@@ -21,10 +21,10 @@ use Rattle.definition.specs.Reference.{refAt}
 use Rattle.laws.specs.Keeps.{sheet-gives}
 use Rattle.readers.specs.declared.state.State.{State}
 use Rattle.readers.specs.Views.{Lent, input, mem, objectsIs, slotsIs, hotIs}
-use Rattle.readers.specs.Head.{recording, opening}
-use Rattle.readers.specs.Map.{afterMap}
-use Rattle.readers.proofs.HeadLaws.{open-plain}
-use Rattle.readers.proofs.WaiterLaws.{indexed-plain}
+use Rattle.objects.specs.Head.{recording, opening}
+use Rattle.objects.specs.Map.{afterMap}
+use Rattle.objects.proofs.HeadLaws.{open-plain}
+use Rattle.objects.proofs.WaiterLaws.{indexed-plain}
 use Rattle.leaves.specs.declared.leaf.Leaf.{Leaf}
 use Rattle.leaves.specs.declared.leaf.Opened.{Opened}
 use Rattle.leaves.specs.Leaf.{ring, after, valueOf}

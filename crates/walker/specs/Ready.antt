@@ -12,9 +12,9 @@ use Rattle.definition.specs.Object.{readMap, keepMap, resolves, items, closed}
 use Rattle.laws.specs.Sound.{Proper, Sound, Counted}
 use Rattle.laws.specs.Numbered.{Numbered}
 use Rattle.laws.specs.Addresses.{Ascending}
-use Rattle.readers.specs.Head.{opening}
 use Rattle.readers.specs.Views.{Lent}
-use Rattle.readers.specs.Index.{Indexed}
+use Rattle.objects.specs.Head.{opening}
+use Rattle.objects.specs.Index.{Indexed}
 
 abbrev pub lent : List ℕ → List ℕ → List ℕ → List ℕ → List ℕ → List ℕ → List ℕ → Lent
 lent objects slots values addresses hot cur used =

@@ -9,7 +9,7 @@ use Rattle.leaves.proofs.leaf.map_at.Lts as lts
 use Rattle.leaves.proofs.leaf.leaf_at.Reads as leaf-at-reads
 use Rattle.leaves.proofs.leaf.unopened.Reads as unopened-reads
 use Rattle.leaves.proofs.leaf.value_of.Reads as value-of-reads
-use Rattle.readers.proofs.map.is_flagged.Reads as is-flagged-reads
+use Rattle.objects.proofs.map.is_flagged.Reads as is-flagged-reads
 use Rattle.sheet.proofs.numbers.legacy.Reads as legacy-reads
 use Rattle.sheet.proofs.tests.is_tag.Reads as is-tag-reads
 use Rattle.stream.proofs.bytes.peek.Reads as peek-reads

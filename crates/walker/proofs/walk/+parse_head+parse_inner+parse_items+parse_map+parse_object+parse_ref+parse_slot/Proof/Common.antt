@@ -23,11 +23,11 @@ use Rattle.walker.proofs.walk.+parse_head+parse_inner+parse_items+parse
 use Rattle.walker.proofs.walk.parse_slot.Reads as parse-slot
 use Rattle.walker.proofs.walk.parse_slot.Kinds as parse-slot-kinds
 use Rattle.walker.proofs.walk.+parse_head+parse_inner+parse_items+parse_map+parse_object+parse_ref+parse_slot.Lts-parse_slot as parse-slot-lts
-use Rattle.readers.proofs.head.open_object.Reads as open-object-reads
-use Rattle.readers.proofs.item.place_item.Reads as place-item-reads
-use Rattle.readers.proofs.map.after_map.Reads as after-map-reads
-use Rattle.readers.proofs.map.keep_map.Reads as keep-map-reads
-use Rattle.readers.proofs.pending.resolves.Reads as resolves-reads
+use Rattle.objects.proofs.head.open_object.Reads as open-object-reads
+use Rattle.objects.proofs.item.place_item.Reads as place-item-reads
+use Rattle.objects.proofs.map.after_map.Reads as after-map-reads
+use Rattle.objects.proofs.map.keep_map.Reads as keep-map-reads
+use Rattle.objects.proofs.pending.resolves.Reads as resolves-reads
 use Rattle.readers.proofs.prefix.begin.Reads as begin-reads
 use Rattle.readers.proofs.prefix.hold.Reads as hold-reads
 use Rattle.readers.proofs.simple.simple_ref.Reads as simple-ref-reads

@@ -4,7 +4,7 @@ use Rattle.readers.proofs.ViewLaws.{count-is, count-no, count-below, went-on, w
 use mathlib.Core.List.{[]}
 use Rattle.readers.specs.Views.{input}
 use Rattle.definition.specs.Reference.{refAt}
-use Rattle.readers.proofs.HeadLaws.{bytes-small}
+use Rattle.objects.proofs.HeadLaws.{bytes-small}
 use Rattle.walker.proofs.ReadyLaws.{out-index}
 use Rattle.walker.proofs.ObjectLaws.{bytes-whole, opened-ready, headed-cut, headed-bad, headed-on}
 use Rattle.walker.proofs.LeafLaws.{leaf-asks}
@@ -16,7 +16,7 @@ use Rattle.walker.proofs.walk.parse_head.Reads as parse-head
 use Rattle.walker.proofs.walk.parse_map.Reads as parse-map
 use Rattle.walker.proofs.walk.+parse_head+parse_inner+parse_items+parse_map+parse_object+parse_ref+parse_slot.Lts-parse_head as parse-head-lts
 use Rattle.leaves.proofs.leaf.open_leaf.Reads as open-leaf-reads
-use Rattle.readers.proofs.head.open_object.Reads as open-object-reads
+use Rattle.objects.proofs.head.open_object.Reads as open-object-reads
 use Rattle.sheet.proofs.numbers.word_bytes.Reads as word-bytes-reads
 use Rattle.walker.specs.Ready.{lent}
 use Rattle.walker.proofs.walk.+parse_head+parse_inner+parse_items+parse_map+parse_object+parse_ref+parse_slot.Proof.Common.{parse-head-at, parse-map-below}

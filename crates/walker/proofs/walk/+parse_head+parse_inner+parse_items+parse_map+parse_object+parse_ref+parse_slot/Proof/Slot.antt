@@ -6,7 +6,7 @@ use mathlib.Core.Path.{refl, sym, _∙_}
 use Rattle.walker.proofs.walk.parse_ref.Reads as parse-ref
 use Rattle.walker.proofs.walk.parse_slot.Reads as parse-slot
 use Rattle.walker.proofs.walk.+parse_head+parse_inner+parse_items+parse_map+parse_object+parse_ref+parse_slot.Lts-parse_slot as parse-slot-lts
-use Rattle.readers.proofs.item.place_item.Reads as place-item-reads
+use Rattle.objects.proofs.item.place_item.Reads as place-item-reads
 use Rattle.leaves.proofs.leaf.leaf_at.Reads as leaf-at-reads
 use Rattle.leaves.proofs.leaf.place_leaf.Reads as place-leaf-reads
 use Rattle.sheet.proofs.numbers.word_bytes.Reads as word-bytes-reads

@@ -1,0 +1,4 @@
+pub mod Index
+pub mod Head
+pub mod Item
+pub mod Map
