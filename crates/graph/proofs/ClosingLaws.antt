@@ -32,8 +32,8 @@ use Rattle.readers.specs.Views.{Lent, mem}
 use Rattle.readers.proofs.ViewLaws.{then-got, then-no}
 use Rattle.walker.specs.Ready.{Index, Ready}
 use Rattle.walker.proofs.ReadyLaws.{Went, None, ready-after, moved-kept}
+use Rattle.deferred.proofs.ReadyLaws.{Law, law-went}
 use Rattle.graph.specs.Driver.{oneEntry, InLegacy}
-use Rattle.graph.proofs.ReadyLaws.{Law, law-went}
 use Rattle.graph.proofs.PaddingLaws.{paddingFrom}
 
 -- the code's tests of a refusal's number

@@ -28,8 +28,8 @@ use Rattle.readers.proofs.ViewLaws.{then-got, then-no}
 use Rattle.walker.specs.Ready.{OutIndex, Ready}
 use Rattle.walker.proofs.ReadyLaws.{Went, Free, ready-after, object-went}
 use Rattle.walker.proofs.ReferenceLaws.{byte-still}
+use Rattle.deferred.proofs.ReadyLaws.{idle-ready}
 use Rattle.graph.specs.Driver.{topObject, StepReady}
-use Rattle.graph.proofs.ReadyLaws.{idle-ready}
 
 -- the byte that opens the top object is no lower than kNewObject
 pub opens-from : (v : List ℕ) (b : ℕ) → opens v b ≡ true → number v kNewObject ≤ b

@@ -3,30 +3,20 @@ use mathlib.Core.Path.{_≡_}
 use mathlib.Core.Bool.{true}
 use mathlib.Core.List.{List}
 use Prim.Native.Nat.{ℕ}
-use lib.Dec.{eqb}
 use Rattle.sheet.specs.Sheet.{isLegacy}
 use Rattle.sheet.specs.declared.tests.Closing.{Closing}
 use Rattle.sheet.specs.declared.tests.Closing.the-variants.{Synchronize, Alignment, Deferred, Reference}
 use Rattle.sheet.specs.Tests.{opens}
 use Rattle.tables.specs.declared.values.SlotValue.{SlotValue}
-use Rattle.tables.specs.declared.values.Fields.{Fields}
-use Rattle.tables.specs.Values.{fieldsOf}
-use Rattle.definition.specs.Memory.{Input, Reader, _>>=_, _>>_, choose, give, refuse, refuseAt, byte}
+use Rattle.definition.specs.Memory.{Input, Reader, _>>=_, choose, refuseAt, byte}
 use Rattle.definition.specs.Object.{object}
-use Rattle.definition.specs.Reference.{legacyReference, refAt}
+use Rattle.definition.specs.Reference.{refAt}
 use Rattle.definition.specs.Closing.{entry, dropReference}
 use Rattle.definition.specs.Call.{topSpace}
 use Rattle.readers.specs.declared.state.Step.{Step}
 use Rattle.readers.specs.declared.state.Step.the-variants.{Got, Refused}
 use Rattle.readers.specs.Views.{Lent, mem}
 use Rattle.walker.specs.Ready.{Ready}
-
--- the object that a deferred entry of a space names
-abbrev pub namedBy : Fields → Reader ℕ
-namedBy f = choose (eqb (f .kind) 1) (give (f .a)) (refuse 0)
-
-abbrev pub entryObject : Input → ℕ → Reader ℕ
-entryObject x space = byte x >> legacyReference x space >>= (λ v. namedBy (fieldsOf v))
 
 -- an entry that holds references: a deferred entry, or a reference whose value is dropped
 abbrev pub oneEntry : Input → Closing → Reader (Unit {0})

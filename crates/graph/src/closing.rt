@@ -1,6 +1,6 @@
 // The closing section.
-use crate::entry::entry;
 use crate::padding::padding;
+use deferred::entry::entry;
 use readers::state::State;
 use readers::state::Step;
 use readers::state::Went;

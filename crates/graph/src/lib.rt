@@ -1,4 +1,3 @@
 pub mod closing;
-pub mod entry;
 pub mod padding;
 pub mod walk;

@@ -9,9 +9,9 @@ use Rattle.readers.proofs.ViewLaws.{seen-got, seen-no, went-on, went-no}
 use Rattle.laws.specs.Keeps.{word-low}
 use Rattle.walker.specs.Ready.{lent}
 use Rattle.walker.proofs.ReadyLaws.{out-index}
-use Rattle.graph.proofs.EntryLaws.{Loop, loop-start, loop-end, loop-no, slots-ask, width-low, loop-full, loop-reads, loop-turn, word-fits, went-pending, item-is, count-low}
-use Rattle.graph.proofs.entry.entry_items.Statement.{statement}
-use Rattle.graph.proofs.entry.entry_items.Tie as tie
+use Rattle.deferred.proofs.EntryLaws.{Loop, loop-start, loop-end, loop-no, slots-ask, width-low, loop-full, loop-reads, loop-turn, word-fits, went-pending, item-is, count-low}
+use Rattle.deferred.proofs.entry.entry_items.Statement.{statement}
+use Rattle.deferred.proofs.entry.entry_items.Tie as tie
 
 abbrev Inv-loop : tie.InvT-loop
 Inv-loop v h tr p ot₀ st₀ vt₀ dt₀ hr₀ c₀ u₀ sc₀ k o size word index₀ done₀ t₀ ot st vt dt hr c u sc index done t = (Loop (input v p k tr) h o size (mem t₀ (lent ot₀ st₀ vt₀ dt₀ hr₀ c₀ u₀)) index done (mem t (lent ot st vt dt hr c u)) sc) × (length sc ≡ length sc₀)

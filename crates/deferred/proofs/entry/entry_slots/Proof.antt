@@ -1,9 +1,9 @@
-use Rattle.graph.proofs.SlotsLaws.{not-skip, skip-slots, one-slot, many-slots}
+use Rattle.deferred.proofs.SlotsLaws.{not-skip, skip-slots, one-slot, many-slots}
 use native.Mathlib.Omega.{arith}
 use mathlib.Core.Path.{_∙_}
 use borrow.Author.Needs.{needs}
-use Rattle.graph.proofs.entry.entry_slots.Statement.{statement}
-use Rattle.graph.proofs.entry.entry_slots.Tie as tie
+use Rattle.deferred.proofs.entry.entry_slots.Statement.{statement}
+use Rattle.deferred.proofs.entry.entry_slots.Tie as tie
 
 enum-told : tie.Need-enum-told
 enum-told c = search needs

@@ -30,7 +30,7 @@ ghost use Rattle.definition.specs.Closing as Closing;
 ghost use Rattle.readers.specs.Views.{Lent, input, mem, seenCount, seenWent, objectsIs, slotsIs, addressesIs, hotIs};
 ghost use Rattle.objects.specs.Index.{Indexed, WentIndexed};
 ghost use Rattle.walker.specs.Ready.{lent, OutIndex, Ready};
-ghost use Rattle.graph.specs.Driver.{entryObject};
+ghost use Rattle.deferred.specs.Entry.{entryObject};
 
 // A slot's value in an entry: what a repeat holds, else the value itself.
 fn entry_fields(values: &[u64], v: SlotValue) -> Fields

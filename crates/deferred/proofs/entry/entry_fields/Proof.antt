@@ -1,9 +1,9 @@
 use Rattle.definition.specs.Memory.{table}
-use Rattle.graph.proofs.SlotsLaws.{repeat-fields, other-fields}
+use Rattle.deferred.proofs.SlotsLaws.{repeat-fields, other-fields}
 use mathlib.Core.Path.{_∙_}
 use borrow.Author.Needs.{needs}
-use Rattle.graph.proofs.entry.entry_fields.Statement.{statement}
-use Rattle.graph.proofs.entry.entry_fields.Tie as tie
+use Rattle.deferred.proofs.entry.entry_fields.Statement.{statement}
+use Rattle.deferred.proofs.entry.entry_fields.Tie as tie
 
 enum-known-v : tie.Need-enum-known-v
 enum-known-v c = search needs

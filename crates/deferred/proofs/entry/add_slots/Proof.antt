@@ -2,9 +2,9 @@ use borrow.Author.Needs.{needs}
 use native.Mathlib.Omega.{arith}
 use mathlib.Core.Path.{_∙_}
 use Prim.Native.Nat.{_-_}
-use Rattle.graph.proofs.SlotsLaws.{Adding, adding-start, adding-end, adding-full, adding-turn}
-use Rattle.graph.proofs.entry.add_slots.Statement.{statement}
-use Rattle.graph.proofs.entry.add_slots.Tie as tie
+use Rattle.deferred.proofs.SlotsLaws.{Adding, adding-start, adding-end, adding-full, adding-turn}
+use Rattle.deferred.proofs.entry.add_slots.Statement.{statement}
+use Rattle.deferred.proofs.entry.add_slots.Tie as tie
 
 abbrev Inv-loop : tie.InvT-loop
 Inv-loop objects₀ slots₀ o f index n t₀ i₀ objects slots t i = Adding o f index n t₀ objects₀ slots₀ t i objects slots

@@ -1,9 +1,9 @@
-use Rattle.graph.proofs.SlotsLaws.{not-skip, skip-count, one-word, many-words}
+use Rattle.deferred.proofs.SlotsLaws.{not-skip, skip-count, one-word, many-words}
 use native.Mathlib.Omega.{arith}
 use mathlib.Core.Path.{_∙_}
 use borrow.Author.Needs.{needs}
-use Rattle.graph.proofs.entry.entry_count.Statement.{statement}
-use Rattle.graph.proofs.entry.entry_count.Tie as tie
+use Rattle.deferred.proofs.entry.entry_count.Statement.{statement}
+use Rattle.deferred.proofs.entry.entry_count.Tie as tie
 
 width-requires : tie.Need-width-requires
 width-requires c κs = search needs

@@ -5,10 +5,10 @@ use Rattle.readers.specs.Views.{input, mem}
 use Rattle.readers.proofs.ViewLaws.{count-is, count-no, count-below}
 use Rattle.walker.specs.Ready.{lent}
 use Rattle.walker.proofs.ReferenceLaws.{found-by}
-use Rattle.graph.proofs.EntryLaws.{entry-no, entry-cut, entry-done, object-ready, int-ready}
+use Rattle.deferred.proofs.EntryLaws.{entry-no, entry-cut, entry-done, object-ready, int-ready}
 use borrow.Author.Needs.{needs}
-use Rattle.graph.proofs.entry.entry.Statement.{statement}
-use Rattle.graph.proofs.entry.entry.Tie as tie
+use Rattle.deferred.proofs.entry.entry.Statement.{statement}
+use Rattle.deferred.proofs.entry.entry.Tie as tie
 
 entry-object-requires : tie.Need-entry-object-requires
 entry-object-requires c κs = let g = c .before .before .before .before .before .before .before .before .before .before .before .pre .0 in ((omega (arith, g .sound), g .proper .sheet-usable), found-by g)

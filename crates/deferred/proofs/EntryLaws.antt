@@ -34,8 +34,8 @@ use Rattle.walker.proofs.ReadyLaws.{Went, Free, None, ready-after, ref-went}
 use Rattle.walker.proofs.SameLaws.{Leaves, same-choose, then-leaves, next-leaves, same-got}
 use Rattle.walker.proofs.GroundLaws.{Ground, groundOf, slot-ground}
 use Rattle.walker.proofs.ReferenceLaws.{recordsOf, Idle, byte-still, int-still, legacy-still}
-use Rattle.graph.specs.Driver.{namedBy, entryObject}
-use Rattle.graph.proofs.ReadyLaws.{Law, law-went, idle-ready}
+use Rattle.deferred.specs.Entry.{namedBy, entryObject}
+use Rattle.deferred.proofs.ReadyLaws.{Law, law-went, idle-ready}
 
 -- ---- the object that an entry names
 

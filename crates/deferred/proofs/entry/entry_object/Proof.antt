@@ -4,10 +4,10 @@ use Rattle.definition.specs.Memory.{Table}
 use mathlib.Core.Path.{refl, sym, _∙_}
 use Rattle.readers.specs.Views.{Lent, input, mem, addressesIs, hotIs}
 use Rattle.readers.proofs.ViewLaws.{count-is, count-no, seen-got, seen-no, nothing}
-use Rattle.graph.proofs.EntryLaws.{byte-addresses, object-cut, object-no, object-named, object-other}
+use Rattle.deferred.proofs.EntryLaws.{byte-addresses, object-cut, object-no, object-named, object-other}
 use borrow.Author.Needs.{needs}
-use Rattle.graph.proofs.entry.entry_object.Statement.{statement}
-use Rattle.graph.proofs.entry.entry_object.Tie as tie
+use Rattle.deferred.proofs.entry.entry_object.Statement.{statement}
+use Rattle.deferred.proofs.entry.entry_object.Tie as tie
 
 addresses-count : {a b : Table} → a ≡ b → a .count ≡ b .count
 addresses-count e = ap (λ (t : Table). t .count) e

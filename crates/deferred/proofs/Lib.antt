@@ -1,0 +1,3 @@
+pub mod SlotsLaws
+pub mod ReadyLaws
+pub mod EntryLaws

@@ -1,0 +1,2 @@
+// Deferred entries of legacy closing sections.
+pub mod entry;
