@@ -3,7 +3,7 @@ use crate::item::push_slot;
 use address_index::links::enter;
 use alloc::legacy_alloc::LegacyAlloc;
 use alloc::legacy_alloc::Request;
-use readers::prefix::change_chunk;
+use alloc::legacy_alloc::next_chunk;
 use readers::state::Count;
 use readers::state::State;
 use readers::state::Went;
@@ -112,7 +112,7 @@ fn chunk_changes(
         if peek(p, at + 1) != space {
             return t;
         }
-        change_chunk(cur, used, spaces, space);
+        next_chunk(cur, used, spaces, space);
         t.at = at + 2;
     }
 }

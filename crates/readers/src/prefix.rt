@@ -11,7 +11,6 @@ ghost use mathlib.Core.Path.{_≡_};
 ghost use mathlib.Core.List.{List};
 ghost use Prim.Native.Nat.{ℕ, _^_, _-_, _<_, _≤_};
 ghost use lib.ListN.{length, getD};
-ghost use Rattle.alloc.specs.Allocation.{nextChunk};
 ghost use Rattle.readers.specs.Views.{Lent, input, mem, seen, valuesIs, countersIs};
 ghost use Rattle.readers.specs.Prefix.{held as heldAs, RepeatsRoot, Begins, HeldSmall};
 
@@ -22,14 +21,6 @@ pub enum Prefix {
     Value(u64, u64, State),
     Refused(u64, usize, State),
     Other,
-}
-
-// A chunk change of a space.
-pub fn change_chunk(cur: &mut [u32; 256], used: &mut [u32; 256], spaces: u64, space: u64)
-    requires { ⌜ (space < 256) × (getD (now cur) space 0 < 2 ^ 32 - 1) ⌝ }
-    ensures { λ _. ⌜ (now (cur .exit) ≡ nextChunk (record { cur = now (cur .entry); used = now (used .entry) }) spaces space .cur) × (now (used .exit) ≡ nextChunk (record { cur = now (cur .entry); used = now (used .entry) }) spaces space .used) ⌝ }
-{
-    next_chunk(cur, used, spaces, space);
 }
 
 // The head of a reference that holds another, or of a repeated root.
@@ -51,7 +42,7 @@ pub fn begin(
         5 => match read_byte(p, s) {
             Count::Refused(n, q, u) => Prefix::Refused(n, q, u),
             Count::Is(space, u) => {
-                change_chunk(cur, used, spaces, space);
+                next_chunk(cur, used, spaces, space);
                 Prefix::Inner(0, u)
             }
         },

@@ -33,8 +33,8 @@ peek-requires-2 c κs = tt
 returns-2 : tie.Need-returns-2 Inv-loop μ-loop
 returns-2 c = (changes-else _ _ _ _ _ _ _ (c .before .before .before .before .before .loop .inv) (c .before .before .before .before .peek .ensures) (c .before .before .before .is-tag .ensures) (not-false _ (c .before .before .if1 .left)) (c .before .peek2 .ensures) (c .if2 .taken), c .before .before .before .before .before .loop .inv .records)
 
-change-chunk-requires : tie.Need-change-chunk-requires Inv-loop μ-loop
-change-chunk-requires c κs = (c .before .before .before .before .before .before .before .before .before .before .pre .0, omega (arith, c .before .before .before .before .before .before .before .loop .inv .within, c .before .before .before .before .before .before .before .loop .inv .below, c .before .before .before .before .before .before .before .before .before .before .pre .3))
+next-chunk-requires : tie.Need-next-chunk-requires Inv-loop μ-loop
+next-chunk-requires c κs = (c .before .before .before .before .before .before .before .before .before .before .pre .0, omega (arith, c .before .before .before .before .before .before .before .loop .inv .within, c .before .before .before .before .before .before .before .loop .inv .below, c .before .before .before .before .before .before .before .before .before .before .pre .3))
 
 add-t : tie.Need-add-t Inv-loop μ-loop
 add-t c = omega (arith, changes-within _ _ _ _ _ _ _ (c .before .before .before .before .before .before .before .before .loop .inv) (c .before .before .before .before .before .before .before .peek .ensures) (c .before .before .before .before .before .before .is-tag .ensures) (not-false _ (c .before .before .before .before .before .if1 .left)) (c .before .before .before .before .peek2 .ensures) (c .before .before .before .before .before .before .before .before .before .before .before .pre .0) (c .before .before .before .if2 .left), c .before .before .before .before .before .before .before .before .before .before .before .pre .3)
@@ -43,7 +43,7 @@ loop-less : tie.Need-loop-less Inv-loop μ-loop
 loop-less c = omega (arith, changes-within _ _ _ _ _ _ _ (c .before .before .before .before .before .before .before .before .loop .inv) (c .before .before .before .before .before .before .before .peek .ensures) (c .before .before .before .before .before .before .is-tag .ensures) (not-false _ (c .before .before .before .before .before .if1 .left)) (c .before .before .before .before .peek2 .ensures) (c .before .before .before .before .before .before .before .before .before .before .before .pre .0) (c .before .before .before .if2 .left))
 
 loop-again : tie.Need-loop-again Inv-loop μ-loop
-loop-again c = changes-again _ _ _ _ _ _ _ (c .before .before .before .before .before .before .before .before .loop .inv) (c .before .before .before .before .before .before .before .peek .ensures) (c .before .before .before .before .before .before .is-tag .ensures) (not-false _ (c .before .before .before .before .before .if1 .left)) (c .before .before .before .before .peek2 .ensures) (c .before .before .before .before .before .before .before .before .before .before .before .pre .0) (c .before .before .before .if2 .left) (c .change-chunk .ensures .0) (c .change-chunk .ensures .1)
+loop-again c = changes-again _ _ _ _ _ _ _ (c .before .before .before .before .before .before .before .before .loop .inv) (c .before .before .before .before .before .before .before .peek .ensures) (c .before .before .before .before .before .before .is-tag .ensures) (not-false _ (c .before .before .before .before .before .if1 .left)) (c .before .before .before .before .peek2 .ensures) (c .before .before .before .before .before .before .before .before .before .before .before .pre .0) (c .before .before .before .if2 .left) (c .next-chunk .ensures .0) (c .next-chunk .ensures .1)
 
 pub chunk-changes-spec : {M : Type 1} → statement M
 chunk-changes-spec =
@@ -58,7 +58,7 @@ chunk-changes-spec =
     add-peek
     peek-requires-2
     returns-2
-    change-chunk-requires
+    next-chunk-requires
     add-t
     loop-less
     loop-again)

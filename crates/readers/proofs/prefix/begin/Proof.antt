@@ -16,8 +16,8 @@ enum-known-n c = search needs
 enum-known-space : tie.Need-enum-known-space
 enum-known-space c = search needs
 
-change-chunk-requires : tie.Need-change-chunk-requires
-change-chunk-requires c κs = (count-below 256 (c .before .before .before .space .given .1) (c .before .before .before .before .before .read-byte .ensures .1), c .before .before .before .before .before .before .before .before .pre .0 _)
+next-chunk-requires : tie.Need-next-chunk-requires
+next-chunk-requires c κs = (count-below 256 (c .before .before .before .space .given .1) (c .before .before .before .before .before .read-byte .ensures .1), c .before .before .before .before .before .before .before .before .pre .0 _)
 
 add-t30 : tie.Need-add-t30
 add-t30 c = search needs
@@ -59,7 +59,7 @@ returns : tie.Need-returns
 returns c = (λ v tr tag l r. chunk-no _ _ _ _ _ _ (c .before .before .before .before .match .keys1) (count-no _ (c .before .n .given .1) (c .before .before .before .read-byte .ensures .0 v tr _ _)), tt)
 
 returns-2 : tie.Need-returns-2
-returns-2 c = (λ v tr tag l r. chunk-changed (input v (c .before .before .before .before .before .before .before .before .before .args .p .now) (c .before .before .before .before .before .before .before .before .before .args .spaces) tr) _ _ _ _ (c .before .before .before .before .space .given .0 .0) _ _ (c .before .before .before .before .before .before .before .before .before .args .cur .now) (c .before .before .before .before .before .before .before .before .before .args .used .now) l (c .before .before .before .before .before .before .before .match .keys1) (count-is _ (c .before .before .before .before .space .given .1) (c .before .before .before .before .before .before .read-byte .ensures .0 v tr _ _)) (c .change-chunk .ensures .0) (c .change-chunk .ensures .1), search needs)
+returns-2 c = (λ v tr tag l r. chunk-changed (input v (c .before .before .before .before .before .before .before .before .before .args .p .now) (c .before .before .before .before .before .before .before .before .before .args .spaces) tr) _ _ _ _ (c .before .before .before .before .space .given .0 .0) _ _ (c .before .before .before .before .before .before .before .before .before .args .cur .now) (c .before .before .before .before .before .before .before .before .before .args .used .now) l (c .before .before .before .before .before .before .before .match .keys1) (count-is _ (c .before .before .before .before .space .given .1) (c .before .before .before .before .before .before .read-byte .ensures .0 v tr _ _)) (c .next-chunk .ensures .0) (c .next-chunk .ensures .1), search needs)
 
 returns-3 : tie.Need-returns-3
 returns-3 c = (λ v tr tag l r. alignment-on _ _ _ _ _ _ (c .match .keys2), search needs)
@@ -110,7 +110,7 @@ begin-spec =
     read-byte-requires
     enum-known-n
     enum-known-space
-    change-chunk-requires
+    next-chunk-requires
     add-t30
     repeat-root-requires
     read-int-requires
