@@ -122,6 +122,63 @@ fn parse_inner(
     parse_ref(v, h, tr, p, ot, st, vt, dt, hr, c, u, sc, k, s, d + 1)
 }
 
+// A reference below one at depth d, as an item, where leaves were tried before. A new object, the commonest, needs no call of `parse_ref`.
+fn parse_below(
+    v: &[u16],
+    h: &[u16; 512],
+    tr: &[u8],
+    p: &[u8],
+    ot: &mut [u64],
+    st: &mut [u64],
+    vt: &mut [u64],
+    dt: &mut [u64],
+    hr: &mut [u64; 25],
+    c: &mut [u32; 256],
+    u: &mut [u32; 256],
+    sc: &mut [u64],
+    k: u64,
+    s: State,
+    d: usize,
+) -> Step
+    requires { ⌜ Ready (input (now v) (now p) k (now tr)) (now h) (mem s (lent (now ot) (now st) (now vt) (now dt) (now hr) (now c) (now u))) (now sc) ⌝ }
+    requires { ⌜ d ≤ 64 ⌝ }
+    ensures { λ r. ⌜ seen r (lent (now (ot .exit)) (now (st .exit)) (now (vt .exit)) (now (dt .exit)) (now (hr .exit)) (now (c .exit)) (now (u .exit))) ≡ refAt (input (now (v .entry)) (now (p .entry)) k (now (tr .entry))) (65 - (d + 1)) (mem s (lent (now (ot .entry)) (now (st .entry)) (now (vt .entry)) (now (dt .entry)) (now (hr .entry)) (now (c .entry)) (now (u .entry)))) ⌝ }
+    ensures index { λ r. ⌜ OutIndex (length (now (p .entry))) (seen r (lent (now (ot .exit)) (now (st .exit)) (now (vt .exit)) (now (dt .exit)) (now (hr .exit)) (now (c .exit)) (now (u .exit)))) (now (sc .exit)) ⌝ }
+{
+    let at = s.at;
+    if d < 64 {
+        if at < p.len() {
+            let b = byte(p, at) as usize;
+            let kind = h[b] as u64;
+            if kind == 1 {
+                let a = h[256 + b] as u64;
+                let mut t = s;
+                t.at = at + 1;
+                return parse_object(
+                    v,
+                    h,
+                    tr,
+                    p,
+                    ot,
+                    st,
+                    vt,
+                    dt,
+                    hr,
+                    c,
+                    u,
+                    sc,
+                    k,
+                    t,
+                    d + 1,
+                    at,
+                    a,
+                );
+            }
+        }
+    }
+    parse_ref(v, h, tr, p, ot, st, vt, dt, hr, c, u, sc, k, s, d + 1)
+}
+
 // An object at depth d in space a, whose head stands at `at`; the cursor stands after it.
 pub fn parse_object(
     v: &[u16],
@@ -355,7 +412,7 @@ fn parse_slot(
     ensures index { λ r. ⌜ OutIndex (length (now (p .entry))) (seenCount r (lent (now (ot .exit)) (now (st .exit)) (now (vt .exit)) (now (dt .exit)) (now (hr .exit)) (now (c .exit)) (now (u .exit)))) (now (sc .exit)) ⌝ }
 {
     let word = word_bytes(v);
-    match parse_ref(v, h, tr, p, ot, st, vt, dt, hr, c, u, sc, k, s, d + 1) {
+    match parse_below(v, h, tr, p, ot, st, vt, dt, hr, c, u, sc, k, s, d) {
         Step::Refused(n, q, t) => Count::Refused(n, q, t),
         Step::Got(x, t) => place_item(ot, st, vt, sc, p.len(), t, o, done, x, word),
     }

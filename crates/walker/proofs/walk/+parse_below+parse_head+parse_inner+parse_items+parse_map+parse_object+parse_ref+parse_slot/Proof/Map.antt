@@ -9,12 +9,12 @@ use Rattle.walker.proofs.GroundLaws.{resolves-ground, went-index}
 use Rattle.walker.proofs.ReadyLaws.{out-index}
 use Rattle.walker.proofs.ObjectLaws.{went-linked, resolves-asks, after-asks, keep-asks, kept-ready, mapped-no, mapped-bad, mapped-full, mapped-on}
 use Rattle.walker.proofs.walk.parse_map.Reads as parse-map
-use Rattle.walker.proofs.walk.+parse_head+parse_inner+parse_items+parse_map+parse_object+parse_ref+parse_slot.Lts-parse_map as parse-map-lts
+use Rattle.walker.proofs.walk.+parse_below+parse_head+parse_inner+parse_items+parse_map+parse_object+parse_ref+parse_slot.Lts-parse_map as parse-map-lts
 use Rattle.walker.proofs.walk.parse_inner.Reads as parse-inner
 use Rattle.objects.proofs.map.after_map.Reads as after-map-reads
 use Rattle.objects.proofs.map.keep_map.Reads as keep-map-reads
 use Rattle.objects.proofs.pending.resolves.Reads as resolves-reads
-use Rattle.walker.proofs.walk.+parse_head+parse_inner+parse_items+parse_map+parse_object+parse_ref+parse_slot.Proof.Common.{parse-inner-below, parse-map-at}
+use Rattle.walker.proofs.walk.+parse_below+parse_head+parse_inner+parse_items+parse_map+parse_object+parse_ref+parse_slot.Proof.Common.{parse-inner-below, parse-map-at}
 
 -- src/walk.rt:209:11
 pub parse-map-parse-inner-requires : (t : ℕ) → parse-map-lts.Need-parse-inner-requires (

@@ -3,14 +3,14 @@ use Prim.Native.Nat.{ℕ}
 use borrow.Author.Needs.{needs}
 use native.Mathlib.Omega.{arith}
 use Rattle.walker.proofs.walk.parse_inner.Reads as parse-inner
-use Rattle.walker.proofs.walk.+parse_head+parse_inner+parse_items+parse_map+parse_object+parse_ref+parse_slot.Lts-parse_inner as parse-inner-lts
+use Rattle.walker.proofs.walk.+parse_below+parse_head+parse_inner+parse_items+parse_map+parse_object+parse_ref+parse_slot.Lts-parse_inner as parse-inner-lts
 use Rattle.walker.proofs.walk.parse_ref.Reads as parse-ref
 use Rattle.leaves.proofs.leaf.leaf_at.Reads as leaf-at-reads
 use Rattle.leaves.proofs.leaf.take_leaf.Reads as take-leaf-reads
 use Rattle.sheet.proofs.numbers.word_bytes.Reads as word-bytes-reads
 use Rattle.walker.specs.Ready.{lent}
 use Rattle.walker.proofs.LeafLaws.{leaf-asks, leaf-ref}
-use Rattle.walker.proofs.walk.+parse_head+parse_inner+parse_items+parse_map+parse_object+parse_ref+parse_slot.Proof.Common.{parse-inner-at, parse-ref-below}
+use Rattle.walker.proofs.walk.+parse_below+parse_head+parse_inner+parse_items+parse_map+parse_object+parse_ref+parse_slot.Proof.Common.{parse-inner-at, parse-ref-below}
 
 -- src/walk.rt:113:9
 pub parse-inner-word-bytes-requires : (t : ℕ) → parse-inner-lts.Need-word-bytes-requires (

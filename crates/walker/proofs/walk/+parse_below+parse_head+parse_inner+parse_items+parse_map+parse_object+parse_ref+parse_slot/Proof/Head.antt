@@ -14,12 +14,12 @@ use native.Mathlib.Omega.{arith}
 use mathlib.Core.Path.{_≡_, refl, sym, ap, subst, _∙_}
 use Rattle.walker.proofs.walk.parse_head.Reads as parse-head
 use Rattle.walker.proofs.walk.parse_map.Reads as parse-map
-use Rattle.walker.proofs.walk.+parse_head+parse_inner+parse_items+parse_map+parse_object+parse_ref+parse_slot.Lts-parse_head as parse-head-lts
+use Rattle.walker.proofs.walk.+parse_below+parse_head+parse_inner+parse_items+parse_map+parse_object+parse_ref+parse_slot.Lts-parse_head as parse-head-lts
 use Rattle.leaves.proofs.leaf.open_leaf.Reads as open-leaf-reads
 use Rattle.objects.proofs.head.open_object.Reads as open-object-reads
 use Rattle.sheet.proofs.numbers.word_bytes.Reads as word-bytes-reads
 use Rattle.walker.specs.Ready.{lent}
-use Rattle.walker.proofs.walk.+parse_head+parse_inner+parse_items+parse_map+parse_object+parse_ref+parse_slot.Proof.Common.{parse-head-at, parse-map-below}
+use Rattle.walker.proofs.walk.+parse_below+parse_head+parse_inner+parse_items+parse_map+parse_object+parse_ref+parse_slot.Proof.Common.{parse-head-at, parse-map-below}
 
 -- src/walk.rt:206:9
 pub parse-head-word-bytes-requires : (t : ℕ) → parse-head-lts.Need-word-bytes-requires (

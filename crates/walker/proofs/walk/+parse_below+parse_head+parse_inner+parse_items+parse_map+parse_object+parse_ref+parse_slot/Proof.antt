@@ -1,3 +1,4 @@
+mod Below
 mod Common
 mod Head
 mod Inner
@@ -14,22 +15,22 @@ use borrow.Fn.Kinds.{In}
 use borrow.Fn.PlainCycle.{Measures, is, falls, and}
 use Rattle.walker.proofs.walk.parse_inner.Reads as parse-inner
 use Rattle.walker.proofs.walk.parse_inner.Kinds as parse-inner-kinds
-use Rattle.walker.proofs.walk.+parse_head+parse_inner+parse_items+parse_map+parse_object+parse_ref+parse_slot.Lts-parse_inner as parse-inner-lts
+use Rattle.walker.proofs.walk.+parse_below+parse_head+parse_inner+parse_items+parse_map+parse_object+parse_ref+parse_slot.Lts-parse_inner as parse-inner-lts
 use Rattle.walker.proofs.walk.parse_items.Reads as parse-items
 use Rattle.walker.proofs.walk.parse_items.Kinds as parse-items-kinds
-use Rattle.walker.proofs.walk.+parse_head+parse_inner+parse_items+parse_map+parse_object+parse_ref+parse_slot.Lts-parse_items as parse-items-lts
+use Rattle.walker.proofs.walk.+parse_below+parse_head+parse_inner+parse_items+parse_map+parse_object+parse_ref+parse_slot.Lts-parse_items as parse-items-lts
 use Rattle.walker.proofs.walk.parse_map.Reads as parse-map
 use Rattle.walker.proofs.walk.parse_map.Kinds as parse-map-kinds
-use Rattle.walker.proofs.walk.+parse_head+parse_inner+parse_items+parse_map+parse_object+parse_ref+parse_slot.Lts-parse_map as parse-map-lts
+use Rattle.walker.proofs.walk.+parse_below+parse_head+parse_inner+parse_items+parse_map+parse_object+parse_ref+parse_slot.Lts-parse_map as parse-map-lts
 use Rattle.walker.proofs.walk.parse_object.Reads as parse-object
 use Rattle.walker.proofs.walk.parse_object.Kinds as parse-object-kinds
-use Rattle.walker.proofs.walk.+parse_head+parse_inner+parse_items+parse_map+parse_object+parse_ref+parse_slot.Lts-parse_object as parse-object-lts
+use Rattle.walker.proofs.walk.+parse_below+parse_head+parse_inner+parse_items+parse_map+parse_object+parse_ref+parse_slot.Lts-parse_object as parse-object-lts
 use Rattle.walker.proofs.walk.parse_ref.Reads as parse-ref
 use Rattle.walker.proofs.walk.parse_ref.Kinds as parse-ref-kinds
-use Rattle.walker.proofs.walk.+parse_head+parse_inner+parse_items+parse_map+parse_object+parse_ref+parse_slot.Lts-parse_ref as parse-ref-lts
+use Rattle.walker.proofs.walk.+parse_below+parse_head+parse_inner+parse_items+parse_map+parse_object+parse_ref+parse_slot.Lts-parse_ref as parse-ref-lts
 use Rattle.walker.proofs.walk.parse_slot.Reads as parse-slot
 use Rattle.walker.proofs.walk.parse_slot.Kinds as parse-slot-kinds
-use Rattle.walker.proofs.walk.+parse_head+parse_inner+parse_items+parse_map+parse_object+parse_ref+parse_slot.Lts-parse_slot as parse-slot-lts
+use Rattle.walker.proofs.walk.+parse_below+parse_head+parse_inner+parse_items+parse_map+parse_object+parse_ref+parse_slot.Lts-parse_slot as parse-slot-lts
 use Rattle.objects.proofs.head.open_object.Reads as open-object-reads
 use Rattle.objects.proofs.item.place_item.Reads as place-item-reads
 use Rattle.objects.proofs.map.after_map.Reads as after-map-reads
@@ -45,27 +46,31 @@ use Rattle.sheet.proofs.tests.is_tag.Reads as is-tag-reads
 use Rattle.sheet.proofs.numbers.word_bytes.Reads as word-bytes-reads
 use Rattle.stream.proofs.bytes.byte.Reads as byte-reads
 use Rattle.stream.proofs.bytes.peek.Reads as peek-reads
-use Rattle.walker.proofs.walk.+parse_head+parse_inner+parse_items+parse_map+parse_object+parse_ref+parse_slot.{
+use Rattle.walker.proofs.walk.+parse_below+parse_head+parse_inner+parse_items+parse_map+parse_object+parse_ref+parse_slot.{
   statement,
 }
-use Rattle.walker.proofs.walk.+parse_head+parse_inner+parse_items+parse_map+parse_object+parse_ref+parse_slot.Tie.{
+use Rattle.walker.proofs.walk.+parse_below+parse_head+parse_inner+parse_items+parse_map+parse_object+parse_ref+parse_slot.Tie.{
   close,
 }
-use Rattle.walker.proofs.walk.+parse_head+parse_inner+parse_items+parse_map+parse_object+parse_ref+parse_slot.Proof.Common.{μ-parse-head, μ-parse-inner, μ-parse-items, μ-parse-map, μ-parse-object, μ-parse-ref, μ-parse-slot, parse-head-at, parse-head-below, parse-inner-at, parse-inner-below, parse-items-at, parse-items-below, parse-map-at, parse-map-below, parse-object-at, parse-object-below, parse-ref-at, parse-ref-below, parse-slot-at, parse-slot-below, parse-items-Inv-loop, parse-items-μ-loop}
-use Rattle.walker.proofs.walk.+parse_head+parse_inner+parse_items+parse_map+parse_object+parse_ref+parse_slot.Proof.Inner.{parse-inner-word-bytes-requires, parse-inner-leaf-at-requires, parse-inner-take-leaf-requires, parse-inner-returns, parse-inner-add-parse-ref, parse-inner-parse-ref-requires, parse-inner-same-length, parse-inner-same-length-2, parse-inner-same-length-3, parse-inner-same-length-4, parse-inner-same-length-5, parse-inner-returns-2}
-use Rattle.walker.proofs.walk.+parse_head+parse_inner+parse_items+parse_map+parse_object+parse_ref+parse_slot.Proof.Items.{parse-items-word-bytes-requires, parse-items-loop-holds, parse-items-peek-requires, parse-items-is-tag-requires, parse-items-add-t, parse-items-loop-less, parse-items-loop-again, parse-items-add-start, parse-items-div-place-leaf, parse-items-place-leaf-requires, parse-items-add-t-2, parse-items-add-done, parse-items-loop-less-2, parse-items-loop-again-2, parse-items-parse-slot-requires, parse-items-enum-known-item, parse-items-same-length, parse-items-same-length-2, parse-items-same-length-3, parse-items-same-length-4, parse-items-same-length-5, parse-items-returns, parse-items-enum-known-item-2, parse-items-loop-less-3, parse-items-loop-again-3, parse-items-same-length-6, parse-items-same-length-7, parse-items-same-length-8, parse-items-same-length-9, parse-items-same-length-10, parse-items-returns-2, parse-items-same-length-11, parse-items-same-length-12, parse-items-same-length-13, parse-items-same-length-14, parse-items-same-length-15, parse-items-returns-3}
-use Rattle.walker.proofs.walk.+parse_head+parse_inner+parse_items+parse_map+parse_object+parse_ref+parse_slot.Proof.Map.{parse-map-parse-inner-requires, parse-map-enum-known-m, parse-map-enum-known-x, parse-map-after-map-requires, parse-map-enum-known-m-2, parse-map-enum-known-y, parse-map-keep-map-requires, parse-map-enum-known-m-3, parse-map-enum-known-w, parse-map-resolves-requires, parse-map-same-length, parse-map-same-length-2, parse-map-same-length-3, parse-map-same-length-4, parse-map-same-length-5, parse-map-returns, parse-map-same-length-6, parse-map-same-length-7, parse-map-same-length-8, parse-map-same-length-9, parse-map-same-length-10, parse-map-returns-2, parse-map-same-length-11, parse-map-same-length-12, parse-map-same-length-13, parse-map-same-length-14, parse-map-same-length-15, parse-map-returns-3, parse-map-same-length-16, parse-map-same-length-17, parse-map-same-length-18, parse-map-same-length-19, parse-map-same-length-20, parse-map-returns-4}
-use Rattle.walker.proofs.walk.+parse_head+parse_inner+parse_items+parse_map+parse_object+parse_ref+parse_slot.Proof.Object.{parse-object-parse-head-requires, parse-object-enum-known-m, parse-object-enum-known-n, parse-object-parse-items-requires, parse-object-same-length, parse-object-same-length-2, parse-object-same-length-3, parse-object-same-length-4, parse-object-same-length-5, parse-object-returns, parse-object-same-length-6, parse-object-same-length-7, parse-object-same-length-8, parse-object-same-length-9, parse-object-same-length-10, parse-object-returns-2}
-use Rattle.walker.proofs.walk.+parse_head+parse_inner+parse_items+parse_map+parse_object+parse_ref+parse_slot.Proof.Head.{parse-head-word-bytes-requires, parse-head-open-leaf-requires, parse-head-add-t, parse-head-add-t-2, parse-head-mul-t41, parse-head-same-length, parse-head-same-length-2, parse-head-returns, parse-head-open-object-requires, parse-head-enum-known-m, parse-head-enum-known-words, parse-head-mul-n, parse-head-parse-map-requires, parse-head-enum-known-m-2, parse-head-enum-known-y, parse-head-same-length-3, parse-head-same-length-4, parse-head-returns-2, parse-head-same-length-5, parse-head-same-length-6, parse-head-same-length-7, parse-head-same-length-8, parse-head-same-length-9, parse-head-returns-3, parse-head-same-length-10, parse-head-same-length-11, parse-head-same-length-12, parse-head-same-length-13, parse-head-same-length-14, parse-head-returns-4}
-use Rattle.walker.proofs.walk.+parse_head+parse_inner+parse_items+parse_map+parse_object+parse_ref+parse_slot.Proof.Reference.{parse-ref-returns, parse-ref-returns-2, parse-ref-byte-requires, parse-ref-mul-kind, parse-ref-element-copy-out-kind, parse-ref-cast-kind, parse-ref-add-a, parse-ref-mul-a, parse-ref-element-copy-out-a, parse-ref-cast-a, parse-ref-add-t, parse-ref-parse-object-requires, parse-ref-same-length, parse-ref-same-length-2, parse-ref-same-length-3, parse-ref-same-length-4, parse-ref-same-length-5, parse-ref-returns-3, parse-ref-begin-requires, parse-ref-enum-told, parse-ref-simple-ref-requires, parse-ref-enum-known-n, parse-ref-enum-known-held, parse-ref-hold-requires, parse-ref-enum-known-held-2, parse-ref-parse-inner-requires, parse-ref-enum-known-inner, parse-ref-enum-known-inner-2, parse-ref-hold-requires-2, parse-ref-same-length-6, parse-ref-same-length-7, parse-ref-returns-4, parse-ref-returns-5, parse-ref-same-length-8, parse-ref-returns-6, parse-ref-same-length-9, parse-ref-same-length-10, parse-ref-same-length-11, parse-ref-same-length-12, parse-ref-same-length-13, parse-ref-returns-7, parse-ref-same-length-14, parse-ref-same-length-15, parse-ref-same-length-16, parse-ref-same-length-17, parse-ref-same-length-18, parse-ref-returns-8}
-use Rattle.walker.proofs.walk.+parse_head+parse_inner+parse_items+parse_map+parse_object+parse_ref+parse_slot.Proof.Slot.{parse-slot-word-bytes-requires, parse-slot-add-parse-ref, parse-slot-parse-ref-requires, parse-slot-enum-known-n, parse-slot-enum-known-x, parse-slot-place-item-requires, parse-slot-same-length, parse-slot-same-length-2, parse-slot-same-length-3, parse-slot-same-length-4, parse-slot-same-length-5, parse-slot-returns, parse-slot-same-length-6, parse-slot-same-length-7, parse-slot-same-length-8, parse-slot-same-length-9, parse-slot-same-length-10, parse-slot-returns-2}
+use Rattle.walker.proofs.walk.+parse_below+parse_head+parse_inner+parse_items+parse_map+parse_object+parse_ref+parse_slot.Proof.Common.{μ-parse-below, μ-parse-head, μ-parse-inner, μ-parse-items, μ-parse-map, μ-parse-object, μ-parse-ref, μ-parse-slot, parse-below-at, parse-below-below, parse-head-at, parse-head-below, parse-inner-at, parse-inner-below, parse-items-at, parse-items-below, parse-map-at, parse-map-below, parse-object-at, parse-object-below, parse-ref-at, parse-ref-below, parse-slot-at, parse-slot-below, parse-items-Inv-loop, parse-items-μ-loop}
+use Rattle.walker.proofs.walk.+parse_below+parse_head+parse_inner+parse_items+parse_map+parse_object+parse_ref+parse_slot.Proof.Inner.{parse-inner-word-bytes-requires, parse-inner-leaf-at-requires, parse-inner-take-leaf-requires, parse-inner-returns, parse-inner-add-parse-ref, parse-inner-parse-ref-requires, parse-inner-same-length, parse-inner-same-length-2, parse-inner-same-length-3, parse-inner-same-length-4, parse-inner-same-length-5, parse-inner-returns-2}
+use Rattle.walker.proofs.walk.+parse_below+parse_head+parse_inner+parse_items+parse_map+parse_object+parse_ref+parse_slot.Proof.Items.{parse-items-word-bytes-requires, parse-items-loop-holds, parse-items-peek-requires, parse-items-is-tag-requires, parse-items-add-t, parse-items-loop-less, parse-items-loop-again, parse-items-add-start, parse-items-div-place-leaf, parse-items-place-leaf-requires, parse-items-add-t-2, parse-items-add-done, parse-items-loop-less-2, parse-items-loop-again-2, parse-items-parse-slot-requires, parse-items-enum-known-item, parse-items-same-length, parse-items-same-length-2, parse-items-same-length-3, parse-items-same-length-4, parse-items-same-length-5, parse-items-returns, parse-items-enum-known-item-2, parse-items-loop-less-3, parse-items-loop-again-3, parse-items-same-length-6, parse-items-same-length-7, parse-items-same-length-8, parse-items-same-length-9, parse-items-same-length-10, parse-items-returns-2, parse-items-same-length-11, parse-items-same-length-12, parse-items-same-length-13, parse-items-same-length-14, parse-items-same-length-15, parse-items-returns-3}
+use Rattle.walker.proofs.walk.+parse_below+parse_head+parse_inner+parse_items+parse_map+parse_object+parse_ref+parse_slot.Proof.Map.{parse-map-parse-inner-requires, parse-map-enum-known-m, parse-map-enum-known-x, parse-map-after-map-requires, parse-map-enum-known-m-2, parse-map-enum-known-y, parse-map-keep-map-requires, parse-map-enum-known-m-3, parse-map-enum-known-w, parse-map-resolves-requires, parse-map-same-length, parse-map-same-length-2, parse-map-same-length-3, parse-map-same-length-4, parse-map-same-length-5, parse-map-returns, parse-map-same-length-6, parse-map-same-length-7, parse-map-same-length-8, parse-map-same-length-9, parse-map-same-length-10, parse-map-returns-2, parse-map-same-length-11, parse-map-same-length-12, parse-map-same-length-13, parse-map-same-length-14, parse-map-same-length-15, parse-map-returns-3, parse-map-same-length-16, parse-map-same-length-17, parse-map-same-length-18, parse-map-same-length-19, parse-map-same-length-20, parse-map-returns-4}
+use Rattle.walker.proofs.walk.+parse_below+parse_head+parse_inner+parse_items+parse_map+parse_object+parse_ref+parse_slot.Proof.Object.{parse-object-parse-head-requires, parse-object-enum-known-m, parse-object-enum-known-n, parse-object-parse-items-requires, parse-object-same-length, parse-object-same-length-2, parse-object-same-length-3, parse-object-same-length-4, parse-object-same-length-5, parse-object-returns, parse-object-same-length-6, parse-object-same-length-7, parse-object-same-length-8, parse-object-same-length-9, parse-object-same-length-10, parse-object-returns-2}
+use Rattle.walker.proofs.walk.+parse_below+parse_head+parse_inner+parse_items+parse_map+parse_object+parse_ref+parse_slot.Proof.Head.{parse-head-word-bytes-requires, parse-head-open-leaf-requires, parse-head-add-t, parse-head-add-t-2, parse-head-mul-t41, parse-head-same-length, parse-head-same-length-2, parse-head-returns, parse-head-open-object-requires, parse-head-enum-known-m, parse-head-enum-known-words, parse-head-mul-n, parse-head-parse-map-requires, parse-head-enum-known-m-2, parse-head-enum-known-y, parse-head-same-length-3, parse-head-same-length-4, parse-head-returns-2, parse-head-same-length-5, parse-head-same-length-6, parse-head-same-length-7, parse-head-same-length-8, parse-head-same-length-9, parse-head-returns-3, parse-head-same-length-10, parse-head-same-length-11, parse-head-same-length-12, parse-head-same-length-13, parse-head-same-length-14, parse-head-returns-4}
+use Rattle.walker.proofs.walk.+parse_below+parse_head+parse_inner+parse_items+parse_map+parse_object+parse_ref+parse_slot.Proof.Below.{parse-below-byte-requires, parse-below-mul-kind, parse-below-element-copy-out-kind, parse-below-cast-kind, parse-below-add-a, parse-below-mul-a, parse-below-element-copy-out-a, parse-below-cast-a, parse-below-add-t, parse-below-add-parse-object, parse-below-parse-object-requires, parse-below-same-length, parse-below-same-length-2, parse-below-same-length-3, parse-below-same-length-4, parse-below-same-length-5, parse-below-returns, parse-below-add-parse-ref, parse-below-parse-ref-requires, parse-below-same-length-6, parse-below-same-length-7, parse-below-same-length-8, parse-below-same-length-9, parse-below-same-length-10, parse-below-returns-2}
+use Rattle.walker.proofs.walk.+parse_below+parse_head+parse_inner+parse_items+parse_map+parse_object+parse_ref+parse_slot.Proof.Reference.{parse-ref-returns, parse-ref-returns-2, parse-ref-byte-requires, parse-ref-mul-kind, parse-ref-element-copy-out-kind, parse-ref-cast-kind, parse-ref-add-a, parse-ref-mul-a, parse-ref-element-copy-out-a, parse-ref-cast-a, parse-ref-add-t, parse-ref-parse-object-requires, parse-ref-same-length, parse-ref-same-length-2, parse-ref-same-length-3, parse-ref-same-length-4, parse-ref-same-length-5, parse-ref-returns-3, parse-ref-begin-requires, parse-ref-enum-told, parse-ref-simple-ref-requires, parse-ref-enum-known-n, parse-ref-enum-known-held, parse-ref-hold-requires, parse-ref-enum-known-held-2, parse-ref-parse-inner-requires, parse-ref-enum-known-inner, parse-ref-enum-known-inner-2, parse-ref-hold-requires-2, parse-ref-same-length-6, parse-ref-same-length-7, parse-ref-returns-4, parse-ref-returns-5, parse-ref-same-length-8, parse-ref-returns-6, parse-ref-same-length-9, parse-ref-same-length-10, parse-ref-same-length-11, parse-ref-same-length-12, parse-ref-same-length-13, parse-ref-returns-7, parse-ref-same-length-14, parse-ref-same-length-15, parse-ref-same-length-16, parse-ref-same-length-17, parse-ref-same-length-18, parse-ref-returns-8}
+use Rattle.walker.proofs.walk.+parse_below+parse_head+parse_inner+parse_items+parse_map+parse_object+parse_ref+parse_slot.Proof.Slot.{parse-slot-word-bytes-requires, parse-slot-parse-below-requires, parse-slot-enum-known-n, parse-slot-enum-known-x, parse-slot-place-item-requires, parse-slot-same-length, parse-slot-same-length-2, parse-slot-same-length-3, parse-slot-same-length-4, parse-slot-same-length-5, parse-slot-returns, parse-slot-same-length-6, parse-slot-same-length-7, parse-slot-same-length-8, parse-slot-same-length-9, parse-slot-same-length-10, parse-slot-returns-2}
 use Rattle.walker.proofs.walk.parse_head.Reads as parse-head
-use Rattle.walker.proofs.walk.+parse_head+parse_inner+parse_items+parse_map+parse_object+parse_ref+parse_slot.Lts-parse_head as parse-head-lts
+use Rattle.walker.proofs.walk.+parse_below+parse_head+parse_inner+parse_items+parse_map+parse_object+parse_ref+parse_slot.Lts-parse_head as parse-head-lts
 use Rattle.leaves.proofs.leaf.open_leaf.Reads as open-leaf-reads
+use Rattle.walker.proofs.walk.parse_below.Reads as parse-below
+use Rattle.walker.proofs.walk.+parse_below+parse_head+parse_inner+parse_items+parse_map+parse_object+parse_ref+parse_slot.Lts-parse_below as parse-below-lts
 
-pub +parse-head+parse-inner+parse-items+parse-map+parse-object+parse-ref+parse-slot-spec : {M : Type 1} → statement M
-+parse-head+parse-inner+parse-items+parse-map+parse-object+parse-ref+parse-slot-spec =
+pub +parse-below+parse-head+parse-inner+parse-items+parse-map+parse-object+parse-ref+parse-slot-spec : {M : Type 1} → statement M
++parse-below+parse-head+parse-inner+parse-items+parse-map+parse-object+parse-ref+parse-slot-spec =
     close
+    μ-parse-below
     μ-parse-head
     μ-parse-inner
     μ-parse-items
@@ -73,6 +78,41 @@ pub +parse-head+parse-inner+parse-items+parse-map+parse-object+parse-ref+parse-s
     μ-parse-object
     μ-parse-ref
     μ-parse-slot
+    (λ t. parse-below-lts.spec (
+      byte-reads.Asked,
+      byte-reads.Learnt,
+      parse-object-below t,
+      parse-object.Post,
+      parse-ref-below t,
+      parse-ref.Post,
+    )
+    (parse-below-at t)
+    parse-below.Post
+    (parse-below-byte-requires t)
+    (parse-below-mul-kind t)
+    (parse-below-element-copy-out-kind t)
+    (parse-below-cast-kind t)
+    (parse-below-add-a t)
+    (parse-below-mul-a t)
+    (parse-below-element-copy-out-a t)
+    (parse-below-cast-a t)
+    (parse-below-add-t t)
+    (parse-below-add-parse-object t)
+    (parse-below-parse-object-requires t)
+    (parse-below-same-length t)
+    (parse-below-same-length-2 t)
+    (parse-below-same-length-3 t)
+    (parse-below-same-length-4 t)
+    (parse-below-same-length-5 t)
+    (parse-below-returns t)
+    (parse-below-add-parse-ref t)
+    (parse-below-parse-ref-requires t)
+    (parse-below-same-length-6 t)
+    (parse-below-same-length-7 t)
+    (parse-below-same-length-8 t)
+    (parse-below-same-length-9 t)
+    (parse-below-same-length-10 t)
+    (parse-below-returns-2 t))
     (λ t. parse-head-lts.spec (
       word-bytes-reads.Asked,
       word-bytes-reads.Learnt,
@@ -328,16 +368,15 @@ pub +parse-head+parse-inner+parse-items+parse-map+parse-object+parse-ref+parse-s
     λ t. parse-slot-lts.spec (
       word-bytes-reads.Asked,
       word-bytes-reads.Learnt,
-      parse-ref-below t,
-      parse-ref.Post,
+      parse-below-below t,
+      parse-below.Post,
       place-item-reads.Asked,
       place-item-reads.Learnt,
     )
     (parse-slot-at t)
     parse-slot.Post
     (parse-slot-word-bytes-requires t)
-    (parse-slot-add-parse-ref t)
-    (parse-slot-parse-ref-requires t)
+    (parse-slot-parse-below-requires t)
     (parse-slot-enum-known-n t)
     (parse-slot-enum-known-x t)
     (parse-slot-place-item-requires t)

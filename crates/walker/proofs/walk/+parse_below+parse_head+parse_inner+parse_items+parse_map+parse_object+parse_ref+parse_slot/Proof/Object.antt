@@ -9,8 +9,8 @@ use Rattle.readers.proofs.ViewLaws.{count-is, count-no, count-below}
 use Rattle.walker.proofs.ReadyLaws.{out-index}
 use Rattle.walker.proofs.walk.parse_items.Reads as parse-items
 use Rattle.walker.proofs.walk.parse_object.Reads as parse-object
-use Rattle.walker.proofs.walk.+parse_head+parse_inner+parse_items+parse_map+parse_object+parse_ref+parse_slot.Lts-parse_object as parse-object-lts
-use Rattle.walker.proofs.walk.+parse_head+parse_inner+parse_items+parse_map+parse_object+parse_ref+parse_slot.Proof.Common.{parse-head-below, parse-items-below, parse-object-at}
+use Rattle.walker.proofs.walk.+parse_below+parse_head+parse_inner+parse_items+parse_map+parse_object+parse_ref+parse_slot.Lts-parse_object as parse-object-lts
+use Rattle.walker.proofs.walk.+parse_below+parse_head+parse_inner+parse_items+parse_map+parse_object+parse_ref+parse_slot.Proof.Common.{parse-head-below, parse-items-below, parse-object-at}
 use borrow.Fn.PlainCycle.{is}
 use Rattle.walker.proofs.walk.parse_head.Reads as parse-head
 

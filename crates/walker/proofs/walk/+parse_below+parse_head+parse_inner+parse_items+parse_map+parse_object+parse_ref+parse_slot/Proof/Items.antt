@@ -5,7 +5,7 @@ use borrow.Author.Needs.{needs}
 use native.Mathlib.Omega.{arith}
 use mathlib.Core.Path.{refl, _∙_}
 use Rattle.walker.proofs.walk.parse_items.Reads as parse-items
-use Rattle.walker.proofs.walk.+parse_head+parse_inner+parse_items+parse_map+parse_object+parse_ref+parse_slot.Lts-parse_items as parse-items-lts
+use Rattle.walker.proofs.walk.+parse_below+parse_head+parse_inner+parse_items+parse_map+parse_object+parse_ref+parse_slot.Lts-parse_items as parse-items-lts
 use Rattle.walker.proofs.walk.parse_slot.Reads as parse-slot
 use Rattle.sheet.proofs.tests.is_tag.Reads as is-tag-reads
 use Rattle.sheet.proofs.numbers.word_bytes.Reads as word-bytes-reads
@@ -14,7 +14,7 @@ use Rattle.readers.proofs.ViewLaws.{count-is, count-no}
 use Rattle.walker.specs.Ready.{lent}
 use Rattle.walker.proofs.ReadyLaws.{out-index}
 use Rattle.walker.proofs.ItemsLaws.{word-some, loop-start, loop-whole, loop-over, deferred-inside, loop-deferred, loop-no, slot-went, loop-turn, deferred-is, deferred-not}
-use Rattle.walker.proofs.walk.+parse_head+parse_inner+parse_items+parse_map+parse_object+parse_ref+parse_slot.Proof.Common.{parse-items-at, parse-slot-below, parse-items-Inv-loop, parse-items-μ-loop}
+use Rattle.walker.proofs.walk.+parse_below+parse_head+parse_inner+parse_items+parse_map+parse_object+parse_ref+parse_slot.Proof.Common.{parse-items-at, parse-slot-below, parse-items-Inv-loop, parse-items-μ-loop}
 use Rattle.leaves.proofs.leaf.place_leaf.Reads as place-leaf-reads
 
 -- src/walk.rt:247:9

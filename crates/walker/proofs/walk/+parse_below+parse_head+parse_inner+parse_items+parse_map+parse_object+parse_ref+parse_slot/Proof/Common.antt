@@ -7,22 +7,22 @@ use borrow.Fn.Kinds.{In}
 use borrow.Fn.PlainCycle.{Measures, is, falls, and}
 use Rattle.walker.proofs.walk.parse_inner.Reads as parse-inner
 use Rattle.walker.proofs.walk.parse_inner.Kinds as parse-inner-kinds
-use Rattle.walker.proofs.walk.+parse_head+parse_inner+parse_items+parse_map+parse_object+parse_ref+parse_slot.Lts-parse_inner as parse-inner-lts
+use Rattle.walker.proofs.walk.+parse_below+parse_head+parse_inner+parse_items+parse_map+parse_object+parse_ref+parse_slot.Lts-parse_inner as parse-inner-lts
 use Rattle.walker.proofs.walk.parse_items.Reads as parse-items
 use Rattle.walker.proofs.walk.parse_items.Kinds as parse-items-kinds
-use Rattle.walker.proofs.walk.+parse_head+parse_inner+parse_items+parse_map+parse_object+parse_ref+parse_slot.Lts-parse_items as parse-items-lts
+use Rattle.walker.proofs.walk.+parse_below+parse_head+parse_inner+parse_items+parse_map+parse_object+parse_ref+parse_slot.Lts-parse_items as parse-items-lts
 use Rattle.walker.proofs.walk.parse_map.Reads as parse-map
 use Rattle.walker.proofs.walk.parse_map.Kinds as parse-map-kinds
-use Rattle.walker.proofs.walk.+parse_head+parse_inner+parse_items+parse_map+parse_object+parse_ref+parse_slot.Lts-parse_map as parse-map-lts
+use Rattle.walker.proofs.walk.+parse_below+parse_head+parse_inner+parse_items+parse_map+parse_object+parse_ref+parse_slot.Lts-parse_map as parse-map-lts
 use Rattle.walker.proofs.walk.parse_object.Reads as parse-object
 use Rattle.walker.proofs.walk.parse_object.Kinds as parse-object-kinds
-use Rattle.walker.proofs.walk.+parse_head+parse_inner+parse_items+parse_map+parse_object+parse_ref+parse_slot.Lts-parse_object as parse-object-lts
+use Rattle.walker.proofs.walk.+parse_below+parse_head+parse_inner+parse_items+parse_map+parse_object+parse_ref+parse_slot.Lts-parse_object as parse-object-lts
 use Rattle.walker.proofs.walk.parse_ref.Reads as parse-ref
 use Rattle.walker.proofs.walk.parse_ref.Kinds as parse-ref-kinds
-use Rattle.walker.proofs.walk.+parse_head+parse_inner+parse_items+parse_map+parse_object+parse_ref+parse_slot.Lts-parse_ref as parse-ref-lts
+use Rattle.walker.proofs.walk.+parse_below+parse_head+parse_inner+parse_items+parse_map+parse_object+parse_ref+parse_slot.Lts-parse_ref as parse-ref-lts
 use Rattle.walker.proofs.walk.parse_slot.Reads as parse-slot
 use Rattle.walker.proofs.walk.parse_slot.Kinds as parse-slot-kinds
-use Rattle.walker.proofs.walk.+parse_head+parse_inner+parse_items+parse_map+parse_object+parse_ref+parse_slot.Lts-parse_slot as parse-slot-lts
+use Rattle.walker.proofs.walk.+parse_below+parse_head+parse_inner+parse_items+parse_map+parse_object+parse_ref+parse_slot.Lts-parse_slot as parse-slot-lts
 use Rattle.objects.proofs.head.open_object.Reads as open-object-reads
 use Rattle.objects.proofs.item.place_item.Reads as place-item-reads
 use Rattle.objects.proofs.map.after_map.Reads as after-map-reads
@@ -40,6 +40,11 @@ use Rattle.walker.specs.Ready.{lent}
 use Rattle.walker.proofs.ItemsLaws.{Loop}
 use Rattle.walker.proofs.walk.parse_head.Reads as parse-head
 use Rattle.walker.proofs.walk.parse_head.Kinds as parse-head-kinds
+use Rattle.walker.proofs.walk.parse_below.Reads as parse-below
+use Rattle.walker.proofs.walk.parse_below.Kinds as parse-below-kinds
+
+abbrev pub μ-parse-below : Measures 12 parse-below-kinds.ps ℕ
+μ-parse-below κs a = 5 * (65 - a .1 .1 .1 .1 .1 .1 .1 .1 .1 .1 .1 .1 .1 .1 .0) + 0
 
 abbrev pub μ-parse-head : Measures 12 parse-head-kinds.ps ℕ
 μ-parse-head κs a = 5 * (65 - a .1 .1 .1 .1 .1 .1 .1 .1 .1 .1 .1 .1 .1 .1 .0) + 2
@@ -61,6 +66,14 @@ abbrev pub μ-parse-ref : Measures 12 parse-ref-kinds.ps ℕ
 
 abbrev pub μ-parse-slot : Measures 12 parse-slot-kinds.ps ℕ
 μ-parse-slot κs a = 5 * (65 - a .1 .1 .1 .1 .1 .1 .1 .1 .1 .1 .1 .1 .1 .1 .0) + 1
+
+abbrev pub parse-below-at : ℕ → In 12 parse-below-kinds.ps
+parse-below-at t =
+    and 12 parse-below-kinds.ps (is 12 parse-below-kinds.ps μ-parse-below t) parse-below.Pre
+
+abbrev pub parse-below-below : ℕ → In 12 parse-below-kinds.ps
+parse-below-below t =
+    and 12 parse-below-kinds.ps (falls 12 parse-below-kinds.ps _<_ μ-parse-below t) parse-below.Pre
 
 abbrev pub parse-head-at : ℕ → In 12 parse-head-kinds.ps
 parse-head-at t =
