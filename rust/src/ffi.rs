@@ -27,7 +27,7 @@ extern "C" {
     ) -> u64;
 }
 
-/// Several times the 437 kB that a call takes at most.
+/// Ten times the 204 kB that a call takes at most.
 const STACK: usize = 2 << 20;
 
 /// What is lent to be written.
