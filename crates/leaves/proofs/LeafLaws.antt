@@ -47,7 +47,7 @@ module _ (x : Input) (r : Ref) where
   ref-kept o done m = refl
 
 -- an integer at the cursor
-int-got : (x : Input) (m : Mem) {v n : ℕ} → intAt (x .payload) (m .at) ≡ IntIs v n → got v (moved (m .at + n) m) ≡ int x m
+pub int-got : (x : Input) (m : Mem) {v n : ℕ} → intAt (x .payload) (m .at) ≡ IntIs v n → got v (moved (m .at + n) m) ≡ int x m
 unfolding int
 int-got x m e = rw e
 

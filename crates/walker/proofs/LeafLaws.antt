@@ -7,6 +7,7 @@ use borrow.Author.Tests.{lt-ltb}
 use lib.ListN.{length, getD, set, take}
 use Rattle.sheet.specs.Sheet.{wordBytes}
 use Rattle.tables.specs.declared.values.SlotValue.{SlotValue}
+use Rattle.tables.specs.declared.values.Fields.{Fields}
 use Rattle.tables.specs.Values.{triple, fieldsOf, widthOf}
 use Rattle.tables.specs.Records.{room, field, slotRow, written}
 use Rattle.definition.specs.Memory.{Input, word, table, Mem, Out, got}
@@ -32,6 +33,11 @@ leaf-asks {x} g w e =
 -- and what `place_leaf` asks beside
 pub count-fits : {x : Input} {h sc : List ℕ} {m : Mem} → Ready x h m sc → (o : ℕ) → length (m .slots .rows) < 2 ^ 64 → field 4 (m .objects .rows) o 3 < 2 ^ 63
 count-fits g o few = omega (arith, g .counted .count-low o, g .sound .slots-fit)
+
+-- a slot record that does not wait leaves scratch right
+pub plain-index : {x : Input} {h sc : List ℕ} {s : State} {l : Lent} → Ready x h (mem s l) sc → (o index : ℕ) (f : Fields) → s .slots < room 6 (l .slots) → {st : List ℕ} → st ≡ written (l .slots) (s .slots) (slotRow o index f 0) → Index (length (x .payload)) (table st (s .slots + 1)) (table (l .addresses) (s .addresses)) sc
+plain-index {x} {sc = sc} {s = s} {l = l} g o index f b e =
+    record { pending = rw e (indexed-plain (l .slots) (s .slots) o index f 0 b refl (take (length (x .payload)) sc) (g .index .pending)); linked = g .index .linked }
 
 -- the state after a leaf's slot
 abbrev pub stepped : Leaf → State → State
@@ -87,7 +93,7 @@ module _ (v p : List ℕ) (sp : ℕ) (tr h sc : List ℕ) (s : State) (l : Lent)
     leaf-item = slot-got x d o done (mem s l) read is-kept
 
     pub leaf-index : Index (length p) (table st (s .slots + 1)) (table (l .addresses) (s .addresses)) sc
-    leaf-index = record { pending = rw (placed .slot some) (indexed-plain (l .slots) (s .slots) o index (triple (leaf .kind) (leaf .a) (leaf .b)) 0 (placed .roomy some) refl (take (length p) sc) (g .index .pending)); linked = g .index .linked }
+    leaf-index = plain-index g o index (triple (leaf .kind) (leaf .a) (leaf .b)) (placed .roomy some) (placed .slot some)
 
 -- where none was placed, what holds at the head of the loop holds still
 pub unplaced : {x : Input} {h : List ℕ} {d o tag n : ℕ} {m₀ : Mem} {done : ℕ} (s : State) (l : Lent) {sc : List ℕ} {k index : ℕ} {r : Leaf} {ot st hot : List ℕ} → Placed k o index r (l .objects) (l .slots) (l .hot) ot st hot → r .kind ≡ 0 → Loop x h d o tag n m₀ done (mem s l) sc → Loop x h d o tag n m₀ done (mem s (objectsIs ot (slotsIs st (hotIs hot l)))) sc

@@ -24,21 +24,15 @@ use Rattle.readers.specs.Views.{Lent, input, mem, objectsIs, slotsIs, hotIs}
 use Rattle.objects.specs.Head.{recording, opening}
 use Rattle.objects.specs.Map.{afterMap}
 use Rattle.objects.proofs.HeadLaws.{open-plain}
-use Rattle.objects.proofs.WaiterLaws.{indexed-plain}
-use Rattle.leaves.specs.declared.leaf.Leaf.{Leaf}
 use Rattle.leaves.specs.declared.leaf.Opened.{Opened}
 use Rattle.leaves.specs.Leaf.{ring, after, valueOf}
 use Rattle.leaves.specs.Opening.{MapAt, Opens}
+use Rattle.leaves.proofs.LeafLaws.{int-got}
 use Rattle.walker.specs.Ready.{Index, Ready, mapped, headed}
-use Rattle.walker.proofs.LeafLaws.{stands, read}
+use Rattle.walker.proofs.LeafLaws.{plain-index, stands, read}
 use Rattle.walker.proofs.ObjectLaws.{opened-ready, mapped-on, headed-on}
 
 -- ---- each step
-
--- the size
-int-read : (x : Input) (m : Mem) {v n : ℕ} → Is v n ≡ intAt (x .payload) (m .at) → got v (moved (m .at + n) m) ≡ int x m
-unfolding int
-int-read x m e = rw (← e)
 
 -- a sheet that is not legacy is not 6.x
 not-six : (six legacy : Bool) → (six ≡ true → legacy ≡ true) → legacy ≡ false → six ≡ false
@@ -93,7 +87,7 @@ module _ (v p : List ℕ) (sp : ℕ) (tr h sc : List ℕ) (s : State) (l : Lent)
 
   is-opened : got (r .words) (mem s₁ l₁) ≡ opening x space tag (mem s l)
   is-opened =
-      open-plain x space tag (mem s l) (int-read x (mem s l) (a .sized)) {six = isSixX v} refl (not-six (isSixX v) (isLegacy v) (sheet-gives (g .proper) .six-x-legacy) (a .plain))
+      open-plain x space tag (mem s l) (int-got x (mem s l) (sym (a .sized))) {six = isSixX v} refl (not-six (isSixX v) (isLegacy v) (sheet-gives (g .proper) .six-x-legacy) (a .plain))
       (record-read x tag (r .words) (record { at = s .at + r .size; objects = s .objects; slots = s .slots; values = s .values; addresses = s .addresses; pending = s .pending; waiting = s .waiting; skip = s .skip; alignment = s .alignment }) l (k .object-room))
 
   g₁ : Ready x h (mem s₁ l₁) sc
@@ -131,7 +125,7 @@ module _ (v p : List ℕ) (sp : ℕ) (tr h sc : List ℕ) (s : State) (l : Lent)
   leaf-headed e = let z = headed-on x (refAt x (64 - d)) space tag (mem s l) is-opened refl is-mapped in rw (e, ew) z
 
   pub opened-index : Index (length p) (table st (s .slots + 1)) (table (l .addresses) (s .addresses)) sc
-  opened-index = record { pending = rw (k .slot) (indexed-plain (l .slots) (s .slots) (s .objects) 0 (triple (r .map .kind) (r .map .a) (r .map .b)) 0 (k .slot-room) refl (take (length p) sc) (g .index .pending)); linked = g .index .linked }
+  opened-index = plain-index g (s .objects) 0 (triple (r .map .kind) (r .map .a) (r .map .b)) (k .slot-room) (k .slot)
 
 -- where none was opened, what held before holds still
 unopened : (s : State) (l : Lent) {ot st hot : List ℕ} → (ot ≡ l .objects) × (st ≡ l .slots) × (hot ≡ l .hot) → mem s (objectsIs ot (slotsIs st (hotIs hot l))) ≡ mem s l
