@@ -1,36 +1,32 @@
 -- Leaves at each way out of the code. Assumes nothing.
 use mathlib.Core.Path.{_≡_, refl, sym, ap, subst, _∙_}
-use mathlib.Core.Bool.{Bool, true, false}
+use mathlib.Core.Bool.{true, false}
 use mathlib.Core.List.{List}
 use Prim.Native.Nat.{ℕ, _+_, _*_, _^_, _<_, _≤_}
 use native.Mathlib.Nat.{mul-le-mul, le-of-lt}
 use native.Mathlib.Omega.{arith}
-use lib.ListN.{length, getD, set}
-use Rattle.stream.specs.declared.bytes.Range.{Range}
+use lib.ListN.{getD, set}
 use Rattle.stream.specs.declared.bytes.Range.the-variants.{To as RangeTo}
 use Rattle.stream.specs.Bytes.{rawAt}
-use Rattle.stream.specs.declared.putint.Int.{Int}
-use Rattle.stream.specs.declared.putint.Int.the-variants.{Is as IntIs, Cut}
+use Rattle.stream.specs.declared.putint.Int.the-variants.{Is as IntIs}
 use Rattle.stream.specs.PutInt.{intAt}
 use Rattle.sheet.specs.Sheet.{wordBytes}
-use Rattle.heads.specs.Kinds.{backref, hot, rootConstant, readOnly, fixedRaw}
+use Rattle.heads.specs.Kinds.{hot}
 use Rattle.tables.specs.declared.values.Ref.{Ref}
 use Rattle.tables.specs.declared.values.Ref.the-variants.{Object, Root, RoRef}
-use Rattle.tables.specs.declared.values.SlotValue.{SlotValue}
 use Rattle.tables.specs.declared.values.SlotValue.the-variants.{Ref as IsRef, Raw as IsRaw}
 use Rattle.tables.specs.Values.{refFields, triple}
 use Rattle.tables.specs.Records.{room, field, slotRow, written}
 use Rattle.backref.specs.declared.hot_ring.Hot.the-variants.{Is as HotIs}
-use Rattle.backref.specs.HotRing.{hotEntry, hotAt}
-use Rattle.definition.specs.Memory.{Input, word, Mem, Out, got, Reader, moved, int}
+use Rattle.backref.specs.HotRing.{hotAt}
+use Rattle.definition.specs.Memory.{Input, word, Mem, got, moved, int}
 use Rattle.definition.specs.Slots.{keepItem, placeItem}
-use Rattle.definition.specs.Reference.{backrefTo, hotPlace, refers, byHead}
-use Rattle.readers.specs.declared.state.State.{State}
-use Rattle.readers.specs.Views.{Lent, input, mem, hotIs}
+use Rattle.definition.specs.Reference.{backrefTo, refers, byHead}
+use Rattle.readers.specs.Views.{input, mem, hotIs}
 use Rattle.readers.proofs.ViewLaws.{then-got}
 use Rattle.readers.proofs.SimpleLaws.{backref-in, hot-is, raw-to}
 use Rattle.leaves.specs.declared.leaf.Leaf.{Leaf}
-use Rattle.leaves.specs.Leaf.{ring, after, valueOf, Stands, Found, Placed}
+use Rattle.leaves.specs.Leaf.{ring, valueOf, Found, Placed}
 
 -- nothing is said of none
 pub none-found : (p hot : List ℕ) (objects ts at kind a : ℕ) (r : Leaf) → r .kind ≡ 0 → Found p hot objects ts at kind a r

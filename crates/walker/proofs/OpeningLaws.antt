@@ -2,19 +2,16 @@
 use mathlib.Core.Path.{_≡_, refl, sym, ap, subst, _∙_}
 use mathlib.Core.Bool.{Bool, true, false}
 use mathlib.Core.List.{List}
-use Prim.Native.Nat.{ℕ, zero, suc, _+_, _-_, _*_, _^_, _<_, _≤_}
+use Prim.Native.Nat.{ℕ, zero, suc, _+_, _-_, _*_, _<_}
 use native.Mathlib.Omega.{arith}
 use borrow.Author.Tests.{lt-ltb}
-use lib.ListN.{length, getD, set, take}
-use Rattle.stream.specs.declared.putint.Int.the-variants.{Is}
-use Rattle.stream.specs.Bytes.{peekAt}
-use Rattle.stream.specs.PutInt.{intAt}
-use Rattle.sheet.specs.Sheet.{isLegacy, isSixX, isMapFirst, wordBytes}
+use lib.ListN.{length, set}
+use Rattle.sheet.specs.Sheet.{isLegacy, isSixX, wordBytes}
 use Rattle.sheet.specs.Tests.{isResolve}
 use Rattle.tables.specs.declared.values.SlotValue.{SlotValue}
 use Rattle.tables.specs.Values.{triple, fieldsOf}
 use Rattle.tables.specs.Records.{room, field, objectRow, slotRow, written}
-use Rattle.definition.specs.Memory.{Input, word, table, Mem, Out, got, Reader, moved, int}
+use Rattle.definition.specs.Memory.{Input, word, table, Mem, Out, got, Reader}
 use Rattle.definition.specs.Slots.{addSlot}
 use Rattle.definition.specs.Object.{peek, addObject, flags, flagObject, keepMap, resolves}
 use Rattle.definition.specs.Reference.{refAt}
@@ -25,7 +22,7 @@ use Rattle.objects.specs.Head.{recording, opening}
 use Rattle.objects.specs.Map.{afterMap}
 use Rattle.objects.proofs.HeadLaws.{open-plain}
 use Rattle.leaves.specs.declared.leaf.Opened.{Opened}
-use Rattle.leaves.specs.Leaf.{ring, after, valueOf}
+use Rattle.leaves.specs.Leaf.{ring, after}
 use Rattle.leaves.specs.Opening.{MapAt, Opens}
 use Rattle.leaves.proofs.LeafLaws.{int-got}
 use Rattle.walker.specs.Ready.{Index, Ready, mapped, headed}
