@@ -4,8 +4,8 @@ use crate::fill::max_fill_to_align;
 use tables::records::add_address;
 ghost use mathlib.Core.Path.{_≡_};
 ghost use Prim.Native.Nat.{_-_, _^_, _<_, _≤_};
-ghost use lib.ListN.{getD};
-ghost use Rattle.alloc.specs.Allocation.{zeroCounters, spacesOf, nextChunk, advanceOf, allocateOf, seen, Places};
+ghost use lib.ListN.{length, getD};
+ghost use Rattle.alloc.specs.Allocation.{zeroCounters, spacesOf, nextChunk, advanceOf, outcome, allocateOf, seen, Places};
 
 // Two counters for each of 256 spaces: the current chunk, and the next free offset in it.
 pub struct LegacyAlloc {
@@ -30,10 +30,10 @@ pub struct Allocated {
 }
 
 // What an allocation does in its space: a refusal's number or 0, the alignment that is pending now, and the next free offset.
-struct Placed {
-    number: u64,
-    alignment: u64,
-    free: u32,
+pub struct Placed {
+    pub number: u64,
+    pub alignment: u64,
+    pub free: u32,
 }
 
 // How many spaces a reservation list gives counters: its top bits plus 1.
@@ -62,24 +62,50 @@ impl LegacyAlloc {
         }
     }
 
-    // Address record n of an object. 3: no room for the record; 16: the size, the address or the next free offset passes 2^32 - 1; then
-    // nothing changes. A space without counters gets a record that is not placed, and the alignment stays pending.
-    // The counters are copied in and out once, so each way out stores an offset: where nothing is placed, the one that was there.
-    pub fn allocate(mut self, table: &mut [u64], n: usize, spaces: u64, want: Request) -> Allocated
+    // The same as `allocate` below, with the counters by value.
+    pub fn allocate(self, table: &mut [u64], n: usize, spaces: u64, want: Request) -> Allocated
         requires { ⌜ (want .space < 256) × (want .word ≤ 8) ⌝ }
         ensures { λ r. ⌜ seen r (now (table .exit)) ≡ allocateOf (now (table .entry)) n spaces want self ⌝ }
     {
-        let i = want.space as usize;
-        let used = self.used[i] as u64;
-        let chunk = self.cur[i] as u64;
-        let placed = place(table, n, spaces, want, used, chunk);
-        self.used[i] = placed.free;
+        let cur = self.cur;
+        let mut used = self.used;
+        let placed = allocate(&cur, &mut used, table, n, spaces, want);
         Allocated {
             number: placed.number,
             alignment: placed.alignment,
-            alloc: self,
+            alloc: LegacyAlloc { cur, used },
         }
     }
+}
+
+// A counter of a space.
+fn counter(counters: &[u32], i: usize) -> u64
+    requires { ⌜ i < length (now counters) ⌝ }
+    ensures { λ r. ⌜ (r ≡ getD (now (counters .entry)) i 0) × (r < 2 ^ 32) ⌝ }
+{
+    counters[i] as u64
+}
+
+// Address record n of an object. 3: no room for the record; 16: the size, the address or the next free offset passes 2^32 - 1; then
+// nothing changes. A space without counters gets a record that is not placed, and the alignment stays pending.
+pub fn allocate(
+    cur: &[u32; 256],
+    used: &mut [u32; 256],
+    table: &mut [u64],
+    n: usize,
+    spaces: u64,
+    want: Request,
+) -> Placed
+    requires { ⌜ (want .space < 256) × (want .word ≤ 8) ⌝ }
+    ensures { λ r. ⌜ outcome (r .number) (r .alignment) (record { cur = now (cur .entry); used = now (used .exit) }) (now (table .exit)) ≡ allocateOf (now (table .entry)) n spaces want (record { cur = now (cur .entry); used = now (used .entry) }) ⌝ }
+{
+    let i = want.space as usize;
+    let free = counter(used, i);
+    let chunk = counter(cur, i);
+    let placed = place(table, n, spaces, want, free, chunk);
+    // each way out stores an offset: where nothing is placed, the one that was there
+    used[i] = placed.free;
+    placed
 }
 
 // A chunk change: the space goes on at offset 0 of its next chunk. A space without counters stays.

@@ -30,10 +30,9 @@ use Rattle.tables.specs.Records.{room, field, addressRow, written}
 use Rattle.tables.proofs.RecordLaws.{written-length}
 use Rattle.alloc.specs.declared.legacy_alloc.LegacyAlloc.{LegacyAlloc}
 use Rattle.alloc.specs.declared.legacy_alloc.Request.{Request}
-use Rattle.alloc.specs.declared.legacy_alloc.Allocated.{Allocated}
 use Rattle.alloc.specs.Fill.{fillToAlign}
-use Rattle.alloc.specs.Allocation.{nextChunk, Outcome, allocateOf, seen}
-use Rattle.alloc.proofs.AllocationLaws.{next-chunk-cur, allocate-cur, allocate-refused, allocate-room}
+use Rattle.alloc.specs.Allocation.{nextChunk, Outcome, outcome, allocateOf}
+use Rattle.alloc.proofs.AllocationLaws.{next-chunk-cur, allocate-refused, allocate-room}
 use Rattle.address_index.specs.Links.{spaceOf, Linked}
 use Rattle.address_index.proofs.LinkLaws.{linked-same}
 use Rattle.definition.specs.Memory.{Input, word, inMap, Mem, Out, got, no, Reader, choose, hasRoom, table, moved, withAlloc, aligned}
@@ -73,41 +72,41 @@ module _ (v : List ℕ) (u : usable v ≡ true) (b : ℕ) where
 
 -- ---- allocation
 
-module _ (x : Input) (s : State) (space bytes o : ℕ) (addresses cur used : List ℕ) (w : ℕ) {r : Allocated} {after : List ℕ} (e : seen r after ≡ allocateOf addresses (s .addresses) (x .spaces) (record { space = space; size = bytes; object = o; alignment = s .alignment; word = w }) (record { cur = cur; used = used })) where
-  pub allocated-room : r .number ≡ 0 → s .addresses < room 5 addresses
-  allocated-room h = allocate-room addresses (s .addresses) (x .spaces) _ _ (sym (ap (λ a. a .number) e) ∙ h)
-
-  refused-table : (r .number ≡ 0 → ⊥) → after ≡ addresses
-  refused-table h = ap (λ a. a .table) (e ∙ allocate-refused addresses (s .addresses) (x .spaces) _ _ (λ z. h (ap (λ a. a .number) e ∙ z)))
-
-  -- the chunks stay, so only the offsets are stored
-  same-chunks : _≡_ {A = LegacyAlloc} (record { cur = cur; used = r .alloc .used }) (r .alloc)
-  same-chunks =
-      let k : r .alloc .cur ≡ cur = ap (λ a. a .alloc .cur) e ∙ allocate-cur addresses (s .addresses) (x .spaces) _ _ in
-      ap (λ c. record { cur = c; used = r .alloc .used }) (sym k)
-
-  -- the record that was added
+module _ (x : Input) (s : State) (space bytes o : ℕ) (addresses cur used : List ℕ) (w : ℕ) {number alignment : ℕ} {used′ after : List ℕ} (e : outcome number alignment (record { cur = cur; used = used′ }) after ≡ allocateOf addresses (s .addresses) (x .spaces) (record { space = space; size = bytes; object = o; alignment = s .alignment; word = w }) (record { cur = cur; used = used })) where
   abbrev want : Request
   want = record { space = space; size = bytes; object = o; alignment = s .alignment; word = w }
 
   abbrev counters : LegacyAlloc
   counters = record { cur = cur; used = used }
 
+  pub allocated-room : number ≡ 0 → s .addresses < room 5 addresses
+  allocated-room h = allocate-room addresses (s .addresses) (x .spaces) _ _ (sym (ap (λ a. a .number) e) ∙ h)
+
+  as-before : (number ≡ 0 → ⊥) → outcome number alignment (record { cur = cur; used = used′ }) after ≡ outcome (allocateOf addresses (s .addresses) (x .spaces) want counters .number) (s .alignment) counters addresses
+  as-before h = e ∙ allocate-refused addresses (s .addresses) (x .spaces) _ _ (λ z. h (ap (λ a. a .number) e ∙ z))
+
+  refused-table : (number ≡ 0 → ⊥) → after ≡ addresses
+  refused-table h = ap (λ a. a .table) (as-before h)
+
+  refused-used : (number ≡ 0 → ⊥) → used′ ≡ used
+  refused-used h = ap (λ a. a .alloc .used) (as-before h)
+
+  -- the record that was added
   record Row : Type 0 where
     row : List ℕ
     five : length row ≡ 5
     of-space : getD row 0 0 ≡ space
     is : after ≡ written addresses (s .addresses) row
 
-  added-row : r .number ≡ 0 → Row
+  added-row : number ≡ 0 → Row
   added-row h = of (subst (λ (a : Outcome). a .number ≡ 0 → (s .addresses < room 5 addresses) × (Shape addresses (s .addresses) (x .spaces) want counters a)) (sym e) (allocate-shape addresses (s .addresses) (x .spaces) want counters) h .1)
     where
-      of : Shape addresses (s .addresses) (x .spaces) want counters (seen r after) → Row
+      of : Shape addresses (s .addresses) (x .spaces) want counters (outcome number alignment (record { cur = cur; used = used′ }) after) → Row
       of (bare a q b) = record { row = addressRow space 0 0 o 0; five = refl; of-space = refl; is = q }
       of (seated a q b c) = record { row = addressRow space (getD cur space 0) (getD used space 0 + fillToAlign (getD used space 0) (s .alignment) w) o 1; five = refl; of-space = refl; is = q }
 
   -- what its entering the index asks
-  pub enter-asks : r .number ≡ 0 → space < 256 → (ix : List ℕ) → Linked addresses (s .addresses) ix → (s .addresses < room 5 after) × (spaceOf after (s .addresses) < 256) × Linked after (s .addresses) ix
+  pub enter-asks : number ≡ 0 → space < 256 → (ix : List ℕ) → Linked addresses (s .addresses) ix → (s .addresses < room 5 after) × (spaceOf after (s .addresses) < 256) × Linked after (s .addresses) ix
   enter-asks h low ix i =
       let d = added-row h in
       let roomy = allocated-room h in
@@ -116,13 +115,13 @@ module _ (x : Input) (s : State) (space bytes o : ℕ) (addresses cur used : Lis
       (omega (arith, same, roomy), rw (new-space addresses (d .row) (s .addresses) (d .five) roomy, d .of-space) low, linked-same addresses _ (s .addresses) ix (λ i l. old-space addresses (d .row) (s .addresses) (d .five) roomy i l) i)
 
   module _ (l : Lent) (ew : w ≡ word x) where
-    pub allocated-no : (r .number ≡ 0 → ⊥) → no (r .number) (s .at) (mem s (addressesIs after (countersIs cur used l))) ≡ allocate x space bytes o (mem s (addressesIs addresses (countersIs cur used l)))
+    pub allocated-no : (number ≡ 0 → ⊥) → no number (s .at) (mem s (addressesIs after (countersIs cur used′ l))) ≡ allocate x space bytes o (mem s (addressesIs addresses (countersIs cur used l)))
     unfolding allocate
-    allocated-no h = rw (← ew, ← e, ne-eqb (r .number) 0 h, refused-table h)
+    allocated-no h = rw (← ew, ← e, ne-eqb number 0 h, refused-table h, refused-used h)
 
-    pub allocated : r .number ≡ 0 → got tt (withAlloc (table after (s .addresses + 1)) (r .alignment) (record { cur = cur; used = r .alloc .used }) (mem s (addressesIs addresses (countersIs cur used l)))) ≡ allocate x space bytes o (mem s (addressesIs addresses (countersIs cur used l)))
+    pub allocated : number ≡ 0 → got tt (withAlloc (table after (s .addresses + 1)) alignment (record { cur = cur; used = used′ }) (mem s (addressesIs addresses (countersIs cur used l)))) ≡ allocate x space bytes o (mem s (addressesIs addresses (countersIs cur used l)))
     unfolding allocate
-    allocated h = rw (same-chunks, ← ew, ← e, eq-eqb (r .number) 0 h)
+    allocated h = rw (← ew, ← e, eq-eqb number 0 h)
 
 -- ---- chunk changes
 

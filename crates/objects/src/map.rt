@@ -1,8 +1,8 @@
 // What follows an object's map: legacy allocation, the flag of a trusted map, and slot 0.
 use crate::item::push_slot;
 use address_index::links::enter;
-use alloc::legacy_alloc::LegacyAlloc;
 use alloc::legacy_alloc::Request;
+use alloc::legacy_alloc::allocate;
 use alloc::legacy_alloc::next_chunk;
 use readers::state::Count;
 use readers::state::State;
@@ -62,8 +62,6 @@ fn allocate_object(
     ensures linked { λ r. ⌜ WentLinked r (now (addresses .exit)) (drop size (now (scratch .exit))) ⌝ }
     ensures front { λ _. ⌜ take size (now (scratch .exit)) ≡ take size (now (scratch .entry)) ⌝ }
 {
-    let c = *cur;
-    let u = *used;
     let want = Request {
         space,
         size: bytes,
@@ -73,19 +71,14 @@ fn allocate_object(
     };
     let n = s.addresses;
     let at = s.at;
-    let alloc = LegacyAlloc { cur: c, used: u };
-    let done = alloc.allocate(addresses, n, spaces, want);
-    if done.number != 0 {
-        return Went::Refused(done.number, at, s);
+    let placed = allocate(cur, used, addresses, n, spaces, want);
+    if placed.number != 0 {
+        return Went::Refused(placed.number, at, s);
     }
-    // an allocation leaves the chunks as they are: `cur` is not written again
-    let next = done.alloc;
-    let nu = next.used;
-    *used = nu;
     enter_record(addresses, scratch, size, n);
     let mut t = s;
     t.addresses = n + 1;
-    t.alignment = done.alignment;
+    t.alignment = placed.alignment;
     Went::On(t)
 }
 
