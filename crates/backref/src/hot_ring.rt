@@ -1,4 +1,5 @@
 // The ring of hot objects: eight places of three numbers each (kind, a and b of a value; kind 0 is empty), then the place to fill next.
+use tables::values::Fields;
 use tables::values::Ref;
 use tables::values::SlotValue;
 use tables::values::fields_of;
@@ -13,16 +14,22 @@ pub enum Hot {
     Empty,
 }
 
-// A reference enters the ring, and the ring moves on.
-pub fn add(hot: &mut [u64; 25], r: Ref)
-    ensures { λ _. ⌜ now (hot .exit) ≡ entered (now (hot .entry)) (refFields r) ⌝ }
+// The fields of a reference enter the ring, and the ring moves on.
+pub fn add_fields(hot: &mut [u64; 25], f: Fields)
+    ensures { λ _. ⌜ now (hot .exit) ≡ entered (now (hot .entry)) f ⌝ }
 {
-    let f = fields_of(SlotValue::Ref(r));
     let next = (hot[24] % 8) as usize;
     hot[next * 3] = f.kind;
     hot[next * 3 + 1] = f.a;
     hot[next * 3 + 2] = f.b;
     hot[24] = ((next + 1) % 8) as u64;
+}
+
+// A reference enters the ring.
+pub fn add(hot: &mut [u64; 25], r: Ref)
+    ensures { λ _. ⌜ now (hot .exit) ≡ entered (now (hot .entry)) (refFields r) ⌝ }
+{
+    add_fields(hot, fields_of(SlotValue::Ref(r)));
 }
 
 // What stands at a place.

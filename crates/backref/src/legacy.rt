@@ -189,7 +189,29 @@ fn plain_backref(
     by_place(sheet, table, index, n, alignment, space, place, next + more)
 }
 
-// A back-reference to a space; what it stands for enters the ring.
+// A back-reference to a space.
+pub fn backref_at(
+    sheet: &[u16],
+    p: &[u8],
+    table: &[u64],
+    index: &[u64],
+    n: usize,
+    alignment: u64,
+    space: u64,
+    at: usize,
+) -> Backref
+    requires { ⌜ (n ≤ room 5 (now table)) × (usable (now sheet) ≡ true) ⌝ }
+    requires { ⌜ Linked (now table) n (now index) × Sorted (now table) n ⌝ }
+    ensures { λ r. ⌜ r ≡ backrefOf (now (sheet .entry)) (now (p .entry)) (now (table .entry)) n alignment space at ⌝ }
+{
+    if six_x(sheet) {
+        packed_backref(sheet, p, table, index, n, alignment, space, at)
+    } else {
+        plain_backref(sheet, p, table, index, n, alignment, space, at)
+    }
+}
+
+// The same; what it stands for enters the ring.
 pub fn legacy_backref(
     sheet: &[u16],
     p: &[u8],
@@ -205,11 +227,7 @@ pub fn legacy_backref(
     requires { ⌜ Linked (now table) n (now index) × Sorted (now table) n ⌝ }
     ensures { λ r. ⌜ (r ≡ backrefOf (now (sheet .entry)) (now (p .entry)) (now (table .entry)) n alignment space at) × (now (hot .exit) ≡ ringAfter (now (hot .entry)) r) ⌝ }
 {
-    let found = if six_x(sheet) {
-        packed_backref(sheet, p, table, index, n, alignment, space, at)
-    } else {
-        plain_backref(sheet, p, table, index, n, alignment, space, at)
-    };
+    let found = backref_at(sheet, p, table, index, n, alignment, space, at);
     if let Backref::To(r, _) = found {
         add(hot, r);
     }

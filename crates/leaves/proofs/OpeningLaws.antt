@@ -23,6 +23,6 @@ module _ {t : List ℕ} {o bytes tag : ℕ} {r : Bool} {after : List ℕ} (p : P
 room-put : {t : List ℕ} {n : ℕ} {row : List ℕ} {r : Bool} {after : List ℕ} → Put t n row r after → n < room (length row) t → after ≡ written t n row
 room-put {t} {n} {row} p b = p .table ∙ ap (λ b. pickTable b (written t n row) t) (lt-ltb n (room (length row) t) b)
 
-pub opened-as : (tag o n ts : ℕ) (r : Opened) (ot st hot ot′ st′ hot′ : List ℕ) {more any : Bool} {ot₁ : List ℕ} → Put ot o (objectRow (r .words * ts) tag) more ot₁ → more ≡ true → n < room 6 st → Put st n (slotRow o 0 (triple (r .map .kind) (r .map .a) (r .map .b)) 0) any st′ → ot′ ≡ set ot₁ (o * 4 + 3) (field 4 ot₁ o 3 + 1) → hot′ ≡ ring (r .map .enters) (r .map .a) hot → Opens tag o n ts r ot st hot ot′ st′ hot′
+pub opened-as : (tag o n ts : ℕ) (r : Opened) (ot st hot ot′ st′ hot′ : List ℕ) {more any : Bool} {ot₁ : List ℕ} → Put ot o (objectRow (r .words * ts) tag) more ot₁ → more ≡ true → n < room 6 st → Put st n (slotRow o 0 (triple (r .map .kind) (r .map .a) (r .map .b)) 0) any st′ → ot′ ≡ set ot₁ (o * 4 + 3) (field 4 ot₁ o 3 + 1) → hot′ ≡ ring (r .map) hot → Opens tag o n ts r ot st hot ot′ st′ hot′
 opened-as tag o n ts r ot st hot ot′ st′ hot′ p e b q c g =
     record { object-room = put-below p e; slot-room = b; object = rw (← (put-done p e .1)) c; slot = room-put q b; rings = g }

@@ -6,6 +6,8 @@ use Prim.Native.Nat.{ℕ, _+_, _*_, _<_}
 use Rattle.sheet.specs.Sheet.{wordBytes}
 use lib.Dec.{eqb}
 use lib.ListN.{set}
+use Rattle.tables.specs.declared.values.Fields.{Fields}
+use Rattle.tables.specs.declared.values.Ref.{Ref}
 use Rattle.tables.specs.declared.values.Ref.the-variants.{Object, Root, RoRef}
 use Rattle.tables.specs.declared.values.SlotValue.{SlotValue}
 use Rattle.tables.specs.declared.values.SlotValue.the-variants.{Ref as IsRef, Raw as IsRaw}
@@ -20,10 +22,14 @@ use Rattle.readers.specs.Simple.{pickValue}
 use Rattle.readers.specs.Views.{Lent, input, mem, hotIs}
 use Rattle.leaves.specs.declared.leaf.Leaf.{Leaf}
 
+-- the ring, where these fields enter it
+abbrev pub ringWith : Bool → Fields → List ℕ → List ℕ
+ringWith true f hot = entered hot f
+ringWith false f hot = hot
+
 -- the ring after it
-abbrev pub ring : Bool → ℕ → List ℕ → List ℕ
-ring true i hot = entered hot (refFields (Object i))
-ring false i hot = hot
+abbrev pub ring : Leaf → List ℕ → List ℕ
+ring r hot = ringWith (r .enters) (triple (r .kind) (r .a) (r .b)) hot
 
 -- the state after it
 abbrev pub after : Leaf → State → State
@@ -42,7 +48,7 @@ valueOf r =
 -- a slot that does not wait
 pub record Stands (x : Input) (tag kind a : ℕ) (s : State) (l : Lent) (r : Leaf) : Type 0 where
   pub value : SlotValue
-  pub is : (inner : Reader SlotValue) → got value (mem (after r s) (hotIs (ring (r .enters) (r .a) (l .hot)) l)) ≡ byHead x inner tag kind a (mem s l)
+  pub is : (inner : Reader SlotValue) → got value (mem (after r s) (hotIs (ring r (l .hot)) l)) ≡ byHead x inner tag kind a (mem s l)
   pub fields : triple (r .kind) (r .a) (r .b) ≡ fieldsOf value
   pub width : r .width ≡ widthOf (word x) value
   pub kept : (o done : ℕ) (m : Mem) → keepItem x o done value m ≡ placeItem x o done value m
@@ -54,10 +60,20 @@ abbrev pub Found : List ℕ → List ℕ → ℕ → ℕ → ℕ → ℕ → ℕ
 Found p hot objects ts at kind a r =
     (r .kind ≡ 0 → ⊥) → (v tr : List ℕ) (sp tag : ℕ) (s : State) (l : Lent) → wordBytes v ≡ ts → s .at ≡ at → s .objects ≡ objects → Stands (input v p sp tr) tag kind a s (hotIs hot l) r
 
+-- the same where the sheet, the address records, their number and the pending alignment are known too, which a legacy back-reference needs
+abbrev pub FoundIn : List ℕ → List ℕ → List ℕ → List ℕ → ℕ → ℕ → ℕ → ℕ → ℕ → ℕ → ℕ → Leaf → Type 0
+FoundIn v p addresses hot objects n alignment ts at kind a r =
+    (r .kind ≡ 0 → ⊥) → (tr : List ℕ) (sp tag : ℕ) (s : State) (l : Lent) → wordBytes v ≡ ts → s .at ≡ at → s .objects ≡ objects → s .addresses ≡ n → s .alignment ≡ alignment → l .addresses ≡ addresses → Stands (input v p sp tr) tag kind a s (hotIs hot l) r
+
+-- a reference that enters the ring, as a leaf
+abbrev pub entering : Ref → ℕ → ℕ → Leaf
+entering r next ts =
+    record { kind = refFields r .kind; a = refFields r .a; b = refFields r .b; width = ts; next = next; enters = true }
+
 -- its slot record n of object o, at this index, with the object's slot count and the ring; where there is no leaf, all stays
 pub record Placed (n o index : ℕ) (r : Leaf) (objects slots hot objects′ slots′ hot′ : List ℕ) : Type 0 where
   pub none : r .kind ≡ 0 → (objects′ ≡ objects) × (slots′ ≡ slots) × (hot′ ≡ hot)
   pub roomy : (r .kind ≡ 0 → ⊥) → n < room 6 slots
   pub slot : (r .kind ≡ 0 → ⊥) → slots′ ≡ written slots n (slotRow o index (triple (r .kind) (r .a) (r .b)) 0)
   pub count : (r .kind ≡ 0 → ⊥) → objects′ ≡ set objects (o * 4 + 3) (field 4 objects o 3 + 1)
-  pub rings : (r .kind ≡ 0 → ⊥) → hot′ ≡ ring (r .enters) (r .a) hot
+  pub rings : (r .kind ≡ 0 → ⊥) → hot′ ≡ ring r hot

@@ -32,4 +32,4 @@ pub record Opens (tag o n ts : ℕ) (r : Opened) (objects slots hot objects′ s
   pub slot-room : n < room 6 slots
   pub object : objects′ ≡ set (written objects o (objectRow (r .words * ts) tag)) (o * 4 + 3) (field 4 (written objects o (objectRow (r .words * ts) tag)) o 3 + 1)
   pub slot : slots′ ≡ written slots n (slotRow o 0 (triple (r .map .kind) (r .map .a) (r .map .b)) 0)
-  pub rings : hot′ ≡ ring (r .map .enters) (r .map .a) hot
+  pub rings : hot′ ≡ ring (r .map) hot

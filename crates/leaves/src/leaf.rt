@@ -1,7 +1,10 @@
-// The commonest references that hold no other, read without a state, so that a slot with one of them costs little: a root constant, a hot
-// place, a back-reference, a read-only reference and fixed raw data. What is refused is left to the readers of every reference.
-use backref::hot_ring::add;
+// The commonest references that hold no other, read without a state, so that a slot with one of them costs little: a root, a hot place, a
+// back-reference, a read-only reference and fixed raw data. What is refused is left to the readers of every reference.
+use backref::hot_ring::add_fields;
+use backref::legacy::Backref;
+use backref::legacy::backref_at;
 use objects::map::is_flagged;
+use readers::parts::index_start;
 use readers::state::State;
 use readers::state::Step;
 use sheet::names::K_RESOLVE_PENDING_FORWARD_REF;
@@ -20,14 +23,20 @@ use tables::values::Fields;
 use tables::values::Raw;
 use tables::values::Ref;
 use tables::values::SlotValue;
+use tables::values::fields_of;
+ghost use mathlib.Core.Bool.{true};
 ghost use mathlib.Core.Path.{_≡_};
 ghost use mathlib.Core.List.{List};
 ghost use Prim.Native.Nat.{ℕ, _+_, _*_, _^_, _<_, _≤_};
-ghost use lib.ListN.{length, getD};
-ghost use Rattle.tables.specs.Records.{field};
+ghost use lib.ListN.{length, getD, drop};
+ghost use Rattle.sheet.specs.Sheet.{usable};
+ghost use Rattle.tables.specs.declared.values.SlotValue.the-variants.{Ref as IsRef};
+ghost use Rattle.tables.specs.Records.{room, field};
+ghost use Rattle.address_index.specs.Links.{Linked};
+ghost use Rattle.address_index.specs.Sorted.{Sorted};
 ghost use Rattle.definition.specs.Memory.{got};
 ghost use Rattle.readers.specs.Views.{Lent, mem, seen, hotIs};
-ghost use Rattle.leaves.specs.Leaf.{ring, after, valueOf, Found, Placed};
+ghost use Rattle.leaves.specs.Leaf.{ringWith, ring, after, valueOf, entering as enteringLeaf, Found, FoundIn, Placed};
 ghost use Rattle.leaves.specs.Opening.{MapAt, Opens};
 
 // Kind, a and b of a slot, its width, the cursor after it, and whether the object a enters the hot ring. Kind 0: none of these references, or
@@ -111,6 +120,34 @@ fn back_leaf(p: &[u8], at: usize, objects: usize, word: u64) -> Leaf
     }
 }
 
+// A reference that enters the ring: an object, a root or a read-only place.
+fn entering(r: Ref, next: usize, word: u64) -> Leaf
+    ensures { λ leaf. ⌜ ((leaf .kind ≡ 0 → ⊥) → (leaf ≡ enteringLeaf r next word) × (valueOf leaf ≡ IsRef r)) ⌝ }
+{
+    let f = fields_of(SlotValue::Ref(r));
+    if 3 < f.kind {
+        return none();
+    }
+    Leaf {
+        kind: f.kind,
+        a: f.a,
+        b: f.b,
+        width: word,
+        next,
+        enters: true,
+    }
+}
+
+// A root by integer, which enters the ring.
+fn root_array_leaf(p: &[u8], at: usize, word: u64) -> Leaf
+    ensures { λ r. ⌜ ((hot : List ℕ) (objects i : ℕ) → Found (now (p .entry)) hot objects word at 9 i r) ⌝ }
+{
+    let Int::Is(i, count) = putint(p, at) else {
+        return none();
+    };
+    entering(Ref::Root(i as u64), at + count, word)
+}
+
 // A read-only reference.
 fn read_only_leaf(p: &[u8], at: usize, word: u64) -> Leaf
     ensures { λ r. ⌜ ((hot : List ℕ) (objects i : ℕ) → Found (now (p .entry)) hot objects word at 12 i r) ⌝ }
@@ -179,6 +216,7 @@ pub fn leaf_at(
             }
             none()
         }
+        9 => root_array_leaf(p, next, word),
         10 => root_leaf(a, next, word),
         12 => read_only_leaf(p, next, word),
         28 => raw_leaf(p, next, a, word),
@@ -186,12 +224,71 @@ pub fn leaf_at(
     }
 }
 
-// The ring after a leaf: where it enters, with object i.
-fn enter(hot: &mut [u64; 25], enters: bool, i: u64)
-    ensures { λ _. ⌜ now (hot .exit) ≡ ring enters i (now (hot .entry)) ⌝ }
+// A legacy back-reference, which enters the ring. Its search needs the address records and their index.
+fn legacy_leaf(
+    v: &[u16],
+    h: &[u16; 512],
+    p: &[u8],
+    dt: &[u64],
+    sc: &[u64],
+    at: usize,
+    n: usize,
+    alignment: u64,
+    word: u64,
+) -> Leaf
+    requires { ⌜ (n ≤ room 5 (now dt)) × (usable (now v) ≡ true) × ((b : ℕ) → b < 256 → (getD (now h) b 0 < 65536) × (getD (now h) (256 + b) 0 < 65536)) ⌝ }
+    requires { ⌜ Linked (now dt) n (drop (length (now p)) (now sc)) × Sorted (now dt) n ⌝ }
+    ensures { λ r. ⌜ ((r .kind ≡ 0 → ⊥) → (at < length (now (p .entry))) × (getD (now (p .entry)) at 0 < 256)) ⌝ }
+    ensures found { λ r. ⌜ ((hot : List ℕ) (objects : ℕ) → FoundIn (now (v .entry)) (now (p .entry)) (now (dt .entry)) hot objects n alignment word (at + 1) (getD (now (h .entry)) (getD (now (p .entry)) at 0) 0) (getD (now (h .entry)) (256 + getD (now (p .entry)) at 0) 0) r) ⌝ }
+{
+    if p.len() <= at {
+        return none();
+    }
+    let b = byte(p, at) as usize;
+    if h[b] != 3 {
+        return none();
+    }
+    let space = h[256 + b] as u64;
+    let start = index_start(p, sc);
+    match backref_at(v, p, dt, &sc[start..], n, alignment, space, at + 1) {
+        Backref::To(r, next) => entering(r, next, word),
+        _ => none(),
+    }
+}
+
+// What stands at the cursor, a legacy back-reference too.
+fn any_leaf(
+    v: &[u16],
+    h: &[u16; 512],
+    p: &[u8],
+    dt: &[u64],
+    sc: &[u64],
+    hot: &[u64; 25],
+    at: usize,
+    objects: usize,
+    n: usize,
+    alignment: u64,
+    word: u64,
+) -> Leaf
+    requires { ⌜ (word ≤ 8) × ((b : ℕ) → b < 256 → (getD (now h) b 0 < 65536) × (getD (now h) (256 + b) 0 < 65536)) ⌝ }
+    requires { ⌜ (n ≤ room 5 (now dt)) × (usable (now v) ≡ true) ⌝ }
+    requires { ⌜ Linked (now dt) n (drop (length (now p)) (now sc)) × Sorted (now dt) n ⌝ }
+    ensures { λ r. ⌜ ((r .kind ≡ 0 → ⊥) → (at < length (now (p .entry))) × (getD (now (p .entry)) at 0 < 256)) ⌝ }
+    ensures found { λ r. ⌜ FoundIn (now (v .entry)) (now (p .entry)) (now (dt .entry)) (now (hot .entry)) objects n alignment word (at + 1) (getD (now (h .entry)) (getD (now (p .entry)) at 0) 0) (getD (now (h .entry)) (256 + getD (now (p .entry)) at 0) 0) r ⌝ }
+{
+    let leaf = leaf_at(h, p, hot, at, objects, word);
+    if leaf.kind != 0 {
+        return leaf;
+    }
+    legacy_leaf(v, h, p, dt, sc, at, n, alignment, word)
+}
+
+// The ring after a leaf: where it enters, with its fields.
+fn enter(hot: &mut [u64; 25], enters: bool, f: Fields)
+    ensures { λ _. ⌜ now (hot .exit) ≡ ringWith enters f (now (hot .entry)) ⌝ }
 {
     if enters {
-        add(hot, Ref::Object(i));
+        add_fields(hot, f);
     }
 }
 
@@ -214,9 +311,14 @@ fn value_of(leaf: Leaf) -> SlotValue
 
 // The same as a reference that was read.
 pub fn take_leaf(hot: &mut [u64; 25], s: State, leaf: Leaf) -> Step
-    ensures { λ r. ⌜ ((l : Lent) → seen r (hotIs (now (hot .exit)) l) ≡ got (valueOf leaf) (mem (after leaf s) (hotIs (ring (leaf .enters) (leaf .a) (now (hot .entry))) l))) ⌝ }
+    ensures { λ r. ⌜ ((l : Lent) → seen r (hotIs (now (hot .exit)) l) ≡ got (valueOf leaf) (mem (after leaf s) (hotIs (ring leaf (now (hot .entry))) l))) ⌝ }
 {
-    enter(hot, leaf.enters, leaf.a);
+    let f = Fields {
+        kind: leaf.kind,
+        a: leaf.a,
+        b: leaf.b,
+    };
+    enter(hot, leaf.enters, f);
     let mut t = s;
     t.at = leaf.next;
     Step::Got(value_of(leaf), t)
@@ -225,8 +327,11 @@ pub fn take_leaf(hot: &mut [u64; 25], s: State, leaf: Leaf) -> Step
 // A leaf as an item of object o, which has a slot record at this index then: that leaf. Kind 0 where none stands at the cursor, where the record
 // has no room, and at the last level, where a reference is refused; then nothing is changed.
 pub fn place_leaf(
+    v: &[u16],
     h: &[u16; 512],
     p: &[u8],
+    dt: &[u64],
+    sc: &[u64],
     objects: &mut [u64],
     slots: &mut [u64],
     hot: &mut [u64; 25],
@@ -235,19 +340,22 @@ pub fn place_leaf(
     n: usize,
     o: usize,
     index: u64,
+    addresses: usize,
+    alignment: u64,
     word: u64,
     d: usize,
 ) -> Leaf
     requires { ⌜ (word ≤ 8) × ((b : ℕ) → b < 256 → (getD (now h) b 0 < 65536) × (getD (now h) (256 + b) 0 < 65536)) ⌝ }
-    requires { ⌜ field 4 (now objects) o 3 < 2 ^ 63 ⌝ }
+    requires { ⌜ (field 4 (now objects) o 3 < 2 ^ 63) × (addresses ≤ room 5 (now dt)) × (usable (now v) ≡ true) ⌝ }
+    requires { ⌜ Linked (now dt) addresses (drop (length (now p)) (now sc)) × Sorted (now dt) addresses ⌝ }
     ensures { λ r. ⌜ ((r .kind ≡ 0 → ⊥) → (d < 64) × (at < length (now (p .entry))) × (getD (now (p .entry)) at 0 < 256)) ⌝ }
-    ensures found { λ r. ⌜ Found (now (p .entry)) (now (hot .entry)) count word (at + 1) (getD (now (h .entry)) (getD (now (p .entry)) at 0) 0) (getD (now (h .entry)) (256 + getD (now (p .entry)) at 0) 0) r ⌝ }
+    ensures found { λ r. ⌜ FoundIn (now (v .entry)) (now (p .entry)) (now (dt .entry)) (now (hot .entry)) count addresses alignment word (at + 1) (getD (now (h .entry)) (getD (now (p .entry)) at 0) 0) (getD (now (h .entry)) (256 + getD (now (p .entry)) at 0) 0) r ⌝ }
     ensures placed { λ r. ⌜ Placed n o index r (now (objects .entry)) (now (slots .entry)) (now (hot .entry)) (now (objects .exit)) (now (slots .exit)) (now (hot .exit)) ⌝ }
 {
     if 64 <= d {
         return none();
     }
-    let leaf = leaf_at(h, p, hot, at, count, word);
+    let leaf = any_leaf(v, h, p, dt, sc, hot, at, count, addresses, alignment, word);
     if leaf.kind == 0 {
         return leaf;
     }
@@ -260,7 +368,7 @@ pub fn place_leaf(
         return none();
     }
     count_slot(objects, o as u64);
-    enter(hot, leaf.enters, leaf.a);
+    enter(hot, leaf.enters, f);
     leaf
 }
 
@@ -360,6 +468,6 @@ pub fn open_leaf(
     };
     add_slot(slots, n, o as u64, 0, f, 0);
     count_slot(objects, o as u64);
-    enter(hot, map.enters, map.a);
+    enter(hot, map.enters, f);
     opened
 }

@@ -1,11 +1,12 @@
 -- An item that is a leaf, as a reference one level down and a slot. Assumes nothing.
 use mathlib.Core.Path.{_≡_, refl, sym, ap, subst, _∙_}
+use mathlib.Core.Bool.{true}
 use mathlib.Core.List.{List}
 use Prim.Native.Nat.{ℕ, _+_, _-_, _*_, _/_, _^_, _<_, _≤_}
 use native.Mathlib.Omega.{arith}
 use borrow.Author.Tests.{lt-ltb}
 use lib.ListN.{length, getD, set, take}
-use Rattle.sheet.specs.Sheet.{wordBytes}
+use Rattle.sheet.specs.Sheet.{wordBytes, usable}
 use Rattle.tables.specs.declared.values.SlotValue.{SlotValue}
 use Rattle.tables.specs.declared.values.Fields.{Fields}
 use Rattle.tables.specs.Values.{triple, fieldsOf, widthOf}
@@ -19,7 +20,7 @@ use Rattle.readers.specs.Views.{Lent, input, mem, seen, objectsIs, slotsIs, hot
 use Rattle.readers.proofs.HeadFacts.{head-fits}
 use Rattle.objects.proofs.WaiterLaws.{indexed-plain}
 use Rattle.leaves.specs.declared.leaf.Leaf.{Leaf}
-use Rattle.leaves.specs.Leaf.{ring, after, valueOf, Stands, Found, Placed}
+use Rattle.leaves.specs.Leaf.{ring, after, valueOf, Stands, FoundIn, Placed}
 use Rattle.walker.specs.Ready.{Index, OutIndex, Ready, slotIn}
 use Rattle.walker.proofs.ReadyLaws.{ref-went}
 use Rattle.walker.proofs.ItemsLaws.{word-some, slot-got, Loop}
@@ -31,8 +32,8 @@ leaf-asks {x} g w e =
     (omega (arith, e, word-some g .0), λ b l. (omega (arith, head-low (x .sheet) b, g .decoded .kind b l), rw (g .decoded .argument b l) (head-fits (x .sheet) b l .small)))
 
 -- and what `place_leaf` asks beside
-pub count-fits : {x : Input} {h sc : List ℕ} {m : Mem} → Ready x h m sc → (o : ℕ) → length (m .slots .rows) < 2 ^ 64 → field 4 (m .objects .rows) o 3 < 2 ^ 63
-count-fits g o few = omega (arith, g .counted .count-low o, g .sound .slots-fit)
+pub place-asks : {x : Input} {h sc : List ℕ} {m : Mem} → Ready x h m sc → (o : ℕ) → length (m .slots .rows) < 2 ^ 64 → (field 4 (m .objects .rows) o 3 < 2 ^ 63) × (m .addresses .count ≤ room 5 (m .addresses .rows)) × (usable (x .sheet) ≡ true)
+place-asks g o few = (omega (arith, g .counted .count-low o, g .sound .slots-fit), omega (arith, g .sound), g .proper .sheet-usable)
 
 -- a slot record that does not wait leaves scratch right
 pub plain-index : {x : Input} {h sc : List ℕ} {s : State} {l : Lent} → Ready x h (mem s l) sc → (o index : ℕ) (f : Fields) → s .slots < room 6 (l .slots) → {st : List ℕ} → st ≡ written (l .slots) (s .slots) (slotRow o index f 0) → Index (length (x .payload)) (table st (s .slots + 1)) (table (l .addresses) (s .addresses)) sc
@@ -54,21 +55,21 @@ leaf-kept x o done s l r v ew ef eb ez b es eo =
 
 module _ (v p : List ℕ) (sp : ℕ) (tr h sc : List ℕ) (s : State) (l : Lent) (g : Ready (input v p sp tr) h (mem s l) sc) (d : ℕ) (low : d < 64) (leaf : Leaf) (some : leaf .kind ≡ 0 → ⊥)
     (there : (leaf .kind ≡ 0 → ⊥) → (s .at < length p) × (getD p (s .at) 0 < 256)) (w : ℕ) (ew : w ≡ wordBytes v)
-    (found : Found p (l .hot) (s .objects) w (s .at + 1) (getD h (getD p (s .at) 0) 0) (getD h (256 + getD p (s .at) 0) 0) leaf) where
+    (found : FoundIn v p (l .addresses) (l .hot) (s .objects) (s .addresses) (s .alignment) w (s .at + 1) (getD h (getD p (s .at) 0) 0) (getD h (256 + getD p (s .at) 0) 0) leaf) where
   abbrev x : Input
   x = input v p sp tr
 
   pub stands : Stands x (s .at) (getD h (getD p (s .at) 0) 0) (getD h (256 + getD p (s .at) 0) 0) (next s) l leaf
-  stands = found some v tr sp (s .at) (next s) l (sym ew) refl refl
+  stands = found some tr sp (s .at) (next s) l (sym ew) refl refl refl refl refl
 
   abbrev m₁ : Mem
-  m₁ = mem (after leaf s) (hotIs (ring (leaf .enters) (leaf .a) (l .hot)) l)
+  m₁ = mem (after leaf s) (hotIs (ring leaf (l .hot)) l)
 
   pub read : got (stands .value) m₁ ≡ refAt x (65 - (d + 1)) (mem s l)
   read = stands .is (refAt x (64 - (d + 1))) ∙ ref-head g (there some .0) (getD p (s .at) 0) (refl, there some .1) (d + 1) (omega arith)
 
   -- the leaf as a reference that was read
-  pub leaf-ref : (r : Step) (hot : List ℕ) → ((k : Lent) → seen r (hotIs hot k) ≡ got (valueOf leaf) (mem (after leaf s) (hotIs (ring (leaf .enters) (leaf .a) (l .hot)) k)))
+  pub leaf-ref : (r : Step) (hot : List ℕ) → ((k : Lent) → seen r (hotIs hot k) ≡ got (valueOf leaf) (mem (after leaf s) (hotIs (ring leaf (l .hot)) k)))
       → (seen r (hotIs hot l) ≡ refAt x (65 - (d + 1)) (mem s l)) × OutIndex (length p) (seen r (hotIs hot l)) sc
   leaf-ref r hot e =
       let q = e l in
@@ -85,7 +86,7 @@ module _ (v p : List ℕ) (sp : ℕ) (tr h sc : List ℕ) (s : State) (l : Lent)
     is-kept : got (done + s .skip + leaf .width) (mem (stepped leaf s) l₁) ≡ placeItem x o done (stands .value) m₁
     is-kept =
         let es : st ≡ written (l .slots) (s .slots) (slotRow o ((done + s .skip) / w) (triple (leaf .kind) (leaf .a) (leaf .b)) 0) = rw (← ei) (placed .slot some) in
-        let k = leaf-kept x o done s (hotIs (ring (leaf .enters) (leaf .a) (l .hot)) l) leaf (stands .value) (sym ew) (stands .fields) (stands .width ∙ ap (λ (k : ℕ). widthOf k (stands .value)) (sym ew)) (stands .waits) (placed .roomy some) es (placed .count some) in
+        let k = leaf-kept x o done s (hotIs (ring leaf (l .hot)) l) leaf (stands .value) (sym ew) (stands .fields) (stands .width ∙ ap (λ (k : ℕ). widthOf k (stands .value)) (sym ew)) (stands .waits) (placed .roomy some) es (placed .count some) in
         let k₁ : got (done + s .skip + leaf .width) (mem (stepped leaf s) l₁) ≡ keepItem x o done (stands .value) m₁ = rw (placed .rings some) k in
         k₁ ∙ stands .kept o done m₁
 

@@ -5,7 +5,7 @@ use mathlib.Core.List.{List}
 use Prim.Native.Nat.{ℕ, zero, suc, _+_, _-_, _*_, _<_}
 use native.Mathlib.Omega.{arith}
 use borrow.Author.Tests.{lt-ltb}
-use lib.ListN.{length, set}
+use lib.ListN.{length, getD, set}
 use Rattle.sheet.specs.Sheet.{isLegacy, isSixX, wordBytes}
 use Rattle.sheet.specs.Tests.{isResolve}
 use Rattle.tables.specs.declared.values.SlotValue.{SlotValue}
@@ -22,9 +22,9 @@ use Rattle.objects.specs.Head.{recording, opening}
 use Rattle.objects.specs.Map.{afterMap}
 use Rattle.objects.proofs.HeadLaws.{open-plain}
 use Rattle.leaves.specs.declared.leaf.Opened.{Opened}
-use Rattle.leaves.specs.Leaf.{ring, after}
+use Rattle.leaves.specs.Leaf.{ring, after, FoundIn}
+use Rattle.leaves.proofs.LeafLaws.{int-got, found-in}
 use Rattle.leaves.specs.Opening.{MapAt, Opens}
-use Rattle.leaves.proofs.LeafLaws.{int-got}
 use Rattle.walker.specs.Ready.{Index, Ready, mapped, headed}
 use Rattle.walker.proofs.LeafLaws.{plain-index, stands, read}
 use Rattle.walker.proofs.ObjectLaws.{opened-ready, mapped-on, headed-on}
@@ -90,24 +90,27 @@ module _ (v p : List ℕ) (sp : ℕ) (tr h sc : List ℕ) (s : State) (l : Lent)
   g₁ : Ready x h (mem s₁ l₁) sc
   g₁ = opened-ready g space tag is-opened .0
 
+  map-found : FoundIn v p (l₁ .addresses) (l₁ .hot) (s₁ .objects) (s₁ .addresses) (s₁ .alignment) w (s₁ .at + 1) (getD h (getD p (s₁ .at) 0) 0) (getD h (256 + getD p (s₁ .at) 0) 0) (r .map)
+  map-found = found-in v p (l₁ .addresses) (l₁ .hot) (s₁ .objects) (s₁ .addresses) (s₁ .alignment) w (s₁ .at + 1) _ _ (r .map) (a .found)
+
   abbrev map-value : SlotValue
-  map-value = stands v p sp tr h sc s₁ l₁ g₁ d low (r .map) some (λ _. a .there) w ew (a .found) .value
+  map-value = stands v p sp tr h sc s₁ l₁ g₁ d low (r .map) some (λ _. a .there) w ew map-found .value
 
   abbrev s₂ : State
   s₂ = after (r .map) s₁
 
   abbrev l₂ : Lent
-  l₂ = hotIs (ring (r .map .enters) (r .map .a) (l .hot)) l₁
+  l₂ = hotIs (ring (r .map) (l .hot)) l₁
 
   map-read : got map-value (mem s₂ l₂) ≡ refAt x (65 - (d + 1)) (mem s₁ l₁)
-  map-read = read v p sp tr h sc s₁ l₁ g₁ d low (r .map) some (λ _. a .there) w ew (a .found)
+  map-read = read v p sp tr h sc s₁ l₁ g₁ d low (r .map) some (λ _. a .there) w ew map-found
 
   abbrev l₃ : Lent
   l₃ = objectsIs ot (slotsIs st (hotIs hot l))
 
   slot-kept : got tt (mem (opened-state r s) l₃) ≡ keepMap x (s .objects) map-value (mem s₂ l₂)
   slot-kept =
-      let q = stands v p sp tr h sc s₁ l₁ g₁ d low (r .map) some (λ _. a .there) w ew (a .found) in
+      let q = stands v p sp tr h sc s₁ l₁ g₁ d low (r .map) some (λ _. a .there) w ew map-found in
       let f : flags x map-value ≡ false = rw (← (q .valued)) (a .unflagged v p sp) in
       let es : st ≡ written (l .slots) (s .slots) (slotRow (s .objects) 0 (fieldsOf map-value) 0) = rw (← (q .fields)) (k .slot) in
       let eo : ot ≡ set (l₂ .objects) (s .objects * 4 + 3) (field 4 (l₂ .objects) (s .objects) 3 + 1) = rw (← ew) (k .object) in

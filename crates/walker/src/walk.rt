@@ -359,7 +359,25 @@ fn parse_items(
             let start = done + t.skip;
             let count = t.objects;
             let i = t.slots;
-            let leaf = place_leaf(h, p, ot, st, hr, next, count, i, o, start / word, word, d);
+            let leaf = place_leaf(
+                v,
+                h,
+                p,
+                dt,
+                sc,
+                ot,
+                st,
+                hr,
+                next,
+                count,
+                i,
+                o,
+                start / word,
+                t.addresses,
+                t.alignment,
+                word,
+                d,
+            );
             if leaf.kind != 0 {
                 t.at = leaf.next;
                 t.slots = i + 1;

@@ -1,4 +1,5 @@
-use Rattle.backref.proofs.RingLaws.{ring-entered}
+use mathlib.Core.Path.{ap, _∙_}
+use Rattle.backref.specs.HotRing.{entered}
 use borrow.Author.Needs.{needs}
 use Rattle.backref.proofs.hot_ring.add.Statement.{statement}
 use Rattle.backref.proofs.hot_ring.add.Tie as tie
@@ -6,68 +7,11 @@ use Rattle.backref.proofs.hot_ring.add.Tie as tie
 fields-of-requires : tie.Need-fields-of-requires
 fields-of-requires c κs = search needs
 
-element-copy-out-next : tie.Need-element-copy-out-next
-element-copy-out-next c = search needs
-
-mul-hot : tie.Need-mul-hot
-mul-hot c = search needs
-
-mul-hot-2 : tie.Need-mul-hot-2
-mul-hot-2 c = search needs
-
-element-write-hot : tie.Need-element-write-hot
-element-write-hot c = search needs
-
-mul-hot-3 : tie.Need-mul-hot-3
-mul-hot-3 c = search needs
-
-add-hot : tie.Need-add-hot
-add-hot c = search needs
-
-mul-hot-4 : tie.Need-mul-hot-4
-mul-hot-4 c = search needs
-
-element-write-hot-2 : tie.Need-element-write-hot-2
-element-write-hot-2 c = search needs
-
-mul-hot-5 : tie.Need-mul-hot-5
-mul-hot-5 c = search needs
-
-add-hot-2 : tie.Need-add-hot-2
-add-hot-2 c = search needs
-
-mul-hot-6 : tie.Need-mul-hot-6
-mul-hot-6 c = search needs
-
-element-write-hot-3 : tie.Need-element-write-hot-3
-element-write-hot-3 c = search needs
-
-add-hot-3 : tie.Need-add-hot-3
-add-hot-3 c = search needs
-
-element-write-hot-4 : tie.Need-element-write-hot-4
-element-write-hot-4 c = search needs
+add-fields-requires : tie.Need-add-fields-requires
+add-fields-requires c κs = search needs
 
 returns : tie.Need-returns
-returns c = ring-entered (c .before .before .args .hot .now) (c .before .fields-of .result) (c .before .fields-of .ensures)
+returns c = c .add-fields .ensures ∙ ap (entered _) (c .before .fields-of .ensures)
 
 pub add-spec : {M : Type 1} → statement M
-add-spec =
-    tie.close
-    (tie.spec
-    fields-of-requires
-    element-copy-out-next
-    mul-hot
-    mul-hot-2
-    element-write-hot
-    mul-hot-3
-    add-hot
-    mul-hot-4
-    element-write-hot-2
-    mul-hot-5
-    add-hot-2
-    mul-hot-6
-    element-write-hot-3
-    add-hot-3
-    element-write-hot-4
-    returns)
+add-spec = tie.close (tie.spec fields-of-requires add-fields-requires returns)

@@ -50,6 +50,9 @@ returns-2 c = (λ _. (omega (arith, c .before .before .before .before .before .b
 none-requires-2 : tie.Need-none-requires-2
 none-requires-2 c κs = search needs
 
+root-array-leaf-requires : tie.Need-root-array-leaf-requires
+root-array-leaf-requires c κs = search needs
+
 root-leaf-requires : tie.Need-root-leaf-requires
 root-leaf-requires c κs = search needs
 
@@ -69,16 +72,48 @@ returns-4 : tie.Need-returns-4
 returns-4 c = (λ h. absurd (h (c .none2 .ensures)), none-found _ _ _ _ _ _ _ _ (c .none2 .ensures))
 
 returns-5 : tie.Need-returns-5
-returns-5 c = (λ _. (omega (arith, c .before .before .before .before .before .if1 .left), rw (← (c .before .before .before .before .byte .ensures .0)) (c .before .before .before .before .byte .ensures .1)), rw (← (c .before .before .before .before .byte .ensures .0)) (found-kind _ _ _ _ _ _ _ (c .before .match .keys3) (c .root-leaf .ensures _ _ _)))
+returns-5 c = (λ _. (omega (arith, c .before .before .before .before .before .if1 .left), rw (← (c .before .before .before .before .byte .ensures .0)) (c .before .before .before .before .byte .ensures .1)), rw (← (c .before .before .before .before .byte .ensures .0)) (found-kind _ _ _ _ _ _ _ (c .before .match .keys3) (c .root-array-leaf .ensures _ _ _)))
 
 returns-6 : tie.Need-returns-6
-returns-6 c = (λ _. (omega (arith, c .before .before .before .before .before .if1 .left), rw (← (c .before .before .before .before .byte .ensures .0)) (c .before .before .before .before .byte .ensures .1)), rw (← (c .before .before .before .before .byte .ensures .0)) (found-kind _ _ _ _ _ _ _ (c .before .match .keys4) (c .read-only-leaf .ensures _ _ _)))
+returns-6 c = (λ _. (omega (arith, c .before .before .before .before .before .if1 .left), rw (← (c .before .before .before .before .byte .ensures .0)) (c .before .before .before .before .byte .ensures .1)), rw (← (c .before .before .before .before .byte .ensures .0)) (found-kind _ _ _ _ _ _ _ (c .before .match .keys4) (c .root-leaf .ensures _ _ _)))
 
 returns-7 : tie.Need-returns-7
-returns-7 c = (λ _. (omega (arith, c .before .before .before .before .before .if1 .left), rw (← (c .before .before .before .before .byte .ensures .0)) (c .before .before .before .before .byte .ensures .1)), rw (← (c .before .before .before .before .byte .ensures .0)) (found-kind _ _ _ _ _ _ _ (c .before .match .keys5) (c .raw-leaf .ensures _ _)))
+returns-7 c = (λ _. (omega (arith, c .before .before .before .before .before .if1 .left), rw (← (c .before .before .before .before .byte .ensures .0)) (c .before .before .before .before .byte .ensures .1)), rw (← (c .before .before .before .before .byte .ensures .0)) (found-kind _ _ _ _ _ _ _ (c .before .match .keys5) (c .read-only-leaf .ensures _ _ _)))
 
 returns-8 : tie.Need-returns-8
-returns-8 c = (λ h. absurd (h (c .none3 .ensures)), none-found _ _ _ _ _ _ _ _ (c .none3 .ensures))
+returns-8 c = (λ _. (omega (arith, c .before .before .before .before .before .if1 .left), rw (← (c .before .before .before .before .byte .ensures .0)) (c .before .before .before .before .byte .ensures .1)), rw (← (c .before .before .before .before .byte .ensures .0)) (found-kind _ _ _ _ _ _ _ (c .before .match .keys6) (c .raw-leaf .ensures _ _)))
+
+returns-9 : tie.Need-returns-9
+returns-9 c = (λ h. absurd (h (c .none3 .ensures)), none-found _ _ _ _ _ _ _ _ (c .none3 .ensures))
 
 pub leaf-at-spec : {M : Type 1} → statement M
-leaf-at-spec = tie.close (tie.spec none-requires returns byte-requires mul-kind element-copy-out-kind cast-kind add-a mul-a element-copy-out-a cast-a add-next back-leaf-requires hot-leaf-requires returns-2 none-requires-2 root-leaf-requires read-only-leaf-requires raw-leaf-requires none-requires-3 returns-3 returns-4 returns-5 returns-6 returns-7 returns-8)
+leaf-at-spec =
+    tie.close
+    (tie.spec
+    none-requires
+    returns
+    byte-requires
+    mul-kind
+    element-copy-out-kind
+    cast-kind
+    add-a
+    mul-a
+    element-copy-out-a
+    cast-a
+    add-next
+    back-leaf-requires
+    hot-leaf-requires
+    returns-2
+    none-requires-2
+    root-array-leaf-requires
+    root-leaf-requires
+    read-only-leaf-requires
+    raw-leaf-requires
+    none-requires-3
+    returns-3
+    returns-4
+    returns-5
+    returns-6
+    returns-7
+    returns-8
+    returns-9)

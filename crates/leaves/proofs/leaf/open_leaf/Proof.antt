@@ -7,84 +7,58 @@ use Rattle.leaves.proofs.LeafLaws.{words-small}
 use Rattle.leaves.proofs.OpeningLaws.{opened-count, opened-as}
 use Rattle.leaves.proofs.leaf.open_leaf.Statement.{statement}
 use Rattle.leaves.proofs.leaf.open_leaf.Tie as tie
-use Rattle.leaves.proofs.leaf.open_leaf.Reads as reads
-use Rattle.leaves.proofs.leaf.open_leaf.Lts as lts
-use Rattle.leaves.proofs.leaf.enter.Reads as enter-reads
-use Rattle.leaves.proofs.leaf.map_at.Reads as map-at-reads
-use Rattle.leaves.proofs.leaf.unopened.Reads as unopened-reads
-use Rattle.tables.proofs.records.add_object.Reads as add-object-reads
-use Rattle.tables.proofs.records.add_slot.Reads as add-slot-reads
-use Rattle.tables.proofs.records.count_slot.Reads as count-slot-reads
 
--- src/leaf.rt:343:9
 unopened-requires : tie.Need-unopened-requires
 unopened-requires c κs = search needs
 
--- src/leaf.rt:343:9
 returns : tie.Need-returns
 returns c = (λ _. (refl, refl, refl), λ h. absurd (h (c .unopened .ensures)))
 
--- src/leaf.rt:345:47
 add-map-at : tie.Need-add-map-at
 add-map-at c = search needs
 
--- src/leaf.rt:345:9
 map-at-requires : tie.Need-map-at-requires
 map-at-requires c κs = search needs
 
--- src/leaf.rt:348:9
 returns-2 : tie.Need-returns-2
 returns-2 c = (λ _. (refl, refl, refl), λ h. absurd (h (c .if2 .taken)))
 
--- src/leaf.rt:351:9
 unopened-requires-2 : tie.Need-unopened-requires-2
 unopened-requires-2 c κs = search needs
 
--- src/leaf.rt:351:9
 returns-3 : tie.Need-returns-3
 returns-3 c = (λ _. (refl, refl, refl), λ h. absurd (h (c .unopened2 .ensures)))
 
--- src/leaf.rt:353:32
 mul-add-object : tie.Need-mul-add-object
 mul-add-object c = record { fits = words-small (c .before .before .before .before .before .before .map-at .ensures (c .before .before .before .if2 .left) .small) (c .before .before .before .before .before .before .before .before .before .before .before .before .before .before .pre .0 .0) }
 
--- src/leaf.rt:353:9
 add-object-requires : tie.Need-add-object-requires
 add-object-requires c κs = search needs
 
--- src/leaf.rt:354:9
 unopened-requires-3 : tie.Need-unopened-requires-3
 unopened-requires-3 c κs = search needs
 
--- src/leaf.rt:354:9
 same-length : tie.Need-same-length
 same-length c = search needs
 
--- src/leaf.rt:354:9
 returns-4 : tie.Need-returns-4
 returns-4 c = (λ _. (put-full (c .before .before .before .before .add-object .ensures) (not-true _ (c .before .if4 .taken)) .1, refl, refl), λ h. absurd (h (c .unopened3 .ensures)))
 
--- src/leaf.rt:361:5
 add-slot-requires : tie.Need-add-slot-requires
 add-slot-requires c κs = search needs
 
--- src/leaf.rt:362:5
 count-slot-requires : tie.Need-count-slot-requires
 count-slot-requires c κs = opened-count (c .before .before .before .before .before .before .before .before .add-object .ensures) (not-false _ (c .before .before .before .before .before .if4 .left))
 
--- src/leaf.rt:363:5
 enter-requires : tie.Need-enter-requires
 enter-requires c κs = search needs
 
--- src/leaf.rt:322:1
 same-length-2 : tie.Need-same-length-2
 same-length-2 c = search needs
 
--- src/leaf.rt:322:1
 same-length-3 : tie.Need-same-length-3
 same-length-3 c = search needs
 
--- src/leaf.rt:322:1
 returns-5 : tie.Need-returns-5
 returns-5 c = (λ e. absurd (c .before .before .before .before .before .before .before .before .before .before .before .before .before .before .before .before .before .if2 .left e), λ h. (omega (arith, c .before .before .before .before .before .before .before .before .before .before .before .before .before .before .before .before .before .before .before .before .before .before .if1 .left), c .before .before .before .before .before .before .before .before .before .before .before .before .before .before .before .before .before .before .before .before .map-at .ensures h, opened-as _ _ _ _ _ _ _ _ _ _ _ (c .before .before .before .before .before .before .before .before .before .before .before .before .before .add-object .ensures) (not-false _ (c .before .before .before .before .before .before .before .before .before .before .if4 .left)) (omega (arith, c .before .before .before .before .before .before .before .before .before .before .before .before .before .before .before .before .if3 .left)) (c .before .before .before .before .before .before .before .before .add-slot .ensures) (c .before .before .before .before .count-slot .ensures) (c .enter .ensures)))
 

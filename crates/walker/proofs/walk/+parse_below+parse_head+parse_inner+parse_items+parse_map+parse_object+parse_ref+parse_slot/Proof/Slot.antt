@@ -20,7 +20,7 @@ use Rattle.walker.proofs.ItemsLaws.{slot-no, slot-got, place-asks}
 use Rattle.walker.proofs.walk.+parse_below+parse_head+parse_inner+parse_items+parse_map+parse_object+parse_ref+parse_slot.Proof.Common.{parse-below-below, parse-slot-at}
 use Rattle.walker.proofs.walk.parse_below.Reads as parse-below
 
--- src/walk.rt:414:9
+-- src/walk.rt:432:9
 pub parse-slot-word-bytes-requires : (t : ℕ) → parse-slot-lts.Need-word-bytes-requires (
   word-bytes-reads.Asked,
   word-bytes-reads.Learnt,
@@ -31,7 +31,7 @@ pub parse-slot-word-bytes-requires : (t : ℕ) → parse-slot-lts.Need-word-byte
 ) (parse-slot-at t) parse-slot.Post
 parse-slot-word-bytes-requires t c κs = tt
 
--- src/walk.rt:415:11
+-- src/walk.rt:433:11
 pub parse-slot-parse-below-requires : (t : ℕ) → parse-slot-lts.Need-parse-below-requires (
   word-bytes-reads.Asked,
   word-bytes-reads.Learnt,
@@ -42,7 +42,7 @@ pub parse-slot-parse-below-requires : (t : ℕ) → parse-slot-lts.Need-parse-be
 ) (parse-slot-at t) parse-slot.Post
 parse-slot-parse-below-requires t c κs = (omega (arith, c .before .before .before .before .before .before .before .before .before .before .before .before .before .before .before .before .before .pre .0, c .before .before .before .before .before .before .before .before .before .before .before .before .before .before .before .before .before .pre .1 .1 .0), (c .before .before .before .before .before .before .before .before .before .before .before .before .before .before .before .before .before .pre .1 .0, omega (arith, c .before .before .before .before .before .before .before .before .before .before .before .before .before .before .before .before .before .pre .1 .1 .0)))
 
--- src/walk.rt:416:23
+-- src/walk.rt:434:23
 pub parse-slot-enum-known-n : (t : ℕ) → parse-slot-lts.Need-enum-known-n (
   word-bytes-reads.Asked,
   word-bytes-reads.Learnt,
@@ -53,7 +53,7 @@ pub parse-slot-enum-known-n : (t : ℕ) → parse-slot-lts.Need-enum-known-n (
 ) (parse-slot-at t) parse-slot.Post
 parse-slot-enum-known-n t c = search needs
 
--- src/walk.rt:417:19
+-- src/walk.rt:435:19
 pub parse-slot-enum-known-x : (t : ℕ) → parse-slot-lts.Need-enum-known-x (
   word-bytes-reads.Asked,
   word-bytes-reads.Learnt,
@@ -64,7 +64,7 @@ pub parse-slot-enum-known-x : (t : ℕ) → parse-slot-lts.Need-enum-known-x (
 ) (parse-slot-at t) parse-slot.Post
 parse-slot-enum-known-x t c = search needs
 
--- src/walk.rt:417:28
+-- src/walk.rt:435:28
 pub parse-slot-place-item-requires : (t : ℕ) → parse-slot-lts.Need-place-item-requires (
   word-bytes-reads.Asked,
   word-bytes-reads.Learnt,
@@ -75,7 +75,7 @@ pub parse-slot-place-item-requires : (t : ℕ) → parse-slot-lts.Need-place-ite
 ) (parse-slot-at t) parse-slot.Post
 parse-slot-place-item-requires t c κs = let p = c .before .before .before .before .before .before .before .before .before .before .before .before .before .before .before .before .before .before .before .before .before .before .before .before .before .before .before .before .before .before .before .before .before .before .before .pre .1 in place-asks (p .0) _ _ _ (p .1 .2) (p .1 .3) (seen-got _ (c .before .before .before .before .before .x .given .1) (c .before .before .before .before .before .before .before .before .before .before .before .before .before .before .before .before .before .parse-below .ensures .0)) (p .1 .1) (c .before .before .before .before .before .before .before .before .before .before .before .before .before .before .before .before .before .before .before .before .before .before .before .before .before .before .before .before .before .before .before .before .before .before .before .good .1 .1 .1 .1 .1 .0 .0) (out-index _ (seen-got (lent _ _ _ _ _ _ _) (c .before .before .before .before .before .x .given .1) refl) (c .before .before .before .before .before .before .before .before .before .before .before .before .before .before .before .before .before .parse-below .ensures .1)) _ (c .before .before .before .before .before .before .before .before .before .before .before .before .before .before .before .before .before .before .before .before .before .before .before .before .before .before .word-bytes .ensures .0)
 
--- src/walk.rt:390:1
+-- src/walk.rt:408:1
 pub parse-slot-same-length : (t : ℕ) → parse-slot-lts.Need-same-length (
   word-bytes-reads.Asked,
   word-bytes-reads.Learnt,
@@ -86,7 +86,7 @@ pub parse-slot-same-length : (t : ℕ) → parse-slot-lts.Need-same-length (
 ) (parse-slot-at t) parse-slot.Post
 parse-slot-same-length t c = c .before .before .before .before .before .before .before .before .before .before .before .before .before .parse-below .kept .1 .1 .1 .1 .0
 
--- src/walk.rt:390:1
+-- src/walk.rt:408:1
 pub parse-slot-same-length-2 : (t : ℕ) → parse-slot-lts.Need-same-length-2 (
   word-bytes-reads.Asked,
   word-bytes-reads.Learnt,
@@ -97,7 +97,7 @@ pub parse-slot-same-length-2 : (t : ℕ) → parse-slot-lts.Need-same-length-2 (
 ) (parse-slot-at t) parse-slot.Post
 parse-slot-same-length-2 t c = c .before .before .before .before .before .before .before .before .before .before .before .before .before .parse-below .kept .1 .1 .1 .1 .1 .0
 
--- src/walk.rt:390:1
+-- src/walk.rt:408:1
 pub parse-slot-same-length-3 : (t : ℕ) → parse-slot-lts.Need-same-length-3 (
   word-bytes-reads.Asked,
   word-bytes-reads.Learnt,
@@ -108,7 +108,7 @@ pub parse-slot-same-length-3 : (t : ℕ) → parse-slot-lts.Need-same-length-3 (
 ) (parse-slot-at t) parse-slot.Post
 parse-slot-same-length-3 t c = c .before .before .before .before .before .before .before .before .before .before .before .before .before .parse-below .kept .1 .1 .1 .1 .1 .1 .0
 
--- src/walk.rt:390:1
+-- src/walk.rt:408:1
 pub parse-slot-same-length-4 : (t : ℕ) → parse-slot-lts.Need-same-length-4 (
   word-bytes-reads.Asked,
   word-bytes-reads.Learnt,
@@ -119,7 +119,7 @@ pub parse-slot-same-length-4 : (t : ℕ) → parse-slot-lts.Need-same-length-4 (
 ) (parse-slot-at t) parse-slot.Post
 parse-slot-same-length-4 t c = c .before .before .before .before .before .before .before .before .before .before .before .before .before .parse-below .kept .1 .1 .1 .1 .1 .1 .1 .0
 
--- src/walk.rt:390:1
+-- src/walk.rt:408:1
 pub parse-slot-same-length-5 : (t : ℕ) → parse-slot-lts.Need-same-length-5 (
   word-bytes-reads.Asked,
   word-bytes-reads.Learnt,
@@ -130,7 +130,7 @@ pub parse-slot-same-length-5 : (t : ℕ) → parse-slot-lts.Need-same-length-5 (
 ) (parse-slot-at t) parse-slot.Post
 parse-slot-same-length-5 t c = c .before .before .before .before .before .before .before .before .before .before .before .before .before .parse-below .kept .1 .1 .1 .1 .1 .1 .1 .1 .1 .1 .1 .0
 
--- src/walk.rt:390:1
+-- src/walk.rt:408:1
 pub parse-slot-returns : (t : ℕ) → parse-slot-lts.Need-returns (
   word-bytes-reads.Asked,
   word-bytes-reads.Learnt,
@@ -141,7 +141,7 @@ pub parse-slot-returns : (t : ℕ) → parse-slot-lts.Need-returns (
 ) (parse-slot-at t) parse-slot.Post
 parse-slot-returns t c = (slot-no _ _ _ _ _ (seen-no _ (c .before .n .given .1) (c .before .before .before .before .before .before .before .before .before .before .before .before .before .parse-below .ensures .0)), tt)
 
--- src/walk.rt:390:1
+-- src/walk.rt:408:1
 pub parse-slot-same-length-6 : (t : ℕ) → parse-slot-lts.Need-same-length-6 (
   word-bytes-reads.Asked,
   word-bytes-reads.Learnt,
@@ -152,7 +152,7 @@ pub parse-slot-same-length-6 : (t : ℕ) → parse-slot-lts.Need-same-length-6 (
 ) (parse-slot-at t) parse-slot.Post
 parse-slot-same-length-6 t c = c .before .before .before .before .before .before .before .before .place-item .kept .0 ∙ c .before .before .before .before .before .before .before .before .before .before .before .before .before .before .before .before .before .before .before .before .before .before .before .before .before .before .parse-below .kept .1 .1 .1 .1 .0
 
--- src/walk.rt:390:1
+-- src/walk.rt:408:1
 pub parse-slot-same-length-7 : (t : ℕ) → parse-slot-lts.Need-same-length-7 (
   word-bytes-reads.Asked,
   word-bytes-reads.Learnt,
@@ -163,7 +163,7 @@ pub parse-slot-same-length-7 : (t : ℕ) → parse-slot-lts.Need-same-length-7 (
 ) (parse-slot-at t) parse-slot.Post
 parse-slot-same-length-7 t c = c .before .before .before .before .before .before .before .before .place-item .kept .1 .0 ∙ c .before .before .before .before .before .before .before .before .before .before .before .before .before .before .before .before .before .before .before .before .before .before .before .before .before .before .parse-below .kept .1 .1 .1 .1 .1 .0
 
--- src/walk.rt:390:1
+-- src/walk.rt:408:1
 pub parse-slot-same-length-8 : (t : ℕ) → parse-slot-lts.Need-same-length-8 (
   word-bytes-reads.Asked,
   word-bytes-reads.Learnt,
@@ -174,7 +174,7 @@ pub parse-slot-same-length-8 : (t : ℕ) → parse-slot-lts.Need-same-length-8 (
 ) (parse-slot-at t) parse-slot.Post
 parse-slot-same-length-8 t c = c .before .before .before .before .before .before .before .before .place-item .kept .1 .1 .0 ∙ c .before .before .before .before .before .before .before .before .before .before .before .before .before .before .before .before .before .before .before .before .before .before .before .before .before .before .parse-below .kept .1 .1 .1 .1 .1 .1 .0
 
--- src/walk.rt:390:1
+-- src/walk.rt:408:1
 pub parse-slot-same-length-9 : (t : ℕ) → parse-slot-lts.Need-same-length-9 (
   word-bytes-reads.Asked,
   word-bytes-reads.Learnt,
@@ -185,7 +185,7 @@ pub parse-slot-same-length-9 : (t : ℕ) → parse-slot-lts.Need-same-length-9 (
 ) (parse-slot-at t) parse-slot.Post
 parse-slot-same-length-9 t c = c .before .before .before .before .before .before .before .before .before .before .before .before .before .before .before .before .before .before .before .before .before .before .before .before .before .before .parse-below .kept .1 .1 .1 .1 .1 .1 .1 .0
 
--- src/walk.rt:390:1
+-- src/walk.rt:408:1
 pub parse-slot-same-length-10 : (t : ℕ) → parse-slot-lts.Need-same-length-10 (
   word-bytes-reads.Asked,
   word-bytes-reads.Learnt,
@@ -196,7 +196,7 @@ pub parse-slot-same-length-10 : (t : ℕ) → parse-slot-lts.Need-same-length-10
 ) (parse-slot-at t) parse-slot.Post
 parse-slot-same-length-10 t c = c .before .before .before .before .before .before .before .before .place-item .kept .1 .1 .1 .0 ∙ c .before .before .before .before .before .before .before .before .before .before .before .before .before .before .before .before .before .before .before .before .before .before .before .before .before .before .parse-below .kept .1 .1 .1 .1 .1 .1 .1 .1 .1 .1 .1 .0
 
--- src/walk.rt:390:1
+-- src/walk.rt:408:1
 pub parse-slot-returns-2 : (t : ℕ) → parse-slot-lts.Need-returns-2 (
   word-bytes-reads.Asked,
   word-bytes-reads.Learnt,
