@@ -77,6 +77,10 @@ pub words-small : {n w : ℕ} → n < 2 ^ 30 → w ≤ 8 → n * w < 2 ^ 64
 words-small h l = let z = mul-le-mul (le-of-lt h) l in omega (arith, z)
 
 module _ (p hots : List ℕ) (objects ts at : ℕ) where
+  -- what `entering` answers
+  abbrev Entered : Ref → ℕ → Leaf → Type 0
+  Entered r next leaf = (leaf .kind ≡ 0 → ⊥) → (leaf ≡ entering r next ts) × (valueOf leaf ≡ IsRef r)
+
   pub root-found : (i : ℕ) → Found p hots objects ts at 10 i (record { kind = 2; a = i; b = 0; width = ts; next = at; enters = false })
   unfolding byHead
   root-found i h v tr sp tag s l ew ea eo =
@@ -97,15 +101,15 @@ module _ (p hots : List ℕ) (objects ts at : ℕ) where
       unfolding hotAt
       hot-root z = hot-found (Root i) k i (rw z) (rw z) (rw (← ek, z, ← ei))
 
-  pub back-found : (i n a : ℕ) → IntIs i n ≡ intAt p at → i < objects → Found p hots objects ts at 2 a (record { kind = 1; a = i; b = 0; width = ts; next = at + n; enters = true })
+  pub back-found : (i n a : ℕ) → IntIs i n ≡ intAt p at → i < objects → (leaf : Leaf) → Entered (Object i) (at + n) leaf → Found p hots objects ts at 2 a leaf
   unfolding byHead
-  back-found i n a e b h v tr sp tag s l ew ea eo =
+  back-found i n a e b leaf q h v tr sp tag s l ew ea eo =
       let x = input v p sp tr in
       let m : Mem = mem s (hotIs hots l) in
-      let q : got i (moved (s .at + n) m) ≡ int x m = int-got x m (ap (intAt p) ea ∙ sym e) in
-      record { value = IsRef (Object i); is = λ inner. rw (← ea) (then-got backrefTo q (backref-in (moved (s .at + n) m) i (rw eo b) refl)); fields = refl; width = sym ew; kept = ref-kept x (Object i); waits = refl; valued = refl }
+      let g : got i (moved (s .at + n) m) ≡ int x m = int-got x m (ap (intAt p) ea ∙ sym e) in
+      entering-stands x tag 2 a s (hotIs hots l) (Object i) (at + n) ts leaf (q h .0) (q h .1) ew (λ inner. rw (← ea) (then-got backrefTo g (backref-in (moved (s .at + n) m) i (rw eo b) refl)))
 
-  pub root-array-found : (i n a : ℕ) → IntIs i n ≡ intAt p at → (leaf : Leaf) → ((leaf .kind ≡ 0 → ⊥) → (leaf ≡ entering (Root i) (at + n) ts) × (valueOf leaf ≡ IsRef (Root i))) → Found p hots objects ts at 9 a leaf
+  pub root-array-found : (i n a : ℕ) → IntIs i n ≡ intAt p at → (leaf : Leaf) → Entered (Root i) (at + n) leaf → Found p hots objects ts at 9 a leaf
   unfolding byHead
   root-array-found i n a e leaf q h v tr sp tag s l ew ea eo =
       let x = input v p sp tr in

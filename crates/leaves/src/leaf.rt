@@ -100,26 +100,6 @@ fn hot_leaf(hot: &[u64; 25], place: usize, next: usize, word: u64) -> Leaf
     }
 }
 
-// An object by plain index, which enters the ring.
-fn back_leaf(p: &[u8], at: usize, objects: usize, word: u64) -> Leaf
-    ensures { λ r. ⌜ ((hot : List ℕ) (i : ℕ) → Found (now (p .entry)) hot objects word at 2 i r) ⌝ }
-{
-    let Int::Is(i, count) = putint(p, at) else {
-        return none();
-    };
-    if objects as u64 <= i as u64 {
-        return none();
-    }
-    Leaf {
-        kind: 1,
-        a: i as u64,
-        b: 0,
-        width: word,
-        next: at + count,
-        enters: true,
-    }
-}
-
 // A reference that enters the ring: an object, a root or a read-only place.
 fn entering(r: Ref, next: usize, word: u64) -> Leaf
     ensures { λ leaf. ⌜ ((leaf .kind ≡ 0 → ⊥) → (leaf ≡ enteringLeaf r next word) × (valueOf leaf ≡ IsRef r)) ⌝ }
@@ -136,6 +116,19 @@ fn entering(r: Ref, next: usize, word: u64) -> Leaf
         next,
         enters: true,
     }
+}
+
+// An object by plain index, which enters the ring.
+fn back_leaf(p: &[u8], at: usize, objects: usize, word: u64) -> Leaf
+    ensures { λ r. ⌜ ((hot : List ℕ) (i : ℕ) → Found (now (p .entry)) hot objects word at 2 i r) ⌝ }
+{
+    let Int::Is(i, count) = putint(p, at) else {
+        return none();
+    };
+    if objects as u64 <= i as u64 {
+        return none();
+    }
+    entering(Ref::Object(i as u64), at + count, word)
 }
 
 // A root by integer, which enters the ring.

@@ -33,11 +33,28 @@ returns-2 c = λ hot i. none-found _ hot _ _ _ _ i _ (c .none2 .ensures)
 cast-t8 : tie.Need-cast-t8
 cast-t8 c = search needs
 
-add-t11 : tie.Need-add-t11
-add-t11 c = omega (arith, int-end _ _ (c .before .before .before .before .putint .ensures .0) _ (c .before .before .i .given .1))
+add-entering : tie.Need-add-entering
+add-entering c = omega (arith, int-end _ _ (c .before .before .before .before .putint .ensures .0) _ (c .before .before .i .given .1))
+
+entering-requires : tie.Need-entering-requires
+entering-requires c κs = search needs
 
 returns-3 : tie.Need-returns-3
-returns-3 c = λ hot i. back-found _ hot _ _ _ _ _ i (sym (c .before .before .i .given .1) ∙ c .before .before .before .before .putint .ensures .0) (omega (arith, c .if1 .left))
+returns-3 c = λ hot i. back-found _ hot _ _ _ _ _ i (sym (c .before .before .before .i .given .1) ∙ c .before .before .before .before .before .putint .ensures .0) (omega (arith, c .before .if1 .left)) (c .entering .result) (c .entering .ensures)
 
 pub back-leaf-spec : {M : Type 1} → statement M
-back-leaf-spec = tie.close (tie.spec putint-requires enum-known-i enum-told none-requires returns cast-if1 none-requires-2 returns-2 cast-t8 add-t11 returns-3)
+back-leaf-spec =
+    tie.close
+    (tie.spec
+    putint-requires
+    enum-known-i
+    enum-told
+    none-requires
+    returns
+    cast-if1
+    none-requires-2
+    returns-2
+    cast-t8
+    add-entering
+    entering-requires
+    returns-3)
