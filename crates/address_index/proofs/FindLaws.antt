@@ -1,21 +1,20 @@
 -- The search in the index at each of its steps. Assumes nothing.
 use mathlib.Core.Path.{_≡_, refl, sym, ap, subst, _∙_}
-use mathlib.Core.Logic.{_≢_, _⊎_, inl, inr, ⊎-elim}
+use mathlib.Core.Logic.{_≢_, _⊎_, inl, inr}
 use mathlib.Core.Bool.{Bool, true, false, _&&_, _||_}
 use mathlib.Core.List.{List}
 use Prim.Native.Nat.{ℕ, zero, suc, _+_, _-_, _*_, _<_, _≤_}
 use native.Mathlib.Nat.{add-zero}
 use native.Mathlib.Omega.{arith}
-use borrow.Author.Tests.{eqb-true, eqb-false, eq-eqb, ne-eqb, ltb-true, ltb-false, leb-true}
+use borrow.Author.Tests.{eqb-true, eqb-false, eq-eqb, ltb-true, ltb-false, leb-true}
 use lib.Dec.{leb, ltb, eqb}
 use lib.ListN.{length, getD}
 use Rattle.tables.specs.Records.{field}
-use Rattle.alloc.specs.declared.resolve.Found.{Found}
 use Rattle.alloc.specs.declared.resolve.Found.the-variants.{Object, Nothing}
-use Rattle.alloc.specs.Resolve.{pickFound, isAddress, addressed, ordinalFrom}
-use Rattle.address_index.specs.Links.{spaceOf, newest, countIn, Links}
-use Rattle.address_index.specs.Sorted.{AtMost, Sorted, isAfter, Passes, PassesOrdinals}
-use Rattle.address_index.proofs.LinkLaws.{newest-low, newest-is, newest-gap, on-or-off, jump-jump, count-low}
+use Rattle.alloc.specs.Resolve.{isAddress, addressed}
+use Rattle.address_index.specs.Links.{spaceOf, newest, Links}
+use Rattle.address_index.specs.Sorted.{AtMost, Sorted, isAfter, Passes, Seeks}
+use Rattle.address_index.proofs.LinkLaws.{newest-low, newest-is, newest-gap, jump-jump}
 
 refuted : (b : Bool) → (b ≡ true → ⊥) → b ≡ false
 refuted true h = absurd (h refl)
@@ -116,6 +115,21 @@ module _ (t : List ℕ) (space chunk offset : ℕ) where
   unfolding addressed
   addressed-none = refl
 
+-- the address of record i is higher than this one: no record of its space from there on has this address
+none-after : {t : List ℕ} {n : ℕ} → Sorted t n → (space chunk offset i : ℕ) → spaceOf t i ≡ space → isAfter t i chunk offset ≡ true → (k : ℕ) → i ≤ k → k < n → isAddress t space chunk offset k ≡ false
+none-after {t} {n} s space chunk offset i e h k a b =
+    refuted _ (λ q. let y = at-address t space chunk offset k q in clash y (is-after t i chunk offset h .higher) (up (y .of-space) (eqb i k) refl))
+  where
+    up : spaceOf t k ≡ space → (d : Bool) → eqb i k ≡ d → AtMost (field 5 t i 1) (field 5 t i 2) (field 5 t k 1) (field 5 t k 2)
+    up q true c = subst (λ (x : ℕ). AtMost (field 5 t i 1) (field 5 t i 2) (field 5 t x 1) (field 5 t x 2)) (eqb-true i k c) (inr (refl, omega arith))
+    up q false c = let z = eqb-false i k c in s .rising i k (omega (arith, a, z)) b (e ∙ sym q)
+
+    clash : At t space chunk offset k → (chunk < field 5 t i 1) ⊎ ((chunk ≡ field 5 t i 1) × (offset < field 5 t i 2)) → AtMost (field 5 t i 1) (field 5 t i 2) (field 5 t k 1) (field 5 t k 2) → ⊥
+    clash y (inl u) (inl v) = omega (arith, u, v, y .chunk-is)
+    clash y (inl u) (inr v) = omega (arith, u, v .0, y .chunk-is)
+    clash y (inr u) (inl v) = omega (arith, u .0, v, y .chunk-is)
+    clash y (inr u) (inr v) = omega (arith, u .1, v .1, y .offset-is)
+
 module _ {t ix : List ℕ} {n : ℕ} (w : Links t n ix) (s : Sorted t n) (i chunk offset : ℕ) (l : i < n) where
   pub passes-older : (r : ℕ) → r ≡ getD ix (256 + i * 3) 0 → Passes t i chunk offset r
   passes-older r e =
@@ -132,11 +146,7 @@ module _ {t ix : List ℕ} {n : ℕ} (w : Links t n ix) (s : Sorted t n) (i chun
       record {
         before = z .0;
         of-space = λ b. z .1;
-        none = λ k a b. refuted _ (λ q. let y = at-address t (spaceOf t i) chunk offset k q in
-            ⊎-elim
-            (λ u. ⊎-elim (λ v. omega (arith, u, v, y .chunk-is)) (λ v. omega (arith, u, v .0, y .chunk-is)) (s .rising (j - 1) k (omega (arith, a, p)) (omega (arith, b, l)) (z .1 ∙ sym (y .of-space))))
-            (λ u. ⊎-elim (λ v. omega (arith, u .0, v, y .chunk-is)) (λ v. omega (arith, u .1, v .1, y .offset-is)) (s .rising (j - 1) k (omega (arith, a, p)) (omega (arith, b, l)) (z .1 ∙ sym (y .of-space))))
-            (is-after t (j - 1) chunk offset h .higher));
+        none = λ k a b. none-after s (spaceOf t i) chunk offset (j - 1) (z .1) h k (omega (arith, a)) (omega (arith, b, l));
       }
 
   -- neither here nor higher: nowhere among the older ones
@@ -162,19 +172,27 @@ module _ {t ix : List ℕ} {n : ℕ} (w : Links t n ix) (s : Sorted t n) (i chun
 
 -- ---- what holds at the head of the loop
 
-pub record Seeks (t : List ℕ) (n space chunk offset i : ℕ) : Type 0 where
-  pub within : i ≤ n
-  pub of-space : 0 < i → spaceOf t (i - 1) ≡ space
-  pub same : addressed t space chunk offset n ≡ addressed t space chunk offset i
-
-module _ {t ix : List ℕ} {n : ℕ} (w : Links t n ix) (space chunk offset : ℕ) where
-  pub seeks-start : (i : ℕ) → space < 256 → i ≡ getD ix (space) 0 → Seeks t n space chunk offset i
-  seeks-start i b e =
-      let z : i ≡ newest t space n = e ∙ w .heads space b in
+module _ (t : List ℕ) (space chunk offset : ℕ) where
+  seeks-newest : (n i : ℕ) → i ≡ newest t space n → Seeks t n space chunk offset i
+  seeks-newest n i z =
       record {
         within = rw z (newest-low t space n);
         of-space = λ p. newest-is t space n (i - 1) (omega (arith, z, p)) .0;
         same = addressed-skip t space chunk offset i n (rw z (newest-low t space n)) (λ k a c. off-space t space chunk offset k (newest-gap t space n k (rw z at a) c));
+      }
+
+module _ {t : List ℕ} {n : ℕ} (space chunk offset : ℕ) where
+  pub seeks-start : {ix : List ℕ} → Links t n ix → (i : ℕ) → space < 256 → i ≡ getD ix (space) 0 → Seeks t n space chunk offset i
+  seeks-start w i b e = seeks-newest t space chunk offset n i (e ∙ w .heads space b)
+
+  -- the record before one of the space whose address is higher
+  pub seeks-before : Sorted t n → (i : ℕ) → i < n → spaceOf t i ≡ space → isAfter t i chunk offset ≡ true → (r : ℕ) → r ≡ newest t (spaceOf t i) i → Seeks t n space chunk offset r
+  seeks-before s i l e h r z =
+      let y = seeks-newest t space chunk offset i r (rw (sym e) z) in
+      record {
+        within = omega (arith, y .within, l);
+        of-space = y .of-space;
+        same = addressed-skip t space chunk offset i n (omega (arith, l)) (none-after s space chunk offset i e h) ∙ y .same;
       }
 
 module _ {t : List ℕ} {n space chunk offset : ℕ} (i : ℕ) (h : Seeks t n space chunk offset i) where

@@ -10,8 +10,6 @@ use borrow.Author.Tests.{eqb-true, eqb-false, eq-eqb, ne-eqb}
 use lib.Dec.{eqb}
 use lib.ListN.{length, getD, set, length-set}
 use lib.Seq.{getD-set-same, getD-set-other}
-use Rattle.tables.specs.Values.{pickℕ}
-use Rattle.tables.specs.Records.{field}
 use Rattle.address_index.specs.Links.{spaceOf, newest, countIn, JumpOf, Links, Linked}
 
 -- ---- the newest record of a space, and how many there are
@@ -20,6 +18,9 @@ module _ (t : List ℕ) (s : ℕ) where
   pub newest-on : (n : ℕ) → spaceOf t n ≡ s → newest t s (suc n) ≡ suc n
   unfolding newest
   newest-on n e = rw (eq-eqb (spaceOf t n) s e)
+
+  pub newest-just : (i : ℕ) → 0 < i → spaceOf t (i - 1) ≡ s → i ≡ newest t s i
+  newest-just i p e = let z : suc (i - 1) ≡ i = omega (arith, p) in subst (λ (k : ℕ). k ≡ newest t s k) z (sym (newest-on (i - 1) e))
 
   pub newest-off : (n : ℕ) → spaceOf t n ≢ s → newest t s (suc n) ≡ newest t s n
   unfolding newest
@@ -232,3 +233,17 @@ linked-start t ix e fits =
       jumps = λ i l. absurd (omega (arith, l));
       ordinals = λ i l. absurd (omega (arith, l));
     }
+
+-- a number behind the links may be anything
+pub linked-behind : (t : List ℕ) (n : ℕ) (ix : List ℕ) (c x : ℕ) → 256 + n * 3 ≤ c → Linked t n ix → Linked t n (set ix c x)
+linked-behind t n ix c x b w fits =
+    let v = w (rw (length-set ix c x) at fits) in
+    record {
+      heads = λ s l. kept s (omega (arith, l)) ∙ v .heads s l;
+      olders = λ i l. kept (256 + i * 3) (omega (arith, l)) ∙ v .olders i l;
+      jumps = λ i l. subst (JumpOf t i) (sym (kept (256 + i * 3 + 1) (omega (arith, l)))) (v .jumps i l);
+      ordinals = λ i l. kept (256 + i * 3 + 2) (omega (arith, l)) ∙ v .ordinals i l;
+    }
+  where
+    kept : (k : ℕ) → k < 256 + n * 3 → getD (set ix c x) k 0 ≡ getD ix k 0
+    kept k l = getD-set-other ix c k x 0 (λ q. omega (arith, q, l, b))

@@ -11,11 +11,10 @@ use borrow.Author.Tests.{eqb-true, eqb-false, eq-eqb, ne-eqb, ltb-true, ltb-fals
 use lib.Dec.{ltb, eqb}
 use lib.ListN.{getD}
 use Rattle.tables.specs.Records.{field}
-use Rattle.alloc.specs.declared.resolve.Found.{Found}
 use Rattle.alloc.specs.declared.resolve.Found.the-variants.{Object, Nothing}
 use Rattle.alloc.specs.Resolve.{ordinalFrom}
 use Rattle.address_index.specs.Links.{spaceOf, newest, countIn, Links}
-use Rattle.address_index.specs.Sorted.{PassesOrdinals}
+use Rattle.address_index.specs.Sorted.{PassesOrdinals, SeeksOrdinal}
 use Rattle.address_index.proofs.LinkLaws.{newest-low, newest-is, newest-gap, on-or-off, count-on, count-off, jump-jump}
 use Rattle.address_index.proofs.FindLaws.{space-field}
 
@@ -49,6 +48,10 @@ module _ (t : List ℕ) (s : ℕ) where
   next-off : (k : ℕ) → spaceOf t k ≢ s → countIn t s (k + 1) ≡ countIn t s k
   next-off k e = rw (add-one k) (count-off t s k e)
 
+  -- a later record of the space has a higher number
+  count-after : (i k : ℕ) → spaceOf t i ≡ s → i < k → countIn t s i < countIn t s k
+  count-after i k e l = let u = count-up (i + 1) k (omega (arith, l)) in let m = next-on i e in omega (arith, u, m)
+
   -- the record with a number is found
   pub ordinal-found : (n k number j : ℕ) → k ≤ j → j < k + n → spaceOf t j ≡ s → countIn t s j ≡ countIn t s k + number → ordinalFrom t s number k n ≡ Object (field 5 t j 3)
   ordinal-found zero k number j a b e c = absurd (omega (arith, a, b))
@@ -65,7 +68,7 @@ module _ (t : List ℕ) (s : ℕ) where
         where
           first : (d : Bool) → eqb k j ≡ d → number ≡ 0 → k ≡ j
           first true w y = eqb-true k j w
-          first false w y = let v = eqb-false k j w in absurd (let u = count-up (k + 1) j (omega (arith, a, v)) in let m = next-on k q in omega (arith, u, m, c, y))
+          first false w y = let v = eqb-false k j w in absurd (let u = count-after k j q (omega (arith, a, v)) in omega (arith, u, c, y))
       found-on n k number j a b e c q false z f =
           let y : number ≡ 0 → ⊥ = eqb-false number 0 z in
           let m = next-on k q in
@@ -114,21 +117,15 @@ module _ {t ix : List ℕ} {n : ℕ} (w : Links t n ix) (i number : ℕ) (l : i 
   passes-jump j e p o eo h =
       let z = jump-jump w l (omega (arith, p)) e in
       let y : o ≡ countIn t (spaceOf t i) (j - 1) = eo ∙ w .ordinals (j - 1) (omega (arith, z .0, l, p)) ∙ ap (λ (s : ℕ). countIn t s (j - 1)) (z .1) in
-      let m : countIn t (spaceOf t i) (j - 1 + 1) ≡ countIn t (spaceOf t i) (j - 1) + 1 = next-on t (spaceOf t i) (j - 1) (z .1) in
       record {
         before = z .0;
         of-space = λ b. z .1;
-        none = λ k a b q d. let u = count-up t (spaceOf t i) (j - 1 + 1) k (omega (arith, a, p)) in omega (arith, u, m, y, h, d);
+        none = λ k a b q d. let u = count-after t (spaceOf t i) (j - 1) k (z .1) (omega (arith, a, p)) in omega (arith, u, y, h, d);
       }
 
 -- ---- what holds at the head of the loop
 
-pub record Seeks (t : List ℕ) (n space number i : ℕ) : Type 0 where
-  pub within : i ≤ n
-  pub of-space : 0 < i → spaceOf t (i - 1) ≡ space
-  pub none : (k : ℕ) → i ≤ k → k < n → spaceOf t k ≡ space → countIn t space k ≢ number
-
-pub seeks-start : {t ix : List ℕ} {n : ℕ} → Links t n ix → (space number i : ℕ) → space < 256 → i ≡ getD ix (space) 0 → Seeks t n space number i
+pub seeks-start : {t ix : List ℕ} {n : ℕ} → Links t n ix → (space number i : ℕ) → space < 256 → i ≡ getD ix (space) 0 → SeeksOrdinal t n space number i
 seeks-start {t} {ix} {n} w space number i b e =
     let z : i ≡ newest t space n = e ∙ w .heads space b in
     record {
@@ -137,7 +134,17 @@ seeks-start {t} {ix} {n} w space number i b e =
       none = λ k a c q. absurd (newest-gap t space n k (rw z at a) c q);
     }
 
-module _ {t : List ℕ} {n space number : ℕ} (i : ℕ) (h : Seeks t n space number i) where
+-- a record of the space that has the number
+pub seeks-hinted : {t ix : List ℕ} {n : ℕ} → Links t n ix → (space number i : ℕ) → 0 < i → i ≤ n → spaceOf t (i - 1) ≡ space → (o : ℕ) → o ≡ getD ix (256 + (i - 1) * 3 + 2) 0 → o ≡ number → SeeksOrdinal t n space number i
+seeks-hinted {t} {ix} {n} w space number i p l e o eo en =
+    let y : number ≡ countIn t space (i - 1) = sym en ∙ eo ∙ w .ordinals (i - 1) (omega (arith, p, l)) ∙ ap (λ (s : ℕ). countIn t s (i - 1)) e in
+    record {
+      within = l;
+      of-space = λ b. e;
+      none = λ k a b q d. let u = count-after t space (i - 1) k e (omega (arith, a, p)) in omega (arith, u, y, d);
+    }
+
+module _ {t : List ℕ} {n space number : ℕ} (i : ℕ) (h : SeeksOrdinal t n space number i) where
   nothing-at : countIn t space i ≤ number → Nothing ≡ ordinalFrom t space number 0 n
   unfolding countIn
   nothing-at c = sym (ordinal-none t space n 0 number (let z = count-stays t space number i n (h .within) c (h .none) in rw (zero-add n) (omega (arith, z))))
@@ -161,7 +168,7 @@ module _ {t : List ℕ} {n space number : ℕ} (i : ℕ) (h : Seeks t n space nu
         let z : i - 1 + 1 ≡ i = omega (arith, p) in
         nothing-at (rw z at (let y : countIn t space (i - 1 + 1) ≤ number = omega (arith, u, m, q) in y))
 
-    pub seeks-next : (o ≡ number → ⊥) → (r : ℕ) → PassesOrdinals t (i - 1) number r → Seeks t n space number r
+    pub seeks-next : (o ≡ number → ⊥) → (r : ℕ) → PassesOrdinals t (i - 1) number r → SeeksOrdinal t n space number r
     seeks-next q r g =
         record {
           within = omega (arith, g .before, h .within);

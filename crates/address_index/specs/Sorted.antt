@@ -1,4 +1,4 @@
--- Address records in the order of their addresses, and what a search may pass over. Assumes nothing: these are definitions.
+-- Address records in the order of their addresses, what a search may pass over, and where it may go on. Assumes nothing: these are definitions.
 use mathlib.Core.Path.{_≡_}
 use mathlib.Core.Logic.{_≢_, _⊎_}
 use mathlib.Core.Bool.{Bool, false, _&&_, _||_}
@@ -6,7 +6,7 @@ use mathlib.Core.List.{List}
 use Prim.Native.Nat.{ℕ, _-_, _<_, _≤_}
 use lib.Dec.{ltb, eqb}
 use Rattle.tables.specs.Records.{field}
-use Rattle.alloc.specs.Resolve.{isAddress}
+use Rattle.alloc.specs.Resolve.{isAddress, addressed}
 use Rattle.address_index.specs.Links.{spaceOf, countIn}
 
 -- chunk and offset of one address are at most those of another
@@ -33,3 +33,15 @@ pub record PassesOrdinals (t : List ℕ) (i number r : ℕ) : Type 0 where
   pub before : r ≤ i
   pub of-space : 0 < r → spaceOf t (r - 1) ≡ spaceOf t i
   pub none : (k : ℕ) → r ≤ k → k < i → spaceOf t k ≡ spaceOf t i → countIn t (spaceOf t i) k ≢ number
+
+-- the search for an address among n records may go on with record i, counted from 1, or end: the answer is that among the first i
+pub record Seeks (t : List ℕ) (n space chunk offset i : ℕ) : Type 0 where
+  pub within : i ≤ n
+  pub of-space : 0 < i → spaceOf t (i - 1) ≡ space
+  pub same : addressed t space chunk offset n ≡ addressed t space chunk offset i
+
+-- that for a number in a space may: none of the others has it
+pub record SeeksOrdinal (t : List ℕ) (n space number i : ℕ) : Type 0 where
+  pub within : i ≤ n
+  pub of-space : 0 < i → spaceOf t (i - 1) ≡ space
+  pub none : (k : ℕ) → i ≤ k → k < n → spaceOf t k ≡ space → countIn t space k ≢ number

@@ -1,6 +1,7 @@
 // The index of legacy addresses: for each of 256 spaces its newest address record, then three numbers for each
 // record: the record before it in its space, an older record of its space to jump to, and its number in its space. Records are counted from
 // 1; 0 is none. The jumps halve what is left to search (skew-binary lists), whatever the addresses are.
+use crate::hints::keep_hint;
 ghost use mathlib.Core.Path.{_≡_};
 ghost use Prim.Native.Nat.{ℕ, _+_, _*_, _^_, _<_, _≤_};
 ghost use lib.ListN.{length, getD};
@@ -94,4 +95,5 @@ pub fn enter(table: &[u64], index: &mut [u64], n: usize)
     index[at + 1] = j;
     index[at + 2] = o;
     index[space] = n as u64 + 1;
+    keep_hint(table, index, n, p, o);
 }

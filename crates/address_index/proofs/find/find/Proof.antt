@@ -1,8 +1,8 @@
 use borrow.Author.Needs.{needs}
 use native.Mathlib.Omega.{arith}
-use mathlib.Core.Path.{sym, _∙_}
-use borrow.Author.Tests.{not-true, not-false}
-use Rattle.address_index.proofs.FindLaws.{Seeks, seeks-start, seeks-end, seeks-found, seeks-nothing, seeks-next}
+use borrow.Author.Tests.{not-true}
+use Rattle.address_index.specs.Sorted.{Seeks}
+use Rattle.address_index.proofs.FindLaws.{seeks-end, seeks-found, seeks-nothing, seeks-next}
 use Rattle.address_index.proofs.find.find.Statement.{statement}
 use Rattle.address_index.proofs.find.find.Tie as tie
 
@@ -12,11 +12,11 @@ Inv-loop table index n space chunk offset i₀ i = Seeks table n space chunk off
 abbrev μ-loop : tie.MeasureT-loop
 μ-loop table index n space chunk offset i₀ i = i
 
-newest-requires : tie.Need-newest-requires Inv-loop μ-loop
-newest-requires c κs = let q = c .before .before .pre in omega (arith, q .1, q .2)
+start-requires : tie.Need-start-requires Inv-loop μ-loop
+start-requires c κs = c .before .before .pre
 
 loop-holds : tie.Need-loop-holds Inv-loop μ-loop
-loop-holds c = let a = c .before .before .before .args in let q = c .before .before .before .pre in seeks-start (q .3) (a .space) (a .chunk) (a .offset) _ (q .1) (c .newest .ensures)
+loop-holds c = c .start .ensures
 
 sub-k : tie.Need-sub-k Inv-loop μ-loop
 sub-k c = search needs
@@ -24,17 +24,17 @@ sub-k c = search needs
 is-placed-at-requires : tie.Need-is-placed-at-requires Inv-loop μ-loop
 is-placed-at-requires c κs = let a = c .before .before .before .before .before .args in let q = c .before .before .before .before .before .pre in let h = c .before .loop .inv in omega (arith, h .within, q .0, c .loop-test .taken)
 
-mul-t13 : tie.Need-mul-t13 Inv-loop μ-loop
-mul-t13 c = let a = c .before .before .before .before .before .before .before .args in let q = c .before .before .before .before .before .before .before .pre in let h = c .before .before .before .loop .inv in omega (arith, h .within, q .0, c .before .before .loop-test .taken, c .before .before .before .before .before .before .before .good)
+mul-t12 : tie.Need-mul-t12 Inv-loop μ-loop
+mul-t12 c = let a = c .before .before .before .before .before .before .before .args in let q = c .before .before .before .before .before .before .before .pre in let h = c .before .before .before .loop .inv in omega (arith, h .within, q .0, c .before .before .loop-test .taken, c .before .before .before .before .before .before .before .good)
 
-add-t14 : tie.Need-add-t14 Inv-loop μ-loop
-add-t14 c = let a = c .before .before .before .before .before .before .before .args in let q = c .before .before .before .before .before .before .before .pre in let h = c .before .before .before .loop .inv in omega (arith, h .within, q .0, c .before .before .loop-test .taken, c .before .before .before .before .before .before .before .good)
+add-t13 : tie.Need-add-t13 Inv-loop μ-loop
+add-t13 c = let a = c .before .before .before .before .before .before .before .args in let q = c .before .before .before .before .before .before .before .pre in let h = c .before .before .before .loop .inv in omega (arith, h .within, q .0, c .before .before .loop-test .taken, c .before .before .before .before .before .before .before .good)
 
-mul-t15 : tie.Need-mul-t15 Inv-loop μ-loop
-mul-t15 c = let a = c .before .before .before .before .before .before .before .args in let q = c .before .before .before .before .before .before .before .pre in let h = c .before .before .before .loop .inv in omega (arith, h .within, q .0, c .before .before .loop-test .taken, c .before .before .before .before .before .before .before .good)
+mul-t14 : tie.Need-mul-t14 Inv-loop μ-loop
+mul-t14 c = let a = c .before .before .before .before .before .before .before .args in let q = c .before .before .before .before .before .before .before .pre in let h = c .before .before .before .loop .inv in omega (arith, h .within, q .0, c .before .before .loop-test .taken, c .before .before .before .before .before .before .before .good)
 
-shared-slice-read-t17 : tie.Need-shared-slice-read-t17 Inv-loop μ-loop
-shared-slice-read-t17 c = let a = c .before .before .before .before .before .before .before .before .args in let q = c .before .before .before .before .before .before .before .before .pre in let h = c .before .before .before .before .loop .inv in omega (arith, h .within, q .0, c .before .before .before .loop-test .taken)
+shared-slice-read-t16 : tie.Need-shared-slice-read-t16 Inv-loop μ-loop
+shared-slice-read-t16 c = let a = c .before .before .before .before .before .before .before .before .args in let q = c .before .before .before .before .before .before .before .before .pre in let h = c .before .before .before .before .loop .inv in omega (arith, h .within, q .0, c .before .before .before .loop-test .taken)
 
 returns : tie.Need-returns Inv-loop μ-loop
 returns c = let a = c .before .before .before .before .before .before .before .before .args in let q = c .before .before .before .before .before .before .before .before .pre in let h = c .before .before .before .before .loop .inv in seeks-found _ h (c .before .before .before .loop-test .taken) (c .before .before .is-placed-at .ensures) (c .before .if1 .taken)
@@ -63,14 +63,14 @@ find-spec =
     (tie.spec
     Inv-loop
     μ-loop
-    newest-requires
+    start-requires
     loop-holds
     sub-k
     is-placed-at-requires
-    mul-t13
-    add-t14
-    mul-t15
-    shared-slice-read-t17
+    mul-t12
+    add-t13
+    mul-t14
+    shared-slice-read-t16
     returns
     is-after-requires
     returns-2

@@ -1,21 +1,21 @@
 use borrow.Author.Needs.{needs}
 use native.Mathlib.Omega.{arith}
-use mathlib.Core.Path.{sym, _∙_}
-use Rattle.address_index.proofs.OrdinalLaws.{Seeks, seeks-start, seeks-end, seeks-found, seeks-nothing, seeks-next}
+use Rattle.address_index.specs.Sorted.{SeeksOrdinal}
+use Rattle.address_index.proofs.OrdinalLaws.{seeks-end, seeks-found, seeks-nothing, seeks-next}
 use Rattle.address_index.proofs.find.find_ordinal.Statement.{statement}
 use Rattle.address_index.proofs.find.find_ordinal.Tie as tie
 
 abbrev Inv-loop : tie.InvT-loop
-Inv-loop table index n space number i₀ i = Seeks table n space number i
+Inv-loop table index n space number i₀ i = SeeksOrdinal table n space number i
 
 abbrev μ-loop : tie.MeasureT-loop
 μ-loop table index n space number i₀ i = i
 
-newest-requires : tie.Need-newest-requires Inv-loop μ-loop
-newest-requires c κs = let q = c .before .before .pre in omega (arith, q .1, q .2)
+start-ordinal-requires : tie.Need-start-ordinal-requires Inv-loop μ-loop
+start-ordinal-requires c κs = c .before .before .pre
 
 loop-holds : tie.Need-loop-holds Inv-loop μ-loop
-loop-holds c = let a = c .before .before .before .args in let q = c .before .before .before .pre in seeks-start (q .3) (a .space) (a .number) _ (q .1) (c .newest .ensures)
+loop-holds c = c .start-ordinal .ensures
 
 sub-k : tie.Need-sub-k Inv-loop μ-loop
 sub-k c = search needs
@@ -23,17 +23,17 @@ sub-k c = search needs
 ordinal-requires : tie.Need-ordinal-requires Inv-loop μ-loop
 ordinal-requires c κs = let a = c .before .before .before .before .before .args in let q = c .before .before .before .before .before .pre in let h = c .before .loop .inv in omega (arith, h .within, q .2, c .loop-test .taken)
 
-mul-t12 : tie.Need-mul-t12 Inv-loop μ-loop
-mul-t12 c = let a = c .before .before .before .before .before .before .before .args in let q = c .before .before .before .before .before .before .before .pre in let h = c .before .before .before .loop .inv in omega (arith, h .within, q .0, c .before .before .loop-test .taken, c .before .before .before .before .before .before .before .good)
+mul-t11 : tie.Need-mul-t11 Inv-loop μ-loop
+mul-t11 c = let a = c .before .before .before .before .before .before .before .args in let q = c .before .before .before .before .before .before .before .pre in let h = c .before .before .before .loop .inv in omega (arith, h .within, q .0, c .before .before .loop-test .taken, c .before .before .before .before .before .before .before .good)
 
-add-t13 : tie.Need-add-t13 Inv-loop μ-loop
-add-t13 c = let a = c .before .before .before .before .before .before .before .args in let q = c .before .before .before .before .before .before .before .pre in let h = c .before .before .before .loop .inv in omega (arith, h .within, q .0, c .before .before .loop-test .taken, c .before .before .before .before .before .before .before .good)
+add-t12 : tie.Need-add-t12 Inv-loop μ-loop
+add-t12 c = let a = c .before .before .before .before .before .before .before .args in let q = c .before .before .before .before .before .before .before .pre in let h = c .before .before .before .loop .inv in omega (arith, h .within, q .0, c .before .before .loop-test .taken, c .before .before .before .before .before .before .before .good)
 
-mul-t14 : tie.Need-mul-t14 Inv-loop μ-loop
-mul-t14 c = let a = c .before .before .before .before .before .before .before .args in let q = c .before .before .before .before .before .before .before .pre in let h = c .before .before .before .loop .inv in omega (arith, h .within, q .0, c .before .before .loop-test .taken, c .before .before .before .before .before .before .before .good)
+mul-t13 : tie.Need-mul-t13 Inv-loop μ-loop
+mul-t13 c = let a = c .before .before .before .before .before .before .before .args in let q = c .before .before .before .before .before .before .before .pre in let h = c .before .before .before .loop .inv in omega (arith, h .within, q .0, c .before .before .loop-test .taken, c .before .before .before .before .before .before .before .good)
 
-shared-slice-read-t16 : tie.Need-shared-slice-read-t16 Inv-loop μ-loop
-shared-slice-read-t16 c = let a = c .before .before .before .before .before .before .before .before .args in let q = c .before .before .before .before .before .before .before .before .pre in let h = c .before .before .before .before .loop .inv in omega (arith, h .within, q .0, c .before .before .before .loop-test .taken)
+shared-slice-read-t15 : tie.Need-shared-slice-read-t15 Inv-loop μ-loop
+shared-slice-read-t15 c = let a = c .before .before .before .before .before .before .before .before .args in let q = c .before .before .before .before .before .before .before .before .pre in let h = c .before .before .before .before .loop .inv in omega (arith, h .within, q .0, c .before .before .before .loop-test .taken)
 
 returns : tie.Need-returns Inv-loop μ-loop
 returns c = let a = c .before .before .before .before .before .before .before .before .args in let q = c .before .before .before .before .before .before .before .before .pre in let h = c .before .before .before .before .loop .inv in seeks-found _ h (c .before .before .before .loop-test .taken) (q .3) _ (c .before .before .ordinal .ensures) (c .before .if1 .taken)
@@ -59,14 +59,14 @@ find-ordinal-spec =
     (tie.spec
     Inv-loop
     μ-loop
-    newest-requires
+    start-ordinal-requires
     loop-holds
     sub-k
     ordinal-requires
-    mul-t12
-    add-t13
-    mul-t14
-    shared-slice-read-t16
+    mul-t11
+    add-t12
+    mul-t13
+    shared-slice-read-t15
     returns
     returns-2
     next-earlier-requires

@@ -1,7 +1,8 @@
 use native.Mathlib.Omega.{arith}
-use mathlib.Core.Path.{sym, ap, _∙_}
+use mathlib.Core.Path.{_∙_}
 use lib.ListN.{length-set}
-use Rattle.address_index.proofs.LinkLaws.{enters}
+use Rattle.address_index.specs.Links.{spaceOf}
+use Rattle.address_index.proofs.LinkLaws.{newest-low, count-low, enters}
 use borrow.Author.Needs.{needs}
 use Rattle.address_index.proofs.links.enter.Statement.{statement}
 use Rattle.address_index.proofs.links.enter.Tie as tie
@@ -69,11 +70,14 @@ mul-index-4 c = search needs
 slice-write-index-4 : tie.Need-slice-write-index-4
 slice-write-index-4 c = simp length-set (omega (arith, c .before .before .before .before .before .before .before .if1 .left, c .before .before .before .before .before .before .before .before .before .before .pre .1))
 
+keep-hint-requires : tie.Need-keep-hint-requires
+keep-hint-requires c κs = let a = c .before .before .before .before .before .before .before .before .before .before .before .args in let q = c .before .before .before .before .before .before .before .before .before .before .before .pre in let fits = c .before .before .before .before .before .before .before .before .if1 .left in let w = q .2 (omega (arith, fits)) in let e = c .before .before .before .before .before .newest .ensures ∙ w .heads _ (q .1) in let o = c .before .ordinal-after .ensures in let p-low = newest-low (a .table .now) (spaceOf (a .table .now) (a .n)) (a .n) in let o-low = count-low (a .table .now) (spaceOf (a .table .now) (a .n)) (a .n) in (q .0, simp length-set (omega (arith, fits)), omega (arith, e, p-low), omega (arith, o, o-low), (λ r. enters (a .table .now) (a .index .now) (a .n) _ _ _ (q .1) fits w e (c .before .before .before .jump-from .ensures) o))
+
 same-length : tie.Need-same-length
-same-length c = search needs
+same-length c = c .before .before .keep-hint .kept .1 .0 ∙ (simp length-set)
 
 returns-2 : tie.Need-returns-2
-returns-2 c = let a = c .before .before .before .before .before .before .before .before .before .before .args in let q = c .before .before .before .before .before .before .before .before .before .before .pre in let fits = c .before .before .before .before .before .before .before .if1 .left in let w = q .2 (omega (arith, fits)) in (λ r. enters (a .table .now) (a .index .now) (a .n) _ _ _ (q .1) fits w (c .before .before .before .before .newest .ensures ∙ w .heads _ (q .1)) (c .before .before .jump-from .ensures) (c .ordinal-after .ensures))
+returns-2 c = c .before .before .keep-hint .ensures
 
 pub enter-spec : {M : Type 1} → statement M
 enter-spec =
@@ -100,5 +104,6 @@ enter-spec =
     add-index-3
     mul-index-4
     slice-write-index-4
+    keep-hint-requires
     same-length
     returns-2)
