@@ -25,7 +25,8 @@ extern "C" {
  *   addresses     5: space, chunk, offset, object, placed (legacy sheets only)
  *   scratch       working memory of any length, which may hold anything before and afterwards. The graph does not depend on it, the time does.
  *                 It has two parts: as many numbers as the payload has bytes, for forward references that are open; then, for legacy sheets,
- *                 256 numbers and three for each address record. Where it is shorter, what has no place in it is searched for in the tables.
+ *                 256 numbers and five for each address record. With three for each a back-reference takes longer to resolve. Where it is
+ *                 shorter still, what has no place in it is searched for in the tables.
  *
  * outcome gets the counts of objects, slots, values and addresses, the cursor at the finish, and the refusal's place. After a refusal all
  * but the place are 0, and so is every entry of the tables; else the place is 0, and so is every entry past the counts.

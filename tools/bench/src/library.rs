@@ -46,9 +46,10 @@ pub struct Tables {
 /// Of a byte that is in no table, so that a table that is not cleared is seen.
 const OTHER: u64 = 0xabab_abab_abab_abab;
 
-/// As much scratch as keeps the library from searching: a place for each pending number, in legacy then the index of addresses.
+/// As much scratch as keeps the library from searching: a place for each pending number, in legacy then the index of addresses with its
+/// hints.
 fn scratch_length(bytes: usize, legacy: bool, addresses: usize) -> usize {
-    bytes + if legacy { 256 + 3 * addresses } else { 0 }
+    bytes + if legacy { 256 + 5 * addresses } else { 0 }
 }
 
 impl Tables {

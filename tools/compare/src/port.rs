@@ -42,10 +42,15 @@ pub struct Call {
 }
 
 impl Call {
-    /// Scratch in which nothing has to be searched: a place for each pending number, then the index of legacy addresses.
+    /// Scratch in which nothing has to be searched: a place for each pending number, then the index of legacy addresses with its hints.
     pub fn full_scratch(payload: &[u8]) -> usize {
+        Call::index_scratch(payload, 5)
+    }
+
+    /// The same with so many numbers for each record in the index: three are its links, two more its hints.
+    pub fn index_scratch(payload: &[u8], numbers: usize) -> usize {
         let records = payload.len() / 2 + 2;
-        payload.len() + 256 + 3 * records
+        payload.len() + 256 + numbers * records
     }
 
     /// What scratch holds before: numbers that slots and records can have, and larger ones.
