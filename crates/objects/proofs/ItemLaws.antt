@@ -2,7 +2,7 @@
 use mathlib.Core.Path.{_≡_, refl, sym, ap, subst, _∙_}
 use mathlib.Core.Bool.{Bool, true, false}
 use mathlib.Core.List.{List, [], _∷_}
-use Prim.Native.Nat.{ℕ, _+_, _*_, _/_, _<_}
+use Prim.Native.Nat.{ℕ, _+_, _*_, _/_, _^_, _<_}
 use native.Mathlib.Omega.{arith}
 use borrow.Author.Tests.{ltb-true}
 use denote.Enum.Declared.{tagOf}
@@ -193,3 +193,19 @@ place-keep x o done (Raw r) m h e = e
 place-keep x o done ClearedWeak m h e = e
 place-keep x o done (WeakRef k) m h e = e
 place-keep x o done (PendingRef n) m h e = e
+
+-- the item as it is kept: value w in state t, with the value records vt′
+pub record AsKept (s : State) (st vt sc : List ℕ) (o done ts : ℕ) (v : SlotValue) (t : State) (w : SlotValue) (vt′ : List ℕ) : Type 0 where
+  pub waiting : t .waiting < 2 ^ 63
+  pub fits : done + t .skip + widthOf ts w < 2 ^ 64
+  pub indexed : Indexed st (t .slots) sc
+  pub is : (x : Input) (ot : List ℕ) (l : Lent) {r : Out ℕ} → r ≡ keepItem x o done w (mem t (objectsIs ot (slotsIs st (valuesIs vt′ l)))) → r ≡ placeItem x o done v (mem s (objectsIs ot (slotsIs st (valuesIs vt l))))
+
+module _ (s : State) (st vt sc : List ℕ) (o done ts : ℕ) (v : SlotValue) (i : Indexed st (s .slots) sc) (low : s .waiting < 2 ^ 63) (f : done + s .skip + widthOf ts v < 2 ^ 64) where
+  pub kept-itself : OneOf (0 ∷ 1 ∷ 5 ∷ 6 ∷ 7 ∷ 8 ∷ []) (tagOf the-type v) → AsKept s st vt sc o done ts v s v vt
+  kept-itself h = record { waiting = low; fits = f; indexed = i; is = λ x ot l. place-keep x o done v (mem s (objectsIs ot (slotsIs st (valuesIs vt l)))) h }
+
+  pub kept-previous : (vt′ : List ℕ) {r : Count} → ((l : Lent) → seenCount r (slotsIs st (valuesIs vt′ l)) ≡ repeatPrevious (mem s (slotsIs st (valuesIs vt l)))) → {k : ℕ} {t : State} → r ≡ Is k t → {n : ℕ} → v ≡ RepeatPrev n → AsKept s st vt sc o done ts v t (Repeat n k) vt′
+  kept-previous vt′ h {k} {t} g p =
+      let q = previous-asks s st vt vt′ h g sc i low done ts p f in
+      record { waiting = q .0; fits = q .1; indexed = q .2; is = λ x ot l. place-previous x o done p (mem s (objectsIs ot (slotsIs st (valuesIs vt l)))) (count-is (objectsIs ot (slotsIs st (valuesIs vt′ l))) g (h (objectsIs ot l))) }

@@ -136,29 +136,27 @@ pub fn place_item(
     ensures rest { λ _. ⌜ drop size (now (scratch .exit)) ≡ drop size (now (scratch .entry)) ⌝ }
 {
     let mut t = s;
+    let mut w = v;
     match v {
         SlotValue::Skip(n) => {
             t.skip = 0;
-            Count::Is(done + n as u64, t)
+            return Count::Is(done + n as u64, t);
         }
         SlotValue::StreamBytes(_) => {
             t.skip = 0;
-            Count::Is(done, t)
+            return Count::Is(done, t);
         }
         SlotValue::RepeatPrev(n) => match keep_previous(slots, values, s) {
-            Count::Refused(m, q, u) => Count::Refused(m, q, u),
-            Count::Is(k, u) => keep_item(
-                objects,
-                slots,
-                scratch,
-                size,
-                u,
-                o,
-                done,
-                SlotValue::Repeat(n, k),
-                word,
-            ),
+            Count::Refused(m, q, u) => {
+                return Count::Refused(m, q, u);
+            }
+            Count::Is(k, u) => {
+                w = SlotValue::Repeat(n, k);
+                t = u;
+            }
         },
-        _ => keep_item(objects, slots, scratch, size, s, o, done, v, word),
+        _ => {}
     }
+    // the only call of `keep_item`, so that it costs no call
+    keep_item(objects, slots, scratch, size, t, o, done, w, word)
 }

@@ -1,10 +1,11 @@
 use borrow.Author.Needs.{needs}
 use native.Mathlib.Omega.{arith}
-use mathlib.Core.Path.{refl}
-use lib.ListN.{take}
+use mathlib.Core.Path.{_≡_, refl}
+use mathlib.Core.Logic.{⊎-elim}
+use lib.ListN.{length, take}
 use Rattle.readers.specs.Views.{mem, objectsIs, slotsIs, valuesIs}
 use Rattle.readers.proofs.ViewLaws.{count-is, count-no}
-use Rattle.objects.proofs.ItemLaws.{place-skip, place-stream, place-no, place-previous, place-keep, previous-asks, skip-fits}
+use Rattle.objects.proofs.ItemLaws.{place-skip, place-stream, place-no, skip-fits, AsKept, kept-itself, kept-previous}
 use Rattle.objects.proofs.item.place_item.Statement.{statement}
 use Rattle.objects.proofs.item.place_item.Tie as tie
 
@@ -17,8 +18,20 @@ cast-t20 c = search needs
 add-t21 : tie.Need-add-t21
 add-t21 c = let a = c .before .before .before .before .before .before .before .args in let h = skip-fits (a .done) (a .s .skip) (a .word) (c .before .v .given .1) (c .before .before .before .before .before .before .before .pre .0 .5) in omega (arith, h)
 
+returns : tie.Need-returns
+returns c =
+    let a = c .before .before .before .before .before .before .before .args in
+    let q = c .before .before .before .before .before .before .before .pre .1 .1 in
+    (λ x l e. place-skip x (a .o) (a .done) (a .s) (objectsIs (a .objects .now) (slotsIs (a .slots .now) (valuesIs (a .values .now) l))) (c .before .v .given .1), (q, refl))
+
 enum-told : tie.Need-enum-told
 enum-told c = search needs
+
+returns-2 : tie.Need-returns-2
+returns-2 c =
+    let a = c .before .before .before .before .before .before .args in
+    let q = c .before .before .before .before .before .before .pre .1 .1 in
+    (λ x l e. place-stream x (a .o) (a .done) (a .s) (objectsIs (a .objects .now) (slotsIs (a .slots .now) (valuesIs (a .values .now) l))) (c .enum-told .given .1), (q, refl))
 
 enum-known-v-2 : tie.Need-enum-known-v-2
 enum-known-v-2 c = search needs
@@ -28,32 +41,6 @@ keep-previous-requires c κs = search needs
 
 enum-known-m : tie.Need-enum-known-m
 enum-known-m c = search needs
-
-enum-known-k : tie.Need-enum-known-k
-enum-known-k c = search needs
-
-keep-item-requires : tie.Need-keep-item-requires
-keep-item-requires c κs =
-    let a = c .before .before .before .before .before .before .before .before .before .before .before .before .before .before .before .before .before .before .args in
-    let q = c .before .before .before .before .before .before .before .before .before .before .before .before .before .before .before .before .before .before .pre in
-    let p = c .before .before .before .before .before .before .before .before .keep-previous in
-    let r = previous-asks (a .s) (a .slots .now) (a .values .now) (p .last .1 .0) (p .ensures) (c .before .before .before .before .k .given .1) (take (a .size) (a .scratch .now)) (q .1 .1) (q .0 .2) (a .done) (a .word) (c .before .before .before .before .before .before .before .before .before .before .before .before .v2 .given .1) (q .0 .5) in
-    ((q .0 .0, q .0 .1, r .0, q .0 .3, q .0 .4, r .1), r .2)
-
-keep-item-requires-2 : tie.Need-keep-item-requires-2
-keep-item-requires-2 c κs = search needs
-
-returns : tie.Need-returns
-returns c =
-    let a = c .before .before .before .before .before .before .before .args in
-    let q = c .before .before .before .before .before .before .before .pre .1 .1 in
-    (λ x l e. place-skip x (a .o) (a .done) (a .s) (objectsIs (a .objects .now) (slotsIs (a .slots .now) (valuesIs (a .values .now) l))) (c .before .v .given .1), (q, refl))
-
-returns-2 : tie.Need-returns-2
-returns-2 c =
-    let a = c .before .before .before .before .before .before .args in
-    let q = c .before .before .before .before .before .before .pre .1 .1 in
-    (λ x l e. place-stream x (a .o) (a .done) (a .s) (objectsIs (a .objects .now) (slotsIs (a .slots .now) (valuesIs (a .values .now) l))) (c .enum-told .given .1), (q, refl))
 
 same-length : tie.Need-same-length
 same-length c = search needs
@@ -69,41 +56,77 @@ returns-3 c =
       (tt, refl),
     )
 
+enum-known-k : tie.Need-enum-known-k
+enum-known-k c = search needs
+
+-- where the ways to `keep_item` meet
+kept : (c : tie.At-match-came) → let a = c .before .before .before .before .before .args in AsKept (a .s) (a .slots .now) (a .values .now) (take (a .size) (a .scratch .now)) (a .o) (a .done) (a .word) (a .v) (c .match .t) (c .match .w) (c .match .values)
+kept c =
+    let a = c .before .before .before .before .before .args in
+    let q = c .before .before .before .before .before .pre in
+    ⊎-elim
+    (λ u. rw (u .11, u .12, u .13) (kept-previous (a .s) (a .slots .now) (a .values .now) (take (a .size) (a .scratch .now)) (a .o) (a .done) (a .word) (a .v) (q .1 .1) (q .0 .2) (q .0 .5) (u .5 .last .1 .0) (u .5 .ensures) (u .9 .given .1) (u .1 .given .1)))
+    (λ u. rw (u .1, u .2, u .3) (kept-itself (a .s) (a .slots .now) (a .values .now) (take (a .size) (a .scratch .now)) (a .o) (a .done) (a .word) (a .v) (q .1 .1) (q .0 .2) (q .0 .5) (u .0 .keys4)))
+    (c .match .came)
+
+values-length : (c : tie.At-match-came) → length (c .match .values) ≡ length (c .before .before .before .before .before .args .values .now)
+values-length c = ⊎-elim (λ u. rw (u .11) (u .5 .kept .1 .0)) (λ u. rw (u .1)) (c .match .came)
+
+-- proofkit: perhaps this is the old keep-item-requires-2
+-- proofkit old: keep-item-requires-2: search needs
+keep-item-requires : tie.Need-keep-item-requires
+keep-item-requires c κs =
+    let q = c .before .before .before .before .before .before .before .before .pre in
+    let k = kept (c .before .before .before) in
+    ((q .0 .0, q .0 .1, k .waiting, q .0 .3, q .0 .4, k .fits), k .indexed)
+
+-- proofkit: perhaps this is the old same-length-7
+-- proofkit old: same-length-7: search needs
+-- proofkit: perhaps this is the old same-length-8
+-- proofkit old: same-length-8: search needs
+-- proofkit: perhaps this is the old same-length-9
+-- proofkit old: same-length-9: search needs
 same-length-3 : tie.Need-same-length-3
 same-length-3 c = search needs
 
+-- proofkit: perhaps this is the old same-length-7
+-- proofkit old: same-length-7: search needs
+-- proofkit: perhaps this is the old same-length-8
+-- proofkit old: same-length-8: search needs
+-- proofkit: perhaps this is the old same-length-9
+-- proofkit old: same-length-9: search needs
 same-length-4 : tie.Need-same-length-4
 same-length-4 c = search needs
 
+-- proofkit: perhaps this is the old same-length-7
+-- proofkit old: same-length-7: search needs
+-- proofkit: perhaps this is the old same-length-8
+-- proofkit old: same-length-8: search needs
+-- proofkit: perhaps this is the old same-length-9
+-- proofkit old: same-length-9: search needs
 same-length-5 : tie.Need-same-length-5
-same-length-5 c = search needs
+same-length-5 c = values-length (c .before .before .before .before .before .before .before .before .before .before)
 
+-- proofkit: perhaps this is the old same-length-7
+-- proofkit old: same-length-7: search needs
+-- proofkit: perhaps this is the old same-length-8
+-- proofkit old: same-length-8: search needs
+-- proofkit: perhaps this is the old same-length-9
+-- proofkit old: same-length-9: search needs
 same-length-6 : tie.Need-same-length-6
 same-length-6 c = search needs
 
+-- proofkit: perhaps this is the old returns-5
+-- proofkit old: returns-5:
+-- proofkit old:     let a = @args in
+-- proofkit old:     let i = @keep-item2 in
+-- proofkit old:     (λ x l e. place-keep x (a .o) (a .done) (a .v) (mem (a .s) (objectsIs (a .objects .now) (slotsIs (a .slots .now) (valuesIs (a .values .now) l)))) (@match .keys4) (i .ensures .0 x (valuesIs (a .values .now) l) e), i .ensures .1)
 returns-4 : tie.Need-returns-4
 returns-4 c =
-    let a = c .before .before .before .before .before .before .before .before .before .before .before .before .before .before .before .before .before .before .before .before .before .before .before .before .before .args in
-    let p = c .before .before .before .before .before .before .before .before .before .before .before .before .before .before .before .keep-previous in
-    let i = c .before .before .before .before .before .before .keep-item in (
-      λ x l e. place-previous x (a .o) (a .done) (c .before .before .before .before .before .before .before .before .before .before .before .before .before .before .before .before .before .before .before .v2 .given .1) (mem (a .s) (objectsIs (a .objects .now) (slotsIs (a .slots .now) (valuesIs (a .values .now) l)))) (count-is (objectsIs (a .objects .now) (slotsIs (a .slots .now) (valuesIs (p .last .1 .0) l))) (c .before .before .before .before .before .before .before .before .before .before .before .k .given .1) (p .ensures (objectsIs (a .objects .now) l))) (i .ensures .0 x (valuesIs (p .last .1 .0) l) e),
-      i .ensures .1,
-    )
-
-same-length-7 : tie.Need-same-length-7
-same-length-7 c = search needs
-
-same-length-8 : tie.Need-same-length-8
-same-length-8 c = search needs
-
-same-length-9 : tie.Need-same-length-9
-same-length-9 c = search needs
-
-returns-5 : tie.Need-returns-5
-returns-5 c =
     let a = c .before .before .before .before .before .before .before .before .before .before .before .before .before .before .before .args in
-    let i = c .before .before .before .before .before .before .keep-item2 in
-    (λ x l e. place-keep x (a .o) (a .done) (a .v) (mem (a .s) (objectsIs (a .objects .now) (slotsIs (a .slots .now) (valuesIs (a .values .now) l)))) (c .before .before .before .before .before .before .before .before .before .before .match .keys4) (i .ensures .0 x (valuesIs (a .values .now) l) e), i .ensures .1)
+    let i = c .before .before .before .before .before .before .keep-item in
+    let k = kept (c .before .before .before .before .before .before .before .before .before .before) in
+    (λ x l e. k .is x (a .objects .now) l (i .ensures .0 x (valuesIs (c .before .before .before .before .before .before .before .before .before .before .match .values) l) e), i .ensures .1)
 
 pub place-item-spec : {M : Type 1} → statement M
 place-item-spec =
@@ -112,24 +135,19 @@ place-item-spec =
     enum-known-v
     cast-t20
     add-t21
+    returns
     enum-told
+    returns-2
     enum-known-v-2
     keep-previous-requires
     enum-known-m
-    enum-known-k
-    keep-item-requires
-    keep-item-requires-2
-    returns
-    returns-2
     same-length
     same-length-2
     returns-3
+    enum-known-k
+    keep-item-requires
     same-length-3
     same-length-4
     same-length-5
     same-length-6
-    returns-4
-    same-length-7
-    same-length-8
-    same-length-9
-    returns-5)
+    returns-4)
