@@ -24,10 +24,11 @@ use tables::values::Raw;
 use tables::values::Ref;
 use tables::values::SlotValue;
 use tables::values::fields_of;
-ghost use mathlib.Core.Bool.{true};
+ghost use mathlib.Core.Bool.{true, _&&_};
 ghost use mathlib.Core.Path.{_≡_};
 ghost use mathlib.Core.List.{List};
 ghost use Prim.Native.Nat.{ℕ, _+_, _*_, _^_, _<_, _≤_};
+ghost use lib.Dec.{ltb, eqb};
 ghost use lib.ListN.{length, getD, drop};
 ghost use Rattle.sheet.specs.Sheet.{usable};
 ghost use Rattle.tables.specs.declared.values.SlotValue.the-variants.{Ref as IsRef};
@@ -249,6 +250,17 @@ fn legacy_leaf(
     }
 }
 
+// A new object stands at the cursor: the commonest of what is no leaf, so that it is looked for first.
+fn opens_object(h: &[u16; 512], p: &[u8], at: usize) -> bool
+    ensures { λ r. ⌜ r ≡ ltb at (length (now (p .entry))) && eqb (getD (now (h .entry)) (getD (now (p .entry)) at 0) 0) 1 ⌝ }
+{
+    if p.len() <= at {
+        return false;
+    }
+    let b = byte(p, at) as usize;
+    h[b] == 1
+}
+
 // What stands at the cursor, a legacy back-reference too.
 fn any_leaf(
     v: &[u16],
@@ -269,6 +281,9 @@ fn any_leaf(
     ensures { λ r. ⌜ ((r .kind ≡ 0 → ⊥) → (at < length (now (p .entry))) × (getD (now (p .entry)) at 0 < 256)) ⌝ }
     ensures found { λ r. ⌜ FoundIn (now (v .entry)) (now (p .entry)) (now (dt .entry)) (now (hot .entry)) objects n alignment word (at + 1) (getD (now (h .entry)) (getD (now (p .entry)) at 0) 0) (getD (now (h .entry)) (256 + getD (now (p .entry)) at 0) 0) r ⌝ }
 {
+    if opens_object(h, p, at) {
+        return none();
+    }
     let leaf = leaf_at(h, p, hot, at, objects, word);
     if leaf.kind != 0 {
         return leaf;
