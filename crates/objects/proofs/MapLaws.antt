@@ -72,56 +72,53 @@ module _ (v : List ℕ) (u : usable v ≡ true) (b : ℕ) where
 
 -- ---- allocation
 
-module _ (x : Input) (s : State) (space bytes o : ℕ) (addresses cur used : List ℕ) (w : ℕ) {number alignment : ℕ} {used′ after : List ℕ} (e : outcome number alignment (record { cur = cur; used = used′ }) after ≡ allocateOf addresses (s .addresses) (x .spaces) (record { space = space; size = bytes; object = o; alignment = s .alignment; word = w }) (record { cur = cur; used = used })) where
-  abbrev want : Request
-  want = record { space = space; size = bytes; object = o; alignment = s .alignment; word = w }
-
+module _ (addresses : List ℕ) (n spaces : ℕ) (want : Request) (cur used : List ℕ) {number alignment : ℕ} {used′ after : List ℕ} (e : outcome number alignment (record { cur = cur; used = used′ }) after ≡ allocateOf addresses n spaces want (record { cur = cur; used = used })) where
   abbrev counters : LegacyAlloc
   counters = record { cur = cur; used = used }
 
-  pub allocated-room : number ≡ 0 → s .addresses < room 5 addresses
-  allocated-room h = allocate-room addresses (s .addresses) (x .spaces) _ _ (sym (ap (λ a. a .number) e) ∙ h)
+  pub allocated-room : number ≡ 0 → n < room 5 addresses
+  allocated-room h = allocate-room addresses n spaces _ _ (sym (ap (λ a. a .number) e) ∙ h)
 
-  as-before : (number ≡ 0 → ⊥) → outcome number alignment (record { cur = cur; used = used′ }) after ≡ outcome (allocateOf addresses (s .addresses) (x .spaces) want counters .number) (s .alignment) counters addresses
-  as-before h = e ∙ allocate-refused addresses (s .addresses) (x .spaces) _ _ (λ z. h (ap (λ a. a .number) e ∙ z))
+  as-before : (number ≡ 0 → ⊥) → outcome number alignment (record { cur = cur; used = used′ }) after ≡ outcome (allocateOf addresses n spaces want counters .number) (want .alignment) counters addresses
+  as-before h = e ∙ allocate-refused addresses n spaces _ _ (λ z. h (ap (λ a. a .number) e ∙ z))
 
-  refused-table : (number ≡ 0 → ⊥) → after ≡ addresses
+  pub refused-table : (number ≡ 0 → ⊥) → after ≡ addresses
   refused-table h = ap (λ a. a .table) (as-before h)
 
-  refused-used : (number ≡ 0 → ⊥) → used′ ≡ used
+  pub refused-used : (number ≡ 0 → ⊥) → used′ ≡ used
   refused-used h = ap (λ a. a .alloc .used) (as-before h)
 
   -- the record that was added
   record Row : Type 0 where
     row : List ℕ
     five : length row ≡ 5
-    of-space : getD row 0 0 ≡ space
-    is : after ≡ written addresses (s .addresses) row
+    of-space : getD row 0 0 ≡ want .space
+    is : after ≡ written addresses n row
 
   added-row : number ≡ 0 → Row
-  added-row h = of (subst (λ (a : Outcome). a .number ≡ 0 → (s .addresses < room 5 addresses) × (Shape addresses (s .addresses) (x .spaces) want counters a)) (sym e) (allocate-shape addresses (s .addresses) (x .spaces) want counters) h .1)
+  added-row h = of (subst (λ (a : Outcome). a .number ≡ 0 → (n < room 5 addresses) × (Shape addresses n spaces want counters a)) (sym e) (allocate-shape addresses n spaces want counters) h .1)
     where
-      of : Shape addresses (s .addresses) (x .spaces) want counters (outcome number alignment (record { cur = cur; used = used′ }) after) → Row
-      of (bare a q b) = record { row = addressRow space 0 0 o 0; five = refl; of-space = refl; is = q }
-      of (seated a q b c) = record { row = addressRow space (getD cur space 0) (getD used space 0 + fillToAlign (getD used space 0) (s .alignment) w) o 1; five = refl; of-space = refl; is = q }
+      of : Shape addresses n spaces want counters (outcome number alignment (record { cur = cur; used = used′ }) after) → Row
+      of (bare a q b) = record { row = addressRow (want .space) 0 0 (want .object) 0; five = refl; of-space = refl; is = q }
+      of (seated a q b c) = record { row = addressRow (want .space) (getD cur (want .space) 0) (getD used (want .space) 0 + fillToAlign (getD used (want .space) 0) (want .alignment) (want .word)) (want .object) 1; five = refl; of-space = refl; is = q }
 
   -- what its entering the index asks
-  pub enter-asks : number ≡ 0 → space < 256 → (ix : List ℕ) → Linked addresses (s .addresses) ix → (s .addresses < room 5 after) × (spaceOf after (s .addresses) < 256) × Linked after (s .addresses) ix
+  pub enter-asks : number ≡ 0 → want .space < 256 → (ix : List ℕ) → Linked addresses n ix → (n < room 5 after) × (spaceOf after n < 256) × Linked after n ix
   enter-asks h low ix i =
       let d = added-row h in
       let roomy = allocated-room h in
-      let same : length (written addresses (s .addresses) (d .row)) ≡ length addresses = written-length addresses (d .row) (s .addresses) in
+      let same : length (written addresses n (d .row)) ≡ length addresses = written-length addresses (d .row) n in
       rw (d .is)
-      (omega (arith, same, roomy), rw (new-space addresses (d .row) (s .addresses) (d .five) roomy, d .of-space) low, linked-same addresses _ (s .addresses) ix (λ i l. old-space addresses (d .row) (s .addresses) (d .five) roomy i l) i)
+      (omega (arith, same, roomy), rw (new-space addresses (d .row) n (d .five) roomy, d .of-space) low, linked-same addresses _ n ix (λ i l. old-space addresses (d .row) n (d .five) roomy i l) i)
 
-  module _ (l : Lent) (ew : w ≡ word x) where
-    pub allocated-no : (number ≡ 0 → ⊥) → no number (s .at) (mem s (addressesIs after (countersIs cur used′ l))) ≡ allocate x space bytes o (mem s (addressesIs addresses (countersIs cur used l)))
-    unfolding allocate
-    allocated-no h = rw (← ew, ← e, ne-eqb number 0 h, refused-table h, refused-used h)
+module _ (x : Input) (s : State) (space bytes o : ℕ) (addresses cur used : List ℕ) (w : ℕ) {number alignment : ℕ} {used′ after : List ℕ} (e : outcome number alignment (record { cur = cur; used = used′ }) after ≡ allocateOf addresses (s .addresses) (x .spaces) (record { space = space; size = bytes; object = o; alignment = s .alignment; word = w }) (record { cur = cur; used = used })) (l : Lent) (ew : w ≡ word x) where
+  pub allocated-no : (number ≡ 0 → ⊥) → no number (s .at) (mem s (addressesIs after (countersIs cur used′ l))) ≡ allocate x space bytes o (mem s (addressesIs addresses (countersIs cur used l)))
+  unfolding allocate
+  allocated-no h = rw (← ew, ← e, ne-eqb number 0 h, refused-table addresses (s .addresses) (x .spaces) _ cur used e h, refused-used addresses (s .addresses) (x .spaces) _ cur used e h)
 
-    pub allocated : number ≡ 0 → got tt (withAlloc (table after (s .addresses + 1)) alignment (record { cur = cur; used = used′ }) (mem s (addressesIs addresses (countersIs cur used l)))) ≡ allocate x space bytes o (mem s (addressesIs addresses (countersIs cur used l)))
-    unfolding allocate
-    allocated h = rw (← ew, ← e, eq-eqb number 0 h)
+  pub allocated : number ≡ 0 → got tt (withAlloc (table after (s .addresses + 1)) alignment (record { cur = cur; used = used′ }) (mem s (addressesIs addresses (countersIs cur used l)))) ≡ allocate x space bytes o (mem s (addressesIs addresses (countersIs cur used l)))
+  unfolding allocate
+  allocated h = rw (← ew, ← e, eq-eqb number 0 h)
 
 -- ---- chunk changes
 

@@ -1,6 +1,7 @@
 // What follows an object's map: legacy allocation, the flag of a trusted map, and slot 0.
 use crate::item::push_slot;
 use address_index::links::enter;
+use alloc::legacy_alloc::Placed;
 use alloc::legacy_alloc::Request;
 use alloc::legacy_alloc::allocate;
 use alloc::legacy_alloc::next_chunk;
@@ -25,6 +26,7 @@ ghost use Prim.Native.Nat.{ℕ, _+_, _-_, _*_, _^_, _<_, _≤_};
 ghost use lib.ListN.{length, getD, take, drop};
 ghost use Rattle.sheet.specs.Sheet.{usable};
 ghost use Rattle.tables.specs.Records.{room, field};
+ghost use Rattle.alloc.specs.Allocation.{outcome, allocateOf};
 ghost use Rattle.address_index.specs.Links.{spaceOf, Linked};
 ghost use Rattle.definition.specs.Object.{allocate, chunkChanges};
 ghost use Rattle.readers.specs.Views.{Lent, input, mem, seenWent, objectsIs, slotsIs, addressesIs, countersIs};
@@ -40,6 +42,29 @@ fn enter_record(addresses: &[u64], scratch: &mut [u64], size: usize, n: usize)
     if size <= scratch.len() {
         enter(addresses, &mut scratch[size..], n);
     }
+}
+
+// Address record n and its entry in the index, which is in the second part of scratch, from `size` on; where it is refused, nothing changes.
+pub fn allocate_record(
+    addresses: &mut [u64],
+    scratch: &mut [u64],
+    size: usize,
+    cur: &[u32; 256],
+    used: &mut [u32; 256],
+    spaces: u64,
+    n: usize,
+    want: Request,
+) -> Placed
+    requires { ⌜ (want .space < 256) × (want .word ≤ 8) × Linked (now addresses) n (drop size (now scratch)) ⌝ }
+    ensures { λ r. ⌜ outcome (r .number) (r .alignment) (record { cur = now (cur .entry); used = now (used .exit) }) (now (addresses .exit)) ≡ allocateOf (now (addresses .entry)) n spaces want (record { cur = now (cur .entry); used = now (used .entry) }) ⌝ }
+    ensures linked { λ r. ⌜ (r .number ≡ 0 → Linked (now (addresses .exit)) (n + 1) (drop size (now (scratch .exit)))) ⌝ }
+    ensures front { λ _. ⌜ take size (now (scratch .exit)) ≡ take size (now (scratch .entry)) ⌝ }
+{
+    let placed = allocate(cur, used, addresses, n, spaces, want);
+    if placed.number == 0 {
+        enter_record(addresses, scratch, size, n);
+    }
+    placed
 }
 
 // An address record of object o, and its entry in the index.
@@ -71,11 +96,10 @@ fn allocate_object(
     };
     let n = s.addresses;
     let at = s.at;
-    let placed = allocate(cur, used, addresses, n, spaces, want);
+    let placed = allocate_record(addresses, scratch, size, cur, used, spaces, n, want);
     if placed.number != 0 {
         return Went::Refused(placed.number, at, s);
     }
-    enter_record(addresses, scratch, size, n);
     let mut t = s;
     t.addresses = n + 1;
     t.alignment = placed.alignment;
