@@ -1,11 +1,12 @@
 -- Leaves at each way out of the code. Assumes nothing.
 use mathlib.Core.Path.{_≡_, refl, sym, ap, subst, _∙_}
-use mathlib.Core.Bool.{true, false}
+use mathlib.Core.Bool.{Bool, true, false}
 use mathlib.Core.List.{List}
 use Prim.Native.Nat.{ℕ, _+_, _*_, _^_, _<_, _≤_}
 use native.Mathlib.Nat.{mul-le-mul, le-of-lt}
 use native.Mathlib.Omega.{arith}
-use lib.ListN.{getD, set}
+use borrow.Author.Tests.{lt-ltb}
+use lib.ListN.{length, getD, set}
 use Rattle.stream.specs.declared.bytes.Range.the-variants.{To as RangeTo}
 use Rattle.stream.specs.Bytes.{rawAt}
 use Rattle.stream.specs.declared.putint.Int.the-variants.{Is as IntIs}
@@ -17,7 +18,7 @@ use Rattle.tables.specs.declared.values.Ref.the-variants.{Object, Root, RoRef, 
 use Rattle.tables.specs.declared.values.SlotValue.{SlotValue}
 use Rattle.tables.specs.declared.values.SlotValue.the-variants.{Ref as IsRef, Raw as IsRaw}
 use Rattle.tables.specs.Values.{refFields, triple}
-use Rattle.tables.specs.Records.{room, field, slotRow, written}
+use Rattle.tables.specs.Records.{room, field, slotRow, written, pickTable, Put}
 use Rattle.backref.specs.declared.hot_ring.Hot.the-variants.{Is as HotIs}
 use Rattle.backref.specs.HotRing.{entered, hotAt}
 use Rattle.backref.specs.declared.legacy.Backref.{Backref}
@@ -144,6 +145,10 @@ legacy-found v p dt hots objects n alignment ts at space {b} e r next k leaf q e
     rw ek (entering-stands x tag 3 space s (hotIs hots l) r next ts leaf (q h .0) (q h .1) ew (λ inner. legacy-to x space m g (rw k refl) k))
 
 -- ---- its slot
+
+-- a record for which there is room is put
+pub room-put : {t : List ℕ} {n : ℕ} {row : List ℕ} {r : Bool} {after : List ℕ} → Put t n row r after → n < room (length row) t → after ≡ written t n row
+room-put {t} {n} {row} p b = p .table ∙ ap (λ b. pickTable b (written t n row) t) (lt-ltb n (room (length row) t) b)
 
 -- where no leaf was found, or its record had no room, all stays
 pub none-placed : (n o index : ℕ) (r : Leaf) (objects slots hot : List ℕ) → r .kind ≡ 0 → {slots′ : List ℕ} → slots′ ≡ slots → Placed n o index r objects slots hot objects slots′ hot

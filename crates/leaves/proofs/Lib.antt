@@ -1,2 +1,3 @@
 pub mod LeafLaws
 pub mod OpeningLaws
+pub mod WeakLaws

@@ -46,7 +46,7 @@ stepped r s =
     record { at = r .next; objects = s .objects; slots = s .slots + 1; values = s .values; addresses = s .addresses; pending = s .pending; waiting = s .waiting; skip = 0; alignment = s .alignment }
 
 -- a leaf's slot is that of an item with its value
-leaf-kept : (x : Input) (o done : ℕ) (s : State) (l : Lent) (r : Leaf) (v : SlotValue) {w : ℕ} → word x ≡ w → triple (r .kind) (r .a) (r .b) ≡ fieldsOf v → r .width ≡ widthOf w v → 0 ≡ waitsOf v → s .slots < room 6 (l .slots) → {ot st : List ℕ} → st ≡ written (l .slots) (s .slots) (slotRow o ((done + s .skip) / w) (triple (r .kind) (r .a) (r .b)) 0) → ot ≡ set (l .objects) (o * 4 + 3) (field 4 (l .objects) o 3 + 1)
+pub leaf-kept : (x : Input) (o done : ℕ) (s : State) (l : Lent) (r : Leaf) (v : SlotValue) {w : ℕ} → word x ≡ w → triple (r .kind) (r .a) (r .b) ≡ fieldsOf v → r .width ≡ widthOf w v → 0 ≡ waitsOf v → s .slots < room 6 (l .slots) → {ot st : List ℕ} → st ≡ written (l .slots) (s .slots) (slotRow o ((done + s .skip) / w) (triple (r .kind) (r .a) (r .b)) 0) → ot ≡ set (l .objects) (o * 4 + 3) (field 4 (l .objects) o 3 + 1)
     → got (done + s .skip + r .width) (mem (stepped r s) (objectsIs ot (slotsIs st l))) ≡ keepItem x o done v (mem (after r s) l)
 unfolding keepItem addSlot
 leaf-kept x o done s l r v ew ef eb ez b es eo =

@@ -6,3 +6,4 @@ pub mod ObjectLaws
 pub mod ReferenceLaws
 pub mod LeafLaws
 pub mod OpeningLaws
+pub mod WeakLaws

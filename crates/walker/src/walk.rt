@@ -5,6 +5,7 @@
 use leaves::leaf::leaf_at;
 use leaves::leaf::open_leaf;
 use leaves::leaf::place_leaf;
+use leaves::leaf::place_weak;
 use leaves::leaf::take_leaf;
 use objects::head::open_object;
 use objects::item::place_item;
@@ -404,7 +405,8 @@ fn parse_items(
     }
 }
 
-// An item of object o, `done` bytes of which have been read: the bytes read then.
+// An item of object o, `done` bytes of which have been read: the bytes read then. A weak reference to one of the commonest references needs no
+// call of the cycle.
 fn parse_slot(
     v: &[u16],
     h: &[u16; 512],
@@ -430,8 +432,37 @@ fn parse_slot(
     ensures index { λ r. ⌜ OutIndex (length (now (p .entry))) (seenCount r (lent (now (ot .exit)) (now (st .exit)) (now (vt .exit)) (now (dt .exit)) (now (hr .exit)) (now (c .exit)) (now (u .exit)))) (now (sc .exit)) ⌝ }
 {
     let word = word_bytes(v);
+    let at = s.at;
+    let count = s.objects;
+    let i = s.slots;
+    let n = s.values;
+    let start = done + s.skip;
+    let leaf = place_weak(
+        h,
+        p,
+        ot,
+        st,
+        vt,
+        hr,
+        at,
+        count,
+        i,
+        n,
+        o,
+        start / word,
+        word,
+        d,
+    );
+    if leaf.kind != 0 {
+        let mut t = s;
+        t.at = leaf.next;
+        t.slots = i + 1;
+        t.values = n + 1;
+        t.skip = 0;
+        return Count::Is(start + word, t);
+    }
     match parse_below(v, h, tr, p, ot, st, vt, dt, hr, c, u, sc, k, s, d) {
-        Step::Refused(n, q, t) => Count::Refused(n, q, t),
+        Step::Refused(m, q, t) => Count::Refused(m, q, t),
         Step::Got(x, t) => place_item(ot, st, vt, sc, p.len(), t, o, done, x, word),
     }
 }

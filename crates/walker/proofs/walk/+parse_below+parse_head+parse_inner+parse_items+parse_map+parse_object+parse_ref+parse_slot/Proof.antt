@@ -60,12 +60,13 @@ use Rattle.walker.proofs.walk.+parse_below+parse_head+parse_inner+parse
 use Rattle.walker.proofs.walk.+parse_below+parse_head+parse_inner+parse_items+parse_map+parse_object+parse_ref+parse_slot.Proof.Head.{parse-head-word-bytes-requires, parse-head-open-leaf-requires, parse-head-add-t, parse-head-add-t-2, parse-head-mul-t41, parse-head-same-length, parse-head-same-length-2, parse-head-returns, parse-head-open-object-requires, parse-head-enum-known-m, parse-head-enum-known-words, parse-head-mul-n, parse-head-parse-map-requires, parse-head-enum-known-m-2, parse-head-enum-known-y, parse-head-same-length-3, parse-head-same-length-4, parse-head-returns-2, parse-head-same-length-5, parse-head-same-length-6, parse-head-same-length-7, parse-head-same-length-8, parse-head-same-length-9, parse-head-returns-3, parse-head-same-length-10, parse-head-same-length-11, parse-head-same-length-12, parse-head-same-length-13, parse-head-same-length-14, parse-head-returns-4}
 use Rattle.walker.proofs.walk.+parse_below+parse_head+parse_inner+parse_items+parse_map+parse_object+parse_ref+parse_slot.Proof.Below.{parse-below-byte-requires, parse-below-mul-kind, parse-below-element-copy-out-kind, parse-below-cast-kind, parse-below-add-a, parse-below-mul-a, parse-below-element-copy-out-a, parse-below-cast-a, parse-below-add-t, parse-below-add-parse-object, parse-below-parse-object-requires, parse-below-same-length, parse-below-same-length-2, parse-below-same-length-3, parse-below-same-length-4, parse-below-same-length-5, parse-below-returns, parse-below-add-parse-ref, parse-below-parse-ref-requires, parse-below-same-length-6, parse-below-same-length-7, parse-below-same-length-8, parse-below-same-length-9, parse-below-same-length-10, parse-below-returns-2}
 use Rattle.walker.proofs.walk.+parse_below+parse_head+parse_inner+parse_items+parse_map+parse_object+parse_ref+parse_slot.Proof.Reference.{parse-ref-returns, parse-ref-returns-2, parse-ref-byte-requires, parse-ref-mul-kind, parse-ref-element-copy-out-kind, parse-ref-cast-kind, parse-ref-add-a, parse-ref-mul-a, parse-ref-element-copy-out-a, parse-ref-cast-a, parse-ref-add-t, parse-ref-parse-object-requires, parse-ref-same-length, parse-ref-same-length-2, parse-ref-same-length-3, parse-ref-same-length-4, parse-ref-same-length-5, parse-ref-returns-3, parse-ref-begin-requires, parse-ref-enum-told, parse-ref-simple-ref-requires, parse-ref-enum-known-n, parse-ref-enum-known-held, parse-ref-hold-requires, parse-ref-enum-known-held-2, parse-ref-parse-inner-requires, parse-ref-enum-known-inner, parse-ref-enum-known-inner-2, parse-ref-hold-requires-2, parse-ref-same-length-6, parse-ref-same-length-7, parse-ref-returns-4, parse-ref-returns-5, parse-ref-same-length-8, parse-ref-returns-6, parse-ref-same-length-9, parse-ref-same-length-10, parse-ref-same-length-11, parse-ref-same-length-12, parse-ref-same-length-13, parse-ref-returns-7, parse-ref-same-length-14, parse-ref-same-length-15, parse-ref-same-length-16, parse-ref-same-length-17, parse-ref-same-length-18, parse-ref-returns-8}
-use Rattle.walker.proofs.walk.+parse_below+parse_head+parse_inner+parse_items+parse_map+parse_object+parse_ref+parse_slot.Proof.Slot.{parse-slot-word-bytes-requires, parse-slot-parse-below-requires, parse-slot-enum-known-n, parse-slot-enum-known-x, parse-slot-place-item-requires, parse-slot-same-length, parse-slot-same-length-2, parse-slot-same-length-3, parse-slot-same-length-4, parse-slot-same-length-5, parse-slot-returns, parse-slot-same-length-6, parse-slot-same-length-7, parse-slot-same-length-8, parse-slot-same-length-9, parse-slot-same-length-10, parse-slot-returns-2}
+use Rattle.walker.proofs.walk.+parse_below+parse_head+parse_inner+parse_items+parse_map+parse_object+parse_ref+parse_slot.Proof.Slot.{parse-slot-word-bytes-requires, parse-slot-add-start, parse-slot-div-place-weak, parse-slot-place-weak-requires, parse-slot-add-t, parse-slot-add-t-2, parse-slot-add-t40, parse-slot-same-length, parse-slot-same-length-2, parse-slot-same-length-3, parse-slot-returns, parse-slot-parse-below-requires, parse-slot-enum-known-m, parse-slot-enum-known-x, parse-slot-place-item-requires, parse-slot-same-length-4, parse-slot-same-length-5, parse-slot-same-length-6, parse-slot-same-length-7, parse-slot-same-length-8, parse-slot-returns-2, parse-slot-same-length-9, parse-slot-same-length-10, parse-slot-same-length-11, parse-slot-same-length-12, parse-slot-same-length-13, parse-slot-returns-3}
 use Rattle.walker.proofs.walk.parse_head.Reads as parse-head
 use Rattle.walker.proofs.walk.+parse_below+parse_head+parse_inner+parse_items+parse_map+parse_object+parse_ref+parse_slot.Lts-parse_head as parse-head-lts
 use Rattle.leaves.proofs.leaf.open_leaf.Reads as open-leaf-reads
 use Rattle.walker.proofs.walk.parse_below.Reads as parse-below
 use Rattle.walker.proofs.walk.+parse_below+parse_head+parse_inner+parse_items+parse_map+parse_object+parse_ref+parse_slot.Lts-parse_below as parse-below-lts
+use Rattle.leaves.proofs.leaf.place_weak.Reads as place-weak-reads
 
 pub +parse-below+parse-head+parse-inner+parse-items+parse-map+parse-object+parse-ref+parse-slot-spec : {M : Type 1} → statement M
 +parse-below+parse-head+parse-inner+parse-items+parse-map+parse-object+parse-ref+parse-slot-spec =
@@ -368,6 +369,8 @@ pub +parse-below+parse-head+parse-inner+parse-items+parse-map+parse-object+parse
     λ t. parse-slot-lts.spec (
       word-bytes-reads.Asked,
       word-bytes-reads.Learnt,
+      place-weak-reads.Asked,
+      place-weak-reads.Learnt,
       parse-below-below t,
       parse-below.Post,
       place-item-reads.Asked,
@@ -376,19 +379,29 @@ pub +parse-below+parse-head+parse-inner+parse-items+parse-map+parse-object+parse
     (parse-slot-at t)
     parse-slot.Post
     (parse-slot-word-bytes-requires t)
-    (parse-slot-parse-below-requires t)
-    (parse-slot-enum-known-n t)
-    (parse-slot-enum-known-x t)
-    (parse-slot-place-item-requires t)
+    (parse-slot-add-start t)
+    (parse-slot-div-place-weak t)
+    (parse-slot-place-weak-requires t)
+    (parse-slot-add-t t)
+    (parse-slot-add-t-2 t)
+    (parse-slot-add-t40 t)
     (parse-slot-same-length t)
     (parse-slot-same-length-2 t)
     (parse-slot-same-length-3 t)
+    (parse-slot-returns t)
+    (parse-slot-parse-below-requires t)
+    (parse-slot-enum-known-m t)
+    (parse-slot-enum-known-x t)
+    (parse-slot-place-item-requires t)
     (parse-slot-same-length-4 t)
     (parse-slot-same-length-5 t)
-    (parse-slot-returns t)
     (parse-slot-same-length-6 t)
     (parse-slot-same-length-7 t)
     (parse-slot-same-length-8 t)
+    (parse-slot-returns-2 t)
     (parse-slot-same-length-9 t)
     (parse-slot-same-length-10 t)
-    (parse-slot-returns-2 t)
+    (parse-slot-same-length-11 t)
+    (parse-slot-same-length-12 t)
+    (parse-slot-same-length-13 t)
+    (parse-slot-returns-3 t)

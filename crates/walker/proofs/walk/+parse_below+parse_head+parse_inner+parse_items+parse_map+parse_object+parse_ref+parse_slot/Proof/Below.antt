@@ -12,7 +12,7 @@ use Rattle.walker.proofs.ReadyLaws.{moved-ready}
 use Rattle.walker.proofs.ReferenceLaws.{kind-low, argument-low, space-low, ref-object}
 use Rattle.walker.proofs.walk.+parse_below+parse_head+parse_inner+parse_items+parse_map+parse_object+parse_ref+parse_slot.Proof.Common.{parse-below-at, parse-object-below, parse-ref-below}
 
--- src/walk.rt:151:21
+-- src/walk.rt:152:21
 pub parse-below-byte-requires : (t : ℕ) → parse-below-lts.Need-byte-requires (
   byte-reads.Asked,
   byte-reads.Learnt,
@@ -23,7 +23,7 @@ pub parse-below-byte-requires : (t : ℕ) → parse-below-lts.Need-byte-requires
 ) (parse-below-at t) parse-below.Post
 parse-below-byte-requires t c κs = omega (arith, c .if2 .taken)
 
--- src/walk.rt:152:24
+-- src/walk.rt:153:24
 pub parse-below-mul-kind : (t : ℕ) → parse-below-lts.Need-mul-kind (
   byte-reads.Asked,
   byte-reads.Learnt,
@@ -34,7 +34,7 @@ pub parse-below-mul-kind : (t : ℕ) → parse-below-lts.Need-mul-kind (
 ) (parse-below-at t) parse-below.Post
 parse-below-mul-kind t c = search needs
 
--- src/walk.rt:152:24
+-- src/walk.rt:153:24
 pub parse-below-element-copy-out-kind : (t : ℕ) → parse-below-lts.Need-element-copy-out-kind (
   byte-reads.Asked,
   byte-reads.Learnt,
@@ -45,7 +45,7 @@ pub parse-below-element-copy-out-kind : (t : ℕ) → parse-below-lts.Need-eleme
 ) (parse-below-at t) parse-below.Post
 parse-below-element-copy-out-kind t c = search needs
 
--- src/walk.rt:152:24
+-- src/walk.rt:153:24
 pub parse-below-cast-kind : (t : ℕ) → parse-below-lts.Need-cast-kind (
   byte-reads.Asked,
   byte-reads.Learnt,
@@ -56,7 +56,7 @@ pub parse-below-cast-kind : (t : ℕ) → parse-below-lts.Need-cast-kind (
 ) (parse-below-at t) parse-below.Post
 parse-below-cast-kind t c = record { fits = kind-low (c .before .before .before .before .before .before .before .before .before .before .before .before .pre .1 .0) _ (c .before .byte .ensures .1) }
 
--- src/walk.rt:154:27
+-- src/walk.rt:155:27
 pub parse-below-add-a : (t : ℕ) → parse-below-lts.Need-add-a (
   byte-reads.Asked,
   byte-reads.Learnt,
@@ -67,7 +67,7 @@ pub parse-below-add-a : (t : ℕ) → parse-below-lts.Need-add-a (
 ) (parse-below-at t) parse-below.Post
 parse-below-add-a t c = search needs
 
--- src/walk.rt:154:25
+-- src/walk.rt:155:25
 pub parse-below-mul-a : (t : ℕ) → parse-below-lts.Need-mul-a (
   byte-reads.Asked,
   byte-reads.Learnt,
@@ -78,7 +78,7 @@ pub parse-below-mul-a : (t : ℕ) → parse-below-lts.Need-mul-a (
 ) (parse-below-at t) parse-below.Post
 parse-below-mul-a t c = search needs
 
--- src/walk.rt:154:25
+-- src/walk.rt:155:25
 pub parse-below-element-copy-out-a : (t : ℕ) → parse-below-lts.Need-element-copy-out-a (
   byte-reads.Asked,
   byte-reads.Learnt,
@@ -89,7 +89,7 @@ pub parse-below-element-copy-out-a : (t : ℕ) → parse-below-lts.Need-element-
 ) (parse-below-at t) parse-below.Post
 parse-below-element-copy-out-a t c = search needs
 
--- src/walk.rt:154:25
+-- src/walk.rt:155:25
 pub parse-below-cast-a : (t : ℕ) → parse-below-lts.Need-cast-a (
   byte-reads.Asked,
   byte-reads.Learnt,
@@ -100,7 +100,7 @@ pub parse-below-cast-a : (t : ℕ) → parse-below-lts.Need-cast-a (
 ) (parse-below-at t) parse-below.Post
 parse-below-cast-a t c = record { fits = omega (arith, argument-low (c .before .before .before .before .before .before .before .before .before .before .before .before .before .before .pre .1 .0) (c .before .before .before .before .if2 .taken) _ (c .before .before .before .byte .ensures)) }
 
--- src/walk.rt:156:24
+-- src/walk.rt:157:24
 pub parse-below-add-t : (t : ℕ) → parse-below-lts.Need-add-t (
   byte-reads.Asked,
   byte-reads.Learnt,
@@ -111,7 +111,7 @@ pub parse-below-add-t : (t : ℕ) → parse-below-lts.Need-add-t (
 ) (parse-below-at t) parse-below.Post
 parse-below-add-t t c = search needs
 
--- src/walk.rt:172:21
+-- src/walk.rt:173:21
 pub parse-below-add-parse-object : (t : ℕ) → parse-below-lts.Need-add-parse-object (
   byte-reads.Asked,
   byte-reads.Learnt,
@@ -122,7 +122,7 @@ pub parse-below-add-parse-object : (t : ℕ) → parse-below-lts.Need-add-parse-
 ) (parse-below-at t) parse-below.Post
 parse-below-add-parse-object t c = omega (arith, c .before .before .before .before .before .before .before .before .before .before .before .before .before .if1 .taken)
 
--- src/walk.rt:157:17
+-- src/walk.rt:158:17
 pub parse-below-parse-object-requires : (t : ℕ) → parse-below-lts.Need-parse-object-requires (
   byte-reads.Asked,
   byte-reads.Learnt,
@@ -133,7 +133,7 @@ pub parse-below-parse-object-requires : (t : ℕ) → parse-below-lts.Need-parse
 ) (parse-below-at t) parse-below.Post
 parse-below-parse-object-requires t c κs = (omega (arith, c .before .before .before .before .before .before .before .before .before .before .before .before .before .before .before .before .before .before .before .before .before .before .pre .0, c .before .before .before .before .before .before .before .before .before .before .before .before .before .if1 .taken), (moved-ready (c .before .before .before .before .before .before .before .before .before .before .before .before .before .before .before .before .before .before .before .before .before .before .pre .1 .0) (c .before .before .before .before .before .before .before .before .before .before .before .before .if2 .taken), (omega (arith, c .before .before .before .before .before .before .before .before .before .before .before .before .before .if1 .taken), space-low (c .before .before .before .before .before .before .before .before .before .before .before .before .before .before .before .before .before .before .before .before .before .before .pre .1 .0) (c .before .before .before .before .before .before .before .before .before .before .before .before .if2 .taken) _ (c .before .before .before .before .before .before .before .before .before .before .before .byte .ensures) (c .before .before .before .before .before .before .before .before .before .if3 .taken))))
 
--- src/walk.rt:157:17
+-- src/walk.rt:158:17
 pub parse-below-same-length : (t : ℕ) → parse-below-lts.Need-same-length (
   byte-reads.Asked,
   byte-reads.Learnt,
@@ -144,7 +144,7 @@ pub parse-below-same-length : (t : ℕ) → parse-below-lts.Need-same-length (
 ) (parse-below-at t) parse-below.Post
 parse-below-same-length t c = search needs
 
--- src/walk.rt:157:17
+-- src/walk.rt:158:17
 pub parse-below-same-length-2 : (t : ℕ) → parse-below-lts.Need-same-length-2 (
   byte-reads.Asked,
   byte-reads.Learnt,
@@ -155,7 +155,7 @@ pub parse-below-same-length-2 : (t : ℕ) → parse-below-lts.Need-same-length-2
 ) (parse-below-at t) parse-below.Post
 parse-below-same-length-2 t c = search needs
 
--- src/walk.rt:157:17
+-- src/walk.rt:158:17
 pub parse-below-same-length-3 : (t : ℕ) → parse-below-lts.Need-same-length-3 (
   byte-reads.Asked,
   byte-reads.Learnt,
@@ -166,7 +166,7 @@ pub parse-below-same-length-3 : (t : ℕ) → parse-below-lts.Need-same-length-3
 ) (parse-below-at t) parse-below.Post
 parse-below-same-length-3 t c = search needs
 
--- src/walk.rt:157:17
+-- src/walk.rt:158:17
 pub parse-below-same-length-4 : (t : ℕ) → parse-below-lts.Need-same-length-4 (
   byte-reads.Asked,
   byte-reads.Learnt,
@@ -177,7 +177,7 @@ pub parse-below-same-length-4 : (t : ℕ) → parse-below-lts.Need-same-length-4
 ) (parse-below-at t) parse-below.Post
 parse-below-same-length-4 t c = search needs
 
--- src/walk.rt:157:17
+-- src/walk.rt:158:17
 pub parse-below-same-length-5 : (t : ℕ) → parse-below-lts.Need-same-length-5 (
   byte-reads.Asked,
   byte-reads.Learnt,
@@ -188,7 +188,7 @@ pub parse-below-same-length-5 : (t : ℕ) → parse-below-lts.Need-same-length-5
 ) (parse-below-at t) parse-below.Post
 parse-below-same-length-5 t c = search needs
 
--- src/walk.rt:157:17
+-- src/walk.rt:158:17
 pub parse-below-returns : (t : ℕ) → parse-below-lts.Need-returns (
   byte-reads.Asked,
   byte-reads.Learnt,
@@ -199,7 +199,7 @@ pub parse-below-returns : (t : ℕ) → parse-below-lts.Need-returns (
 ) (parse-below-at t) parse-below.Post
 parse-below-returns t c = let w = ref-object (c .before .before .before .before .before .before .before .before .before .before .before .before .before .before .before .before .before .before .before .before .before .before .before .before .before .before .before .before .before .before .before .before .before .pre .1 .0) (c .before .before .before .before .before .before .before .before .before .before .before .before .before .before .before .before .before .before .before .before .before .before .before .if2 .taken) _ (c .before .before .before .before .before .before .before .before .before .before .before .before .before .before .before .before .before .before .before .before .before .before .byte .ensures) (c .before .before .before .before .before .before .before .before .before .before .before .before .before .before .before .before .before .before .before .before .before .before .before .before .before .before .before .before .before .before .before .before .before .args .d + 1) (omega (arith, c .before .before .before .before .before .before .before .before .before .before .before .before .before .before .before .before .before .before .before .before .before .before .before .before .if1 .taken)) (c .before .before .before .before .before .before .before .before .before .before .before .before .before .before .before .before .before .before .before .before .if3 .taken) in (c .before .before .before .before .before .before .before .before .before .before .parse-object .ensures .0 ∙ w, c .before .before .before .before .before .before .before .before .before .before .parse-object .ensures .1)
 
--- src/walk.rt:179:64
+-- src/walk.rt:180:64
 pub parse-below-add-parse-ref : (t : ℕ) → parse-below-lts.Need-add-parse-ref (
   byte-reads.Asked,
   byte-reads.Learnt,
@@ -210,7 +210,7 @@ pub parse-below-add-parse-ref : (t : ℕ) → parse-below-lts.Need-add-parse-ref
 ) (parse-below-at t) parse-below.Post
 parse-below-add-parse-ref t c = omega (arith, c .before .before .before .before .before .before .before .before .before .before .before .before .before .before .before .before .before .pre .1 .1)
 
--- src/walk.rt:179:5
+-- src/walk.rt:180:5
 pub parse-below-parse-ref-requires : (t : ℕ) → parse-below-lts.Need-parse-ref-requires (
   byte-reads.Asked,
   byte-reads.Learnt,
@@ -221,7 +221,7 @@ pub parse-below-parse-ref-requires : (t : ℕ) → parse-below-lts.Need-parse-re
 ) (parse-below-at t) parse-below.Post
 parse-below-parse-ref-requires t c κs = (omega (arith, c .before .before .before .before .before .before .before .before .before .before .before .before .before .before .before .before .before .pre .0, c .before .before .before .before .before .before .before .before .before .before .before .before .before .before .before .before .before .pre .1 .1), (c .before .before .before .before .before .before .before .before .before .before .before .before .before .before .before .before .before .pre .1 .0, omega (arith, c .before .before .before .before .before .before .before .before .before .before .before .before .before .before .before .before .before .pre .1 .1)))
 
--- src/walk.rt:126:1
+-- src/walk.rt:127:1
 pub parse-below-same-length-6 : (t : ℕ) → parse-below-lts.Need-same-length-6 (
   byte-reads.Asked,
   byte-reads.Learnt,
@@ -232,7 +232,7 @@ pub parse-below-same-length-6 : (t : ℕ) → parse-below-lts.Need-same-length-6
 ) (parse-below-at t) parse-below.Post
 parse-below-same-length-6 t c = search needs
 
--- src/walk.rt:126:1
+-- src/walk.rt:127:1
 pub parse-below-same-length-7 : (t : ℕ) → parse-below-lts.Need-same-length-7 (
   byte-reads.Asked,
   byte-reads.Learnt,
@@ -243,7 +243,7 @@ pub parse-below-same-length-7 : (t : ℕ) → parse-below-lts.Need-same-length-7
 ) (parse-below-at t) parse-below.Post
 parse-below-same-length-7 t c = search needs
 
--- src/walk.rt:126:1
+-- src/walk.rt:127:1
 pub parse-below-same-length-8 : (t : ℕ) → parse-below-lts.Need-same-length-8 (
   byte-reads.Asked,
   byte-reads.Learnt,
@@ -254,7 +254,7 @@ pub parse-below-same-length-8 : (t : ℕ) → parse-below-lts.Need-same-length-8
 ) (parse-below-at t) parse-below.Post
 parse-below-same-length-8 t c = search needs
 
--- src/walk.rt:126:1
+-- src/walk.rt:127:1
 pub parse-below-same-length-9 : (t : ℕ) → parse-below-lts.Need-same-length-9 (
   byte-reads.Asked,
   byte-reads.Learnt,
@@ -265,7 +265,7 @@ pub parse-below-same-length-9 : (t : ℕ) → parse-below-lts.Need-same-length-9
 ) (parse-below-at t) parse-below.Post
 parse-below-same-length-9 t c = search needs
 
--- src/walk.rt:126:1
+-- src/walk.rt:127:1
 pub parse-below-same-length-10 : (t : ℕ) → parse-below-lts.Need-same-length-10 (
   byte-reads.Asked,
   byte-reads.Learnt,
@@ -276,7 +276,7 @@ pub parse-below-same-length-10 : (t : ℕ) → parse-below-lts.Need-same-length-
 ) (parse-below-at t) parse-below.Post
 parse-below-same-length-10 t c = search needs
 
--- src/walk.rt:126:1
+-- src/walk.rt:127:1
 pub parse-below-returns-2 : (t : ℕ) → parse-below-lts.Need-returns-2 (
   byte-reads.Asked,
   byte-reads.Learnt,

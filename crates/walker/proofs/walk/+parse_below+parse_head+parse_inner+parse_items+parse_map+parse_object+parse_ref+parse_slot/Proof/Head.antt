@@ -21,7 +21,7 @@ use Rattle.sheet.proofs.numbers.word_bytes.Reads as word-bytes-reads
 use Rattle.walker.specs.Ready.{lent}
 use Rattle.walker.proofs.walk.+parse_below+parse_head+parse_inner+parse_items+parse_map+parse_object+parse_ref+parse_slot.Proof.Common.{parse-head-at, parse-map-below}
 
--- src/walk.rt:263:9
+-- src/walk.rt:264:9
 pub parse-head-word-bytes-requires : (t : ℕ) → parse-head-lts.Need-word-bytes-requires (
   word-bytes-reads.Asked,
   word-bytes-reads.Learnt,
@@ -34,7 +34,7 @@ pub parse-head-word-bytes-requires : (t : ℕ) → parse-head-lts.Need-word-byte
 ) (parse-head-at t) parse-head.Post
 parse-head-word-bytes-requires t c κs = tt
 
--- src/walk.rt:264:9
+-- src/walk.rt:265:9
 pub parse-head-open-leaf-requires : (t : ℕ) → parse-head-lts.Need-open-leaf-requires (
   word-bytes-reads.Asked,
   word-bytes-reads.Learnt,
@@ -47,7 +47,7 @@ pub parse-head-open-leaf-requires : (t : ℕ) → parse-head-lts.Need-open-leaf-
 ) (parse-head-at t) parse-head.Post
 parse-head-open-leaf-requires t c κs = let g = c .before .before .before .before .before .before .before .before .before .before .before .before .pre .1 in (leaf-asks (g .0) _ (c .before .before .before .word-bytes .ensures .0), omega (arith, g .0 .sound .objects-fit, c .before .before .before .before .before .before .before .before .before .before .before .before .good .1 .1 .1 .1 .0 .0))
 
--- src/walk.rt:269:21
+-- src/walk.rt:270:21
 pub parse-head-add-t : (t : ℕ) → parse-head-lts.Need-add-t (
   word-bytes-reads.Asked,
   word-bytes-reads.Learnt,
@@ -60,7 +60,7 @@ pub parse-head-add-t : (t : ℕ) → parse-head-lts.Need-add-t (
 ) (parse-head-at t) parse-head.Post
 parse-head-add-t t c = omega (arith, c .before .before .before .before .before .before .before .before .before .before .before .before .before .before .before .before .before .before .before .before .pre .1 .0 .sound .objects-fit, c .before .before .before .before .before .before .before .before .before .before .before .before .before .before .before .before .before .before .before .before .good .1 .1 .1 .1 .0 .0)
 
--- src/walk.rt:270:19
+-- src/walk.rt:271:19
 pub parse-head-add-t-2 : (t : ℕ) → parse-head-lts.Need-add-t-2 (
   word-bytes-reads.Asked,
   word-bytes-reads.Learnt,
@@ -73,7 +73,7 @@ pub parse-head-add-t-2 : (t : ℕ) → parse-head-lts.Need-add-t-2 (
 ) (parse-head-at t) parse-head.Post
 parse-head-add-t-2 t c = omega (arith, c .before .before .before .before .before .before .before .before .before .before .before .before .before .before .before .before .before .before .before .before .pre .1 .0 .sound .slots-fit, c .before .before .before .before .before .before .before .before .before .before .before .before .before .before .before .before .before .before .before .before .good .1 .1 .1 .1 .1 .0 .0)
 
--- src/walk.rt:271:26
+-- src/walk.rt:272:26
 pub parse-head-mul-t41 : (t : ℕ) → parse-head-lts.Need-mul-t41 (
   word-bytes-reads.Asked,
   word-bytes-reads.Learnt,
@@ -86,7 +86,7 @@ pub parse-head-mul-t41 : (t : ℕ) → parse-head-lts.Need-mul-t41 (
 ) (parse-head-at t) parse-head.Post
 parse-head-mul-t41 t c = let b = bytes-small _ (c .before .before .before .before .before .before .before .before .before .before .before .before .before .before .before .before .before .before .before .before .before .pre .1 .0 .proper .sheet-usable) (c .before .before .before .before .before .before .before .before .before .before .before .before .word-bytes .ensures .0) (c .before .before .before .before .before .before .before .before .open-leaf .ensures .1 (c .before .if1 .taken) .1 .small) in omega (arith, b)
 
--- src/walk.rt:271:9
+-- src/walk.rt:272:9
 pub parse-head-same-length : (t : ℕ) → parse-head-lts.Need-same-length (
   word-bytes-reads.Asked,
   word-bytes-reads.Learnt,
@@ -99,7 +99,7 @@ pub parse-head-same-length : (t : ℕ) → parse-head-lts.Need-same-length (
 ) (parse-head-at t) parse-head.Post
 parse-head-same-length t c = search needs
 
--- src/walk.rt:271:9
+-- src/walk.rt:272:9
 pub parse-head-same-length-2 : (t : ℕ) → parse-head-lts.Need-same-length-2 (
   word-bytes-reads.Asked,
   word-bytes-reads.Learnt,
@@ -112,7 +112,7 @@ pub parse-head-same-length-2 : (t : ℕ) → parse-head-lts.Need-same-length-2 (
 ) (parse-head-at t) parse-head.Post
 parse-head-same-length-2 t c = search needs
 
--- src/walk.rt:271:9
+-- src/walk.rt:272:9
 pub parse-head-returns : (t : ℕ) → parse-head-lts.Need-returns (
   word-bytes-reads.Asked,
   word-bytes-reads.Learnt,
@@ -125,7 +125,7 @@ pub parse-head-returns : (t : ℕ) → parse-head-lts.Need-returns (
 ) (parse-head-at t) parse-head.Post
 parse-head-returns t c = let a = c .before .before .before .before .before .before .before .before .before .before .before .before .before .before .before .before .before .before .before .before .before .args in let g = c .before .before .before .before .before .before .before .before .before .before .before .before .before .before .before .before .before .before .before .before .before .pre .1 in let z = c .before .before .before .before .before .before .before .before .open-leaf .ensures .1 (c .before .if1 .taken) in (leaf-headed (a .v .now) (a .p .now) (a .k) (a .tr .now) (a .h .now) (a .sc .now) (a .s) (lent (a .ot .now) (a .st .now) (a .vt .now) (a .dt .now) (a .hr .now) (a .c .now) (a .u .now)) (g .0) (a .d) (z .0) (c .before .before .before .before .before .before .before .before .open-leaf .result) (c .before .if1 .taken) (c .before .before .before .before .before .before .before .before .before .before .before .before .word-bytes .result) (c .before .before .before .before .before .before .before .before .before .before .before .before .word-bytes .ensures .0) (z .1) (a .a) (a .at) _ _ _ (z .2) refl, (opened-index (a .v .now) (a .p .now) (a .k) (a .tr .now) (a .h .now) (a .sc .now) (a .s) (lent (a .ot .now) (a .st .now) (a .vt .now) (a .dt .now) (a .hr .now) (a .c .now) (a .u .now)) (g .0) (a .d) (z .0) (c .before .before .before .before .before .before .before .before .open-leaf .result) (c .before .if1 .taken) (c .before .before .before .before .before .before .before .before .before .before .before .before .word-bytes .result) (c .before .before .before .before .before .before .before .before .before .before .before .before .word-bytes .ensures .0) (z .1) (a .a) (a .at) _ _ _ (z .2), bytes-small _ (g .0 .proper .sheet-usable) (c .before .before .before .before .before .before .before .before .before .before .before .before .word-bytes .ensures .0) (z .1 .small)))
 
--- src/walk.rt:273:11
+-- src/walk.rt:274:11
 pub parse-head-open-object-requires : (t : ℕ) → parse-head-lts.Need-open-object-requires (
   word-bytes-reads.Asked,
   word-bytes-reads.Learnt,
@@ -138,7 +138,7 @@ pub parse-head-open-object-requires : (t : ℕ) → parse-head-lts.Need-open-obj
 ) (parse-head-at t) parse-head.Post
 parse-head-open-object-requires t c κs = c .before .before .before .before .before .before .before .before .before .before .before .before .before .before .before .before .before .before .before .before .before .pre .1 .0 .proper .sheet-usable
 
--- src/walk.rt:274:24
+-- src/walk.rt:275:24
 pub parse-head-enum-known-m : (t : ℕ) → parse-head-lts.Need-enum-known-m (
   word-bytes-reads.Asked,
   word-bytes-reads.Learnt,
@@ -151,7 +151,7 @@ pub parse-head-enum-known-m : (t : ℕ) → parse-head-lts.Need-enum-known-m (
 ) (parse-head-at t) parse-head.Post
 parse-head-enum-known-m t c = search needs
 
--- src/walk.rt:275:19
+-- src/walk.rt:276:19
 pub parse-head-enum-known-words : (t : ℕ) → parse-head-lts.Need-enum-known-words (
   word-bytes-reads.Asked,
   word-bytes-reads.Learnt,
@@ -164,7 +164,7 @@ pub parse-head-enum-known-words : (t : ℕ) → parse-head-lts.Need-enum-known-w
 ) (parse-head-at t) parse-head.Post
 parse-head-enum-known-words t c = search needs
 
--- src/walk.rt:276:21
+-- src/walk.rt:277:21
 pub parse-head-mul-n : (t : ℕ) → parse-head-lts.Need-mul-n (
   word-bytes-reads.Asked,
   word-bytes-reads.Learnt,
@@ -177,7 +177,7 @@ pub parse-head-mul-n : (t : ℕ) → parse-head-lts.Need-mul-n (
 ) (parse-head-at t) parse-head.Post
 parse-head-mul-n t c = let b = bytes-small _ (c .before .before .before .before .before .before .before .before .before .before .before .before .before .before .before .before .before .before .before .before .before .before .before .before .before .before .before .pre .1 .0 .proper .sheet-usable) (c .before .before .before .before .before .before .before .before .before .before .before .before .before .before .before .before .before .before .word-bytes .ensures .0) (count-below (2 ^ 30) (c .before .words .given .1) (c .before .before .before .before .before .open-object .ensures .1)) in omega (arith, b)
 
--- src/walk.rt:277:19
+-- src/walk.rt:278:19
 pub parse-head-parse-map-requires : (t : ℕ) → parse-head-lts.Need-parse-map-requires (
   word-bytes-reads.Asked,
   word-bytes-reads.Learnt,
@@ -190,7 +190,7 @@ pub parse-head-parse-map-requires : (t : ℕ) → parse-head-lts.Need-parse-map-
 ) (parse-head-at t) parse-head.Post
 parse-head-parse-map-requires t c κs = let a = c .before .before .before .before .before .before .before .before .before .before .before .before .before .before .before .before .before .before .before .before .before .before .before .before .before .before .before .before .before .before .before .before .before .before .before .args in let g = c .before .before .before .before .before .before .before .before .before .before .before .before .before .before .before .before .before .before .before .before .before .before .before .before .before .before .before .before .before .before .before .before .before .before .before .pre .1 in let e = count-is (lent _ _ _ _ _ _ _) (c .before .before .before .before .before .before .before .before .before .words .given .1) (c .before .before .before .before .before .before .before .before .before .before .before .before .before .open-object .ensures .0 _ _ (lent [] _ _ _ _ _ _)) in let b = bytes-small _ (g .0 .proper .sheet-usable) (c .before .before .before .before .before .before .before .before .before .before .before .before .before .before .before .before .before .before .before .before .before .before .before .before .before .before .word-bytes .ensures .0) (count-below (2 ^ 30) (c .before .before .before .before .before .before .before .before .before .words .given .1) (c .before .before .before .before .before .before .before .before .before .before .before .before .before .open-object .ensures .1)) in let q = opened-ready (unopened-ready (a .s) (lent (a .ot .now) (a .st .now) (a .vt .now) (a .dt .now) (a .hr .now) (a .c .now) (a .u .now)) (c .before .before .before .before .before .before .before .before .before .before .before .before .before .before .before .before .before .before .before .before .before .before .open-leaf .ensures .0 (c .before .before .before .before .before .before .before .before .before .before .before .before .before .before .before .if1 .left)) (g .0)) (a .a) (a .at) e in (omega (arith, c .before .before .before .before .before .before .before .before .before .before .before .before .before .before .before .before .before .before .before .before .before .before .before .before .before .before .before .before .before .before .before .before .before .before .before .pre .0), (q .0, (g .1 .0, g .1 .1, b, q .1, bytes-whole _ (c .before .before .before .before .before .before .before .before .before .before .before .before .before .before .before .before .before .before .before .before .before .before .before .before .before .before .word-bytes .ensures .0))))
 
--- src/walk.rt:278:31
+-- src/walk.rt:279:31
 pub parse-head-enum-known-m-2 : (t : ℕ) → parse-head-lts.Need-enum-known-m-2 (
   word-bytes-reads.Asked,
   word-bytes-reads.Learnt,
@@ -203,7 +203,7 @@ pub parse-head-enum-known-m-2 : (t : ℕ) → parse-head-lts.Need-enum-known-m-2
 ) (parse-head-at t) parse-head.Post
 parse-head-enum-known-m-2 t c = search needs
 
--- src/walk.rt:279:26
+-- src/walk.rt:280:26
 pub parse-head-enum-known-y : (t : ℕ) → parse-head-lts.Need-enum-known-y (
   word-bytes-reads.Asked,
   word-bytes-reads.Learnt,
@@ -216,7 +216,7 @@ pub parse-head-enum-known-y : (t : ℕ) → parse-head-lts.Need-enum-known-y (
 ) (parse-head-at t) parse-head.Post
 parse-head-enum-known-y t c = search needs
 
--- src/walk.rt:235:1
+-- src/walk.rt:236:1
 pub parse-head-same-length-3 : (t : ℕ) → parse-head-lts.Need-same-length-3 (
   word-bytes-reads.Asked,
   word-bytes-reads.Learnt,
@@ -229,7 +229,7 @@ pub parse-head-same-length-3 : (t : ℕ) → parse-head-lts.Need-same-length-3 (
 ) (parse-head-at t) parse-head.Post
 parse-head-same-length-3 t c = c .before .before .before .before .before .open-object .kept .1 .1 .0 ∙ c .before .before .before .before .before .before .before .before .before .before .before .before .before .before .open-leaf .kept .1 .1 .1 .1 .0
 
--- src/walk.rt:235:1
+-- src/walk.rt:236:1
 pub parse-head-same-length-4 : (t : ℕ) → parse-head-lts.Need-same-length-4 (
   word-bytes-reads.Asked,
   word-bytes-reads.Learnt,
@@ -242,7 +242,7 @@ pub parse-head-same-length-4 : (t : ℕ) → parse-head-lts.Need-same-length-4 (
 ) (parse-head-at t) parse-head.Post
 parse-head-same-length-4 t c = c .before .before .before .before .before .before .before .before .before .before .before .before .before .before .open-leaf .kept .1 .1 .1 .1 .1 .0
 
--- src/walk.rt:235:1
+-- src/walk.rt:236:1
 pub parse-head-returns-2 : (t : ℕ) → parse-head-lts.Need-returns-2 (
   word-bytes-reads.Asked,
   word-bytes-reads.Learnt,
@@ -255,7 +255,7 @@ pub parse-head-returns-2 : (t : ℕ) → parse-head-lts.Need-returns-2 (
 ) (parse-head-at t) parse-head.Post
 parse-head-returns-2 t c = let a = c .before .before .before .before .before .before .before .before .before .before .before .before .before .before .before .before .before .before .before .before .before .before .before .before .before .before .before .args in (unopened-headed (a .s) (lent (a .ot .now) (a .st .now) (a .vt .now) (a .dt .now) (a .hr .now) (a .c .now) (a .u .now)) (c .before .before .before .before .before .before .before .before .before .before .before .before .before .before .open-leaf .ensures .0 (c .before .before .before .before .before .before .before .if1 .left)) (input (a .v .now) (a .p .now) (a .k) (a .tr .now)) (refAt (input (a .v .now) (a .p .now) (a .k) (a .tr .now)) (64 - a .d)) (a .a) (a .at) (headed-cut _ _ (a .a) (a .at) _ (count-no (lent _ _ _ _ _ _ _) (c .before .m .given .1) (c .before .before .before .before .before .open-object .ensures .0 _ _ (lent [] _ _ _ _ _ _)))), (tt, tt))
 
--- src/walk.rt:235:1
+-- src/walk.rt:236:1
 pub parse-head-same-length-5 : (t : ℕ) → parse-head-lts.Need-same-length-5 (
   word-bytes-reads.Asked,
   word-bytes-reads.Learnt,
@@ -268,7 +268,7 @@ pub parse-head-same-length-5 : (t : ℕ) → parse-head-lts.Need-same-length-5 (
 ) (parse-head-at t) parse-head.Post
 parse-head-same-length-5 t c = c .before .before .before .before .before .before .before .before .before .before .before .before .before .parse-map .kept .1 .1 .1 .1 .0 ∙ c .before .before .before .before .before .before .before .before .before .before .before .before .before .before .before .before .before .before .before .before .before .before .before .before .before .before .before .open-object .kept .1 .1 .0 ∙ c .before .before .before .before .before .before .before .before .before .before .before .before .before .before .before .before .before .before .before .before .before .before .before .before .before .before .before .before .before .before .before .before .before .before .before .before .open-leaf .kept .1 .1 .1 .1 .0
 
--- src/walk.rt:235:1
+-- src/walk.rt:236:1
 pub parse-head-same-length-6 : (t : ℕ) → parse-head-lts.Need-same-length-6 (
   word-bytes-reads.Asked,
   word-bytes-reads.Learnt,
@@ -281,7 +281,7 @@ pub parse-head-same-length-6 : (t : ℕ) → parse-head-lts.Need-same-length-6 (
 ) (parse-head-at t) parse-head.Post
 parse-head-same-length-6 t c = c .before .before .before .before .before .before .before .before .before .before .before .before .before .parse-map .kept .1 .1 .1 .1 .1 .0 ∙ c .before .before .before .before .before .before .before .before .before .before .before .before .before .before .before .before .before .before .before .before .before .before .before .before .before .before .before .before .before .before .before .before .before .before .before .before .open-leaf .kept .1 .1 .1 .1 .1 .0
 
--- src/walk.rt:235:1
+-- src/walk.rt:236:1
 pub parse-head-same-length-7 : (t : ℕ) → parse-head-lts.Need-same-length-7 (
   word-bytes-reads.Asked,
   word-bytes-reads.Learnt,
@@ -294,7 +294,7 @@ pub parse-head-same-length-7 : (t : ℕ) → parse-head-lts.Need-same-length-7 (
 ) (parse-head-at t) parse-head.Post
 parse-head-same-length-7 t c = search needs
 
--- src/walk.rt:235:1
+-- src/walk.rt:236:1
 pub parse-head-same-length-8 : (t : ℕ) → parse-head-lts.Need-same-length-8 (
   word-bytes-reads.Asked,
   word-bytes-reads.Learnt,
@@ -307,7 +307,7 @@ pub parse-head-same-length-8 : (t : ℕ) → parse-head-lts.Need-same-length-8 (
 ) (parse-head-at t) parse-head.Post
 parse-head-same-length-8 t c = search needs
 
--- src/walk.rt:235:1
+-- src/walk.rt:236:1
 pub parse-head-same-length-9 : (t : ℕ) → parse-head-lts.Need-same-length-9 (
   word-bytes-reads.Asked,
   word-bytes-reads.Learnt,
@@ -320,7 +320,7 @@ pub parse-head-same-length-9 : (t : ℕ) → parse-head-lts.Need-same-length-9 (
 ) (parse-head-at t) parse-head.Post
 parse-head-same-length-9 t c = search needs
 
--- src/walk.rt:235:1
+-- src/walk.rt:236:1
 pub parse-head-returns-3 : (t : ℕ) → parse-head-lts.Need-returns-3 (
   word-bytes-reads.Asked,
   word-bytes-reads.Learnt,
@@ -333,7 +333,7 @@ pub parse-head-returns-3 : (t : ℕ) → parse-head-lts.Need-returns-3 (
 ) (parse-head-at t) parse-head.Post
 parse-head-returns-3 t c = let a = c .before .before .before .before .before .before .before .before .before .before .before .before .before .before .before .before .before .before .before .before .before .before .before .before .before .before .before .before .before .before .before .before .before .before .before .before .before .before .before .before .before .before .before .before .before .before .before .before .before .args in let e = count-is (lent _ _ _ _ _ _ _) (c .before .before .before .before .before .before .before .before .before .before .before .before .before .before .before .before .before .before .before .before .before .before .before .words .given .1) (c .before .before .before .before .before .before .before .before .before .before .before .before .before .before .before .before .before .before .before .before .before .before .before .before .before .before .before .open-object .ensures .0 _ _ (lent [] _ _ _ _ _ _)) in (unopened-headed (a .s) (lent (a .ot .now) (a .st .now) (a .vt .now) (a .dt .now) (a .hr .now) (a .c .now) (a .u .now)) (c .before .before .before .before .before .before .before .before .before .before .before .before .before .before .before .before .before .before .before .before .before .before .before .before .before .before .before .before .before .before .before .before .before .before .before .before .open-leaf .ensures .0 (c .before .before .before .before .before .before .before .before .before .before .before .before .before .before .before .before .before .before .before .before .before .before .before .before .before .before .before .before .before .if1 .left)) (input (a .v .now) (a .p .now) (a .k) (a .tr .now)) (refAt (input (a .v .now) (a .p .now) (a .k) (a .tr .now)) (64 - a .d)) (a .a) (a .at) (headed-bad _ _ (a .a) (a .at) _ e (ap (λ (w : ℕ). c .before .before .before .before .before .before .before .before .before .before .before .before .before .before .before .before .before .before .before .before .before .before .before .words .given .0 .0 * w) (c .before .before .before .before .before .before .before .before .before .before .before .before .before .before .before .before .before .before .before .before .before .before .before .before .before .before .before .before .before .before .before .before .before .before .before .before .before .before .before .before .word-bytes .ensures .0)) (went-no (lent _ _ _ _ _ _ _) (c .before .m2 .given .1) (c .before .before .before .before .before .before .before .before .before .before .before .before .before .parse-map .ensures .0))), (tt, tt))
 
--- src/walk.rt:235:1
+-- src/walk.rt:236:1
 pub parse-head-same-length-10 : (t : ℕ) → parse-head-lts.Need-same-length-10 (
   word-bytes-reads.Asked,
   word-bytes-reads.Learnt,
@@ -346,7 +346,7 @@ pub parse-head-same-length-10 : (t : ℕ) → parse-head-lts.Need-same-length-10
 ) (parse-head-at t) parse-head.Post
 parse-head-same-length-10 t c = c .before .before .before .before .before .before .before .before .before .before .before .before .before .parse-map .kept .1 .1 .1 .1 .0 ∙ c .before .before .before .before .before .before .before .before .before .before .before .before .before .before .before .before .before .before .before .before .before .before .before .before .before .before .before .open-object .kept .1 .1 .0 ∙ c .before .before .before .before .before .before .before .before .before .before .before .before .before .before .before .before .before .before .before .before .before .before .before .before .before .before .before .before .before .before .before .before .before .before .before .before .open-leaf .kept .1 .1 .1 .1 .0
 
--- src/walk.rt:235:1
+-- src/walk.rt:236:1
 pub parse-head-same-length-11 : (t : ℕ) → parse-head-lts.Need-same-length-11 (
   word-bytes-reads.Asked,
   word-bytes-reads.Learnt,
@@ -359,7 +359,7 @@ pub parse-head-same-length-11 : (t : ℕ) → parse-head-lts.Need-same-length-11
 ) (parse-head-at t) parse-head.Post
 parse-head-same-length-11 t c = c .before .before .before .before .before .before .before .before .before .before .before .before .before .parse-map .kept .1 .1 .1 .1 .1 .0 ∙ c .before .before .before .before .before .before .before .before .before .before .before .before .before .before .before .before .before .before .before .before .before .before .before .before .before .before .before .before .before .before .before .before .before .before .before .before .open-leaf .kept .1 .1 .1 .1 .1 .0
 
--- src/walk.rt:235:1
+-- src/walk.rt:236:1
 pub parse-head-same-length-12 : (t : ℕ) → parse-head-lts.Need-same-length-12 (
   word-bytes-reads.Asked,
   word-bytes-reads.Learnt,
@@ -372,7 +372,7 @@ pub parse-head-same-length-12 : (t : ℕ) → parse-head-lts.Need-same-length-12
 ) (parse-head-at t) parse-head.Post
 parse-head-same-length-12 t c = search needs
 
--- src/walk.rt:235:1
+-- src/walk.rt:236:1
 pub parse-head-same-length-13 : (t : ℕ) → parse-head-lts.Need-same-length-13 (
   word-bytes-reads.Asked,
   word-bytes-reads.Learnt,
@@ -385,7 +385,7 @@ pub parse-head-same-length-13 : (t : ℕ) → parse-head-lts.Need-same-length-13
 ) (parse-head-at t) parse-head.Post
 parse-head-same-length-13 t c = search needs
 
--- src/walk.rt:235:1
+-- src/walk.rt:236:1
 pub parse-head-same-length-14 : (t : ℕ) → parse-head-lts.Need-same-length-14 (
   word-bytes-reads.Asked,
   word-bytes-reads.Learnt,
@@ -398,7 +398,7 @@ pub parse-head-same-length-14 : (t : ℕ) → parse-head-lts.Need-same-length-14
 ) (parse-head-at t) parse-head.Post
 parse-head-same-length-14 t c = search needs
 
--- src/walk.rt:235:1
+-- src/walk.rt:236:1
 pub parse-head-returns-4 : (t : ℕ) → parse-head-lts.Need-returns-4 (
   word-bytes-reads.Asked,
   word-bytes-reads.Learnt,
