@@ -3,29 +3,22 @@
 use backref::hot_ring::add_fields;
 use backref::legacy::Backref;
 use backref::legacy::backref_at;
-use objects::map::is_flagged;
 use readers::parts::index_start;
 use readers::state::State;
 use readers::state::Step;
-use sheet::names::K_RESOLVE_PENDING_FORWARD_REF;
-use sheet::numbers::legacy;
-use sheet::tests::is_tag;
 use stream::bytes::Range;
 use stream::bytes::byte;
-use stream::bytes::peek;
 use stream::bytes::raw;
 use stream::putint::Int;
 use stream::putint::putint;
-use tables::records::add_object;
 use tables::records::add_slot;
-use tables::records::add_value;
 use tables::records::count_slot;
 use tables::values::Fields;
 use tables::values::Raw;
 use tables::values::Ref;
 use tables::values::SlotValue;
 use tables::values::fields_of;
-ghost use mathlib.Core.Bool.{true, false, _&&_};
+ghost use mathlib.Core.Bool.{true, _&&_};
 ghost use mathlib.Core.Path.{_≡_};
 ghost use mathlib.Core.List.{List};
 ghost use Prim.Native.Nat.{ℕ, _+_, _*_, _^_, _<_, _≤_};
@@ -39,8 +32,6 @@ ghost use Rattle.address_index.specs.Sorted.{Sorted};
 ghost use Rattle.definition.specs.Memory.{got};
 ghost use Rattle.readers.specs.Views.{Lent, mem, seen, hotIs};
 ghost use Rattle.leaves.specs.Leaf.{ringWith, ring, after, valueOf, entering as enteringLeaf, Found, FoundIn, Placed};
-ghost use Rattle.leaves.specs.Opening.{MapAt, Opens};
-ghost use Rattle.leaves.specs.Weak.{WeakAt, WeakPlaced, Stays};
 
 // Kind, a and b of a slot, its width, the cursor after it, and whether the object a enters the hot ring. Kind 0: none of these references, or
 // one to refuse.
@@ -54,7 +45,7 @@ pub struct Leaf {
 }
 
 // No leaf.
-fn none() -> Leaf
+pub fn none() -> Leaf
     ensures { λ r. ⌜ r .kind ≡ 0 ⌝ }
 {
     Leaf {
@@ -294,7 +285,7 @@ fn any_leaf(
 }
 
 // The ring after a leaf: where it enters, with its fields.
-fn enter(hot: &mut [u64; 25], enters: bool, f: Fields)
+pub fn enter(hot: &mut [u64; 25], enters: bool, f: Fields)
     ensures { λ _. ⌜ now (hot .exit) ≡ ringWith enters f (now (hot .entry)) ⌝ }
 {
     if enters {
@@ -303,7 +294,7 @@ fn enter(hot: &mut [u64; 25], enters: bool, f: Fields)
 }
 
 // The value that it stands for.
-fn value_of(leaf: Leaf) -> SlotValue
+pub fn value_of(leaf: Leaf) -> SlotValue
     ensures { λ r. ⌜ r ≡ valueOf leaf ⌝ }
 {
     let kind = leaf.kind;
@@ -379,203 +370,5 @@ pub fn place_leaf(
     }
     count_slot(objects, o as u64);
     enter(hot, leaf.enters, f);
-    leaf
-}
-
-// An object whose map is a leaf: its size in words, how many bytes that integer has, and the map. Kind 0 of the map: none.
-pub struct Opened {
-    pub words: u64,
-    pub size: usize,
-    pub map: Leaf,
-}
-
-// No object.
-fn unopened() -> Opened
-    ensures { λ r. ⌜ r .map .kind ≡ 0 ⌝ }
-{
-    let map = none();
-    Opened {
-        words: 0,
-        size: 0,
-        map,
-    }
-}
-
-// The size of an object and its map, where the map is a leaf that is not flagged and no resolve follows it. In a legacy sheet more follows a map.
-fn map_at(
-    v: &[u16],
-    h: &[u16; 512],
-    tr: &[u8],
-    p: &[u8],
-    hot: &[u64; 25],
-    at: usize,
-    count: usize,
-    word: u64,
-) -> Opened
-    requires { ⌜ (word ≤ 8) × ((b : ℕ) → b < 256 → (getD (now h) b 0 < 65536) × (getD (now h) (256 + b) 0 < 65536)) ⌝ }
-    ensures { λ r. ⌜ ((r .map .kind ≡ 0 → ⊥) → MapAt (now (v .entry)) (now (h .entry)) (now (tr .entry)) (now (p .entry)) (now (hot .entry)) at count word r) ⌝ }
-{
-    if legacy(v) {
-        return unopened();
-    }
-    let Int::Is(words, size) = putint(p, at) else {
-        return unopened();
-    };
-    let map = leaf_at(h, p, hot, at + size, count, word);
-    if is_tag(v, K_RESOLVE_PENDING_FORWARD_REF, peek(p, map.next)) {
-        return unopened();
-    }
-    if is_flagged(tr, value_of(map)) {
-        return unopened();
-    }
-    Opened {
-        words: words as u64,
-        size,
-        map,
-    }
-}
-
-// Object o, whose head stands at `tag` and its size after it, with its map as slot record n. Kind 0 of the map where `map_at` finds none, where a
-// record has no room, and at the last level, where a map is refused; then nothing is changed.
-pub fn open_leaf(
-    v: &[u16],
-    h: &[u16; 512],
-    tr: &[u8],
-    p: &[u8],
-    objects: &mut [u64],
-    slots: &mut [u64],
-    hot: &mut [u64; 25],
-    at: usize,
-    tag: usize,
-    o: usize,
-    n: usize,
-    word: u64,
-    d: usize,
-) -> Opened
-    requires { ⌜ (word ≤ 8) × ((b : ℕ) → b < 256 → (getD (now h) b 0 < 65536) × (getD (now h) (256 + b) 0 < 65536)) ⌝ }
-    requires { ⌜ o < 2 ^ 63 ⌝ }
-    ensures { λ r. ⌜ (r .map .kind ≡ 0 → (now (objects .exit) ≡ now (objects .entry)) × (now (slots .exit) ≡ now (slots .entry)) × (now (hot .exit) ≡ now (hot .entry))) ⌝ }
-    ensures opens { λ r. ⌜ ((r .map .kind ≡ 0 → ⊥) → (d < 64) × MapAt (now (v .entry)) (now (h .entry)) (now (tr .entry)) (now (p .entry)) (now (hot .entry)) at (o + 1) word r × Opens tag o n word r (now (objects .entry)) (now (slots .entry)) (now (hot .entry)) (now (objects .exit)) (now (slots .exit)) (now (hot .exit))) ⌝ }
-{
-    if 64 <= d {
-        return unopened();
-    }
-    let opened = map_at(v, h, tr, p, hot, at, o + 1, word);
-    let map = opened.map;
-    if map.kind == 0 {
-        return opened;
-    }
-    if slots.len() / 6 <= n {
-        return unopened();
-    }
-    if !add_object(objects, o, opened.words * word, tag as u64) {
-        return unopened();
-    }
-    let f = Fields {
-        kind: map.kind,
-        a: map.a,
-        b: map.b,
-    };
-    add_slot(slots, n, o as u64, 0, f, 0);
-    count_slot(objects, o as u64);
-    enter(hot, map.enters, f);
-    opened
-}
-
-// A leaf after a weak prefix at the cursor. A weak reference in an object at depth d is one level below it, and the leaf two.
-fn weak_leaf(
-    h: &[u16; 512],
-    p: &[u8],
-    hot: &[u64; 25],
-    at: usize,
-    count: usize,
-    word: u64,
-    d: usize,
-) -> Leaf
-    requires { ⌜ (word ≤ 8) × ((b : ℕ) → b < 256 → (getD (now h) b 0 < 65536) × (getD (now h) (256 + b) 0 < 65536)) ⌝ }
-    ensures { λ r. ⌜ ((r .kind ≡ 0 → ⊥) → WeakAt (now (h .entry)) (now (p .entry)) (now (hot .entry)) at count word d r) ⌝ }
-{
-    if 63 <= d {
-        return none();
-    }
-    if p.len() <= at {
-        return none();
-    }
-    let b = byte(p, at) as usize;
-    if h[b] != 25 {
-        return none();
-    }
-    leaf_at(h, p, hot, at + 1, count, word)
-}
-
-// A weak reference to a leaf as slot record n of object o, at this index: the leaf is value record k, and may enter the ring. False: a record has
-// no room, and nothing is changed.
-fn put_weak(
-    objects: &mut [u64],
-    slots: &mut [u64],
-    values: &mut [u64],
-    hot: &mut [u64; 25],
-    n: usize,
-    k: usize,
-    o: usize,
-    index: u64,
-    leaf: Leaf,
-) -> bool
-    requires { ⌜ field 4 (now objects) o 3 < 2 ^ 63 ⌝ }
-    ensures { λ r. ⌜ (r ≡ false → Stays (now (objects .entry)) (now (slots .entry)) (now (values .entry)) (now (hot .entry)) (now (objects .exit)) (now (slots .exit)) (now (values .exit)) (now (hot .exit))) ⌝ }
-    ensures placed { λ r. ⌜ (r ≡ true → WeakPlaced n k o index leaf (now (objects .entry)) (now (slots .entry)) (now (values .entry)) (now (hot .entry)) (now (objects .exit)) (now (slots .exit)) (now (values .exit)) (now (hot .exit))) ⌝ }
-{
-    if slots.len() / 6 <= n {
-        return false;
-    }
-    if !add_value(values, k, value_of(leaf)) {
-        return false;
-    }
-    let weak = Fields {
-        kind: 12,
-        a: k as u64,
-        b: 0,
-    };
-    add_slot(slots, n, o as u64, index, weak, 0);
-    count_slot(objects, o as u64);
-    let held = Fields {
-        kind: leaf.kind,
-        a: leaf.a,
-        b: leaf.b,
-    };
-    enter(hot, leaf.enters, held);
-    true
-}
-
-// A weak reference to a leaf as an item of object o, put as `put_weak` says: that leaf. Kind 0 where `weak_leaf` finds none, and where a record
-// has no room; then nothing is changed.
-pub fn place_weak(
-    h: &[u16; 512],
-    p: &[u8],
-    objects: &mut [u64],
-    slots: &mut [u64],
-    values: &mut [u64],
-    hot: &mut [u64; 25],
-    at: usize,
-    count: usize,
-    n: usize,
-    k: usize,
-    o: usize,
-    index: u64,
-    word: u64,
-    d: usize,
-) -> Leaf
-    requires { ⌜ (word ≤ 8) × ((b : ℕ) → b < 256 → (getD (now h) b 0 < 65536) × (getD (now h) (256 + b) 0 < 65536)) ⌝ }
-    requires { ⌜ field 4 (now objects) o 3 < 2 ^ 63 ⌝ }
-    ensures { λ r. ⌜ (r .kind ≡ 0 → Stays (now (objects .entry)) (now (slots .entry)) (now (values .entry)) (now (hot .entry)) (now (objects .exit)) (now (slots .exit)) (now (values .exit)) (now (hot .exit))) ⌝ }
-    ensures placed { λ r. ⌜ ((r .kind ≡ 0 → ⊥) → WeakAt (now (h .entry)) (now (p .entry)) (now (hot .entry)) at count word d r × WeakPlaced n k o index r (now (objects .entry)) (now (slots .entry)) (now (values .entry)) (now (hot .entry)) (now (objects .exit)) (now (slots .exit)) (now (values .exit)) (now (hot .exit))) ⌝ }
-{
-    let leaf = weak_leaf(h, p, hot, at, count, word, d);
-    if leaf.kind == 0 {
-        return leaf;
-    }
-    if !put_weak(objects, slots, values, hot, n, k, o, index, leaf) {
-        return none();
-    }
     leaf
 }

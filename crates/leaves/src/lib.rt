@@ -1,1 +1,3 @@
 pub mod leaf;
+pub mod opening;
+pub mod weak;

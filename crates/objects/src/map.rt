@@ -59,6 +59,7 @@ pub fn allocate_record(
     ensures { λ r. ⌜ outcome (r .number) (r .alignment) (record { cur = now (cur .entry); used = now (used .exit) }) (now (addresses .exit)) ≡ allocateOf (now (addresses .entry)) n spaces want (record { cur = now (cur .entry); used = now (used .entry) }) ⌝ }
     ensures linked { λ r. ⌜ (r .number ≡ 0 → Linked (now (addresses .exit)) (n + 1) (drop size (now (scratch .exit)))) ⌝ }
     ensures front { λ _. ⌜ take size (now (scratch .exit)) ≡ take size (now (scratch .entry)) ⌝ }
+    ensures kept { λ r. ⌜ ((r .number ≡ 0 → ⊥) → now (scratch .exit) ≡ now (scratch .entry)) ⌝ }
 {
     let placed = allocate(cur, used, addresses, n, spaces, want);
     if placed.number == 0 {

@@ -15,26 +15,21 @@ use Rattle.definition.specs.Memory.{Input, word, table, Mem, Out, got, Reader}
 use Rattle.definition.specs.Slots.{addSlot}
 use Rattle.definition.specs.Object.{peek, addObject, flags, flagObject, keepMap, resolves}
 use Rattle.definition.specs.Reference.{refAt}
-use Rattle.laws.specs.Keeps.{sheet-gives}
 use Rattle.readers.specs.declared.state.State.{State}
-use Rattle.readers.specs.Views.{Lent, input, mem, objectsIs, slotsIs, hotIs}
+use Rattle.readers.specs.Views.{Lent, input, mem, objectsIs, slotsIs, addressesIs, hotIs, countersIs}
 use Rattle.objects.specs.Head.{recording, opening}
 use Rattle.objects.specs.Map.{afterMap}
 use Rattle.objects.proofs.HeadLaws.{open-plain}
-use Rattle.leaves.specs.declared.leaf.Opened.{Opened}
+use Rattle.objects.proofs.MapLaws.{allocated}
+use Rattle.leaves.specs.declared.opening.Opened.{Opened}
 use Rattle.leaves.specs.Leaf.{ring, after, FoundIn}
 use Rattle.leaves.proofs.LeafLaws.{int-got, found-in}
-use Rattle.leaves.specs.Opening.{MapAt, Opens}
+use Rattle.leaves.specs.Opening.{MapAt, Opens, Addressed}
 use Rattle.walker.specs.Ready.{Index, Ready, mapped, headed}
 use Rattle.walker.proofs.LeafLaws.{plain-index, stands, read}
 use Rattle.walker.proofs.ObjectLaws.{opened-ready, mapped-on, headed-on}
 
 -- ---- each step
-
--- a sheet that is not legacy is not 6.x
-not-six : (six legacy : Bool) → (six ≡ true → legacy ≡ true) → legacy ≡ false → six ≡ false
-not-six false legacy h e = refl
-not-six true legacy h e = sym (h refl) ∙ e
 
 -- the object's record
 record-read : (x : Input) (tag words : ℕ) (s : State) (l : Lent) → s .objects < room 4 (l .objects)
@@ -42,7 +37,7 @@ record-read : (x : Input) (tag words : ℕ) (s : State) (l : Lent) → s .object
 unfolding addObject
 record-read x tag words s l b = rw (lt-ltb (s .objects) (room 4 (l .objects)) b)
 
--- nothing more follows a map
+-- in other sheets nothing more follows a map
 after-plain : (x : Input) → isLegacy (x .sheet) ≡ false → (before space bytes o : ℕ) (m : Mem) → got tt m ≡ afterMap x before space bytes o m
 after-plain x e before space bytes o m = rw e
 
@@ -65,10 +60,11 @@ resolves-none x o (suc n) m e = rw e
 -- the state after it
 abbrev pub opened-state : Opened → State → State
 opened-state r s =
-    record { at = r .map .next; objects = s .objects + 1; slots = s .slots + 1; values = s .values; addresses = s .addresses; pending = s .pending; waiting = s .waiting; skip = s .skip; alignment = s .alignment }
+    record { at = r .map .next; objects = s .objects + 1; slots = s .slots + 1; values = s .values; addresses = r .records; pending = s .pending; waiting = s .waiting; skip = s .skip; alignment = r .alignment }
 
-module _ (v p : List ℕ) (sp : ℕ) (tr h sc : List ℕ) (s : State) (l : Lent) (g : Ready (input v p sp tr) h (mem s l) sc) (d : ℕ) (low : d < 64) (r : Opened) (some : r .map .kind ≡ 0 → ⊥) (w : ℕ) (ew : w ≡ wordBytes v)
-    (a : MapAt v h tr p (l .hot) (s .at) (s .objects + 1) w r) (space tag : ℕ) (ot st hot : List ℕ) (k : Opens tag (s .objects) (s .slots) w r (l .objects) (l .slots) (l .hot) ot st hot) where
+module _ (v p : List ℕ) (sp : ℕ) (tr h sc : List ℕ) (s : State) (l : Lent) (g : Ready (input v p sp tr) h (mem s l) sc) (d : ℕ) (low : d < 64) (r : Opened) (some : r .map .kind ≡ 0 → ⊥)
+    (a : MapAt v h tr p (l .hot) (s .at) (s .objects + 1) (wordBytes v) r) (space tag : ℕ) (ot st dt hot used sc′ : List ℕ) (k : Opens tag (s .objects) (s .slots) (r .words * wordBytes v) (r .map) (l .objects) (l .slots) (l .hot) ot st hot)
+    (y : Addressed v sp (s .addresses) (length p) (record { space = space; size = r .words * wordBytes v; object = s .objects; alignment = s .alignment; word = wordBytes v }) (l .cur) (r .records) (r .alignment) (l .addresses) (l .used) sc dt used sc′) where
   abbrev x : Input
   x = input v p sp tr
 
@@ -84,17 +80,17 @@ module _ (v p : List ℕ) (sp : ℕ) (tr h sc : List ℕ) (s : State) (l : Lent)
 
   is-opened : got (r .words) (mem s₁ l₁) ≡ opening x space tag (mem s l)
   is-opened =
-      open-plain x space tag (mem s l) (int-got x (mem s l) (sym (a .sized))) {six = isSixX v} refl (not-six (isSixX v) (isLegacy v) (sheet-gives (g .proper) .six-x-legacy) (a .plain))
+      open-plain x space tag (mem s l) (int-got x (mem s l) (sym (a .sized))) {six = isSixX v} refl (a .no-large-byte)
       (record-read x tag (r .words) (record { at = s .at + r .size; objects = s .objects; slots = s .slots; values = s .values; addresses = s .addresses; pending = s .pending; waiting = s .waiting; skip = s .skip; alignment = s .alignment }) l (k .object-room))
 
   g₁ : Ready x h (mem s₁ l₁) sc
   g₁ = opened-ready g space tag is-opened .0
 
-  map-found : FoundIn v p (l₁ .addresses) (l₁ .hot) (s₁ .objects) (s₁ .addresses) (s₁ .alignment) w (s₁ .at + 1) (getD h (getD p (s₁ .at) 0) 0) (getD h (256 + getD p (s₁ .at) 0) 0) (r .map)
-  map-found = found-in v p (l₁ .addresses) (l₁ .hot) (s₁ .objects) (s₁ .addresses) (s₁ .alignment) w (s₁ .at + 1) _ _ (r .map) (a .found)
+  map-found : FoundIn v p (l₁ .addresses) (l₁ .hot) (s₁ .objects) (s₁ .addresses) (s₁ .alignment) (wordBytes v) (s₁ .at + 1) (getD h (getD p (s₁ .at) 0) 0) (getD h (256 + getD p (s₁ .at) 0) 0) (r .map)
+  map-found = found-in v p (l₁ .addresses) (l₁ .hot) (s₁ .objects) (s₁ .addresses) (s₁ .alignment) (wordBytes v) (s₁ .at + 1) _ _ (r .map) (a .found)
 
   abbrev map-value : SlotValue
-  map-value = stands v p sp tr h sc s₁ l₁ g₁ d low (r .map) some (λ _. a .there) w ew map-found .value
+  map-value = stands v p sp tr h sc s₁ l₁ g₁ d low (r .map) some (λ _. a .there) (wordBytes v) refl map-found .value
 
   abbrev s₂ : State
   s₂ = after (r .map) s₁
@@ -103,37 +99,52 @@ module _ (v p : List ℕ) (sp : ℕ) (tr h sc : List ℕ) (s : State) (l : Lent)
   l₂ = hotIs (ring (r .map) (l .hot)) l₁
 
   map-read : got map-value (mem s₂ l₂) ≡ refAt x (65 - (d + 1)) (mem s₁ l₁)
-  map-read = read v p sp tr h sc s₁ l₁ g₁ d low (r .map) some (λ _. a .there) w ew map-found
+  map-read = read v p sp tr h sc s₁ l₁ g₁ d low (r .map) some (λ _. a .there) (wordBytes v) refl map-found
+
+  -- its address, in a legacy sheet
+  abbrev s₃ : State
+  s₃ =
+      record { at = r .map .next; objects = s .objects + 1; slots = s .slots; values = s .values; addresses = r .records; pending = s .pending; waiting = s .waiting; skip = s .skip; alignment = r .alignment }
 
   abbrev l₃ : Lent
-  l₃ = objectsIs ot (slotsIs st (hotIs hot l))
+  l₃ = addressesIs dt (countersIs (l .cur) used l₂)
 
-  slot-kept : got tt (mem (opened-state r s) l₃) ≡ keepMap x (s .objects) map-value (mem s₂ l₂)
+  by-sheet : (legacy : Bool) → isLegacy v ≡ legacy → got tt (mem s₃ l₃) ≡ afterMap x (s .alignment) space bytes (s .objects) (mem s₂ l₂)
+  by-sheet false e = let z = y .plain e in rw (z .0, z .1, z .2, z .3) (after-plain x e (s .alignment) space bytes (s .objects) (mem s₂ l₂))
+  by-sheet true e =
+      let z = y .legacy e in
+      rw (a .not-first, e, z .1) (allocated x s₂ space bytes (s .objects) (l .addresses) (l .cur) (l .used) (wordBytes v) (z .0) l₂ refl refl)
+
+  abbrev l₄ : Lent
+  l₄ = objectsIs ot (slotsIs st (addressesIs dt (hotIs hot (countersIs (l .cur) used l))))
+
+  slot-kept : got tt (mem (opened-state r s) l₄) ≡ keepMap x (s .objects) map-value (mem s₃ l₃)
   slot-kept =
-      let q = stands v p sp tr h sc s₁ l₁ g₁ d low (r .map) some (λ _. a .there) w ew map-found in
+      let q = stands v p sp tr h sc s₁ l₁ g₁ d low (r .map) some (λ _. a .there) (wordBytes v) refl map-found in
       let f : flags x map-value ≡ false = rw (← (q .valued)) (a .unflagged v p sp) in
       let es : st ≡ written (l .slots) (s .slots) (slotRow (s .objects) 0 (fieldsOf map-value) 0) = rw (← (q .fields)) (k .slot) in
-      let eo : ot ≡ set (l₂ .objects) (s .objects * 4 + 3) (field 4 (l₂ .objects) (s .objects) 3 + 1) = rw (← ew) (k .object) in
-      subst (λ (hot : List ℕ). got tt (mem (opened-state r s) (objectsIs ot (slotsIs st (hotIs hot l)))) ≡ keepMap x (s .objects) map-value (mem s₂ l₂)) (sym (k .rings)) (map-kept x (s .objects) map-value s₂ l₂ f (k .slot-room) eo es)
+      subst (λ (hot : List ℕ). got tt (mem (opened-state r s) (objectsIs ot (slotsIs st (addressesIs dt (hotIs hot (countersIs (l .cur) used l)))))) ≡ keepMap x (s .objects) map-value (mem s₃ l₃)) (sym (k .rings)) (map-kept x (s .objects) map-value s₃ l₃ f (k .slot-room) (k .object) es)
 
-  is-mapped : got tt (mem (opened-state r s) l₃) ≡ mapped x (refAt x (64 - d)) space bytes (s .objects) (mem s₁ l₁)
+  is-mapped : got tt (mem (opened-state r s) l₄) ≡ mapped x (refAt x (64 - d)) space bytes (s .objects) (mem s₁ l₁)
   is-mapped =
-      mapped-on g₁ d space bytes (s .objects) map-read (after-plain x (a .plain) (s .alignment) space bytes (s .objects) (mem s₂ l₂)) slot-kept
-      (resolves-none x (s .objects) (length p - r .map .next) (mem (opened-state r s) l₃) (a .unresolved))
+      mapped-on g₁ d space bytes (s .objects) map-read (by-sheet (isLegacy v) refl) slot-kept
+      (resolves-none x (s .objects) (length p - r .map .next) (mem (opened-state r s) l₄) (a .unresolved))
 
-  pub leaf-headed : {n : ℕ} → n ≡ r .words * w → got n (mem (opened-state r s) l₃) ≡ headed x (refAt x (64 - d)) space tag (mem s l)
-  leaf-headed e = let z = headed-on x (refAt x (64 - d)) space tag (mem s l) is-opened refl is-mapped in rw (e, ew) z
+  pub leaf-headed : {n w : ℕ} → w ≡ wordBytes v → n ≡ r .words * w → got n (mem (opened-state r s) l₄) ≡ headed x (refAt x (64 - d)) space tag (mem s l)
+  leaf-headed ew e = let z = headed-on x (refAt x (64 - d)) space tag (mem s l) is-opened refl is-mapped in rw (e, ew) z
 
-  pub opened-index : Index (length p) (table st (s .slots + 1)) (table (l .addresses) (s .addresses)) sc
-  opened-index = plain-index g (s .objects) 0 (triple (r .map .kind) (r .map .a) (r .map .b)) (k .slot-room) (k .slot)
+  pub opened-index : Index (length p) (table st (s .slots + 1)) (table dt (r .records)) sc′
+  opened-index =
+      let z = plain-index g (s .objects) 0 (triple (r .map .kind) (r .map .a) (r .map .b)) (k .slot-room) (k .slot) in
+      record { pending = rw (y .front) (z .pending); linked = y .linked }
 
 -- where none was opened, what held before holds still
-unopened : (s : State) (l : Lent) {ot st hot : List ℕ} → (ot ≡ l .objects) × (st ≡ l .slots) × (hot ≡ l .hot) → mem s (objectsIs ot (slotsIs st (hotIs hot l))) ≡ mem s l
-unopened s l z = rw (z .0, z .1, z .2)
+module _ (s : State) (l : Lent) {ot st dt hot used sc sc′ : List ℕ} (z : (ot ≡ l .objects) × (st ≡ l .slots) × (dt ≡ l .addresses) × (hot ≡ l .hot) × (used ≡ l .used) × (sc′ ≡ sc)) where
+  unopened : mem s (objectsIs ot (slotsIs st (addressesIs dt (hotIs hot (countersIs (l .cur) used l))))) ≡ mem s l
+  unopened = rw (z .0, z .1, z .2, z .3, z .4)
 
-module _ (s : State) (l : Lent) {ot st hot : List ℕ} (z : (ot ≡ l .objects) × (st ≡ l .slots) × (hot ≡ l .hot)) where
-  pub unopened-ready : {x : Input} {h sc : List ℕ} → Ready x h (mem s l) sc → Ready x h (mem s (objectsIs ot (slotsIs st (hotIs hot l)))) sc
-  unopened-ready g = rw (z .0, z .1, z .2) g
+  pub unopened-ready : {x : Input} {h : List ℕ} → Ready x h (mem s l) sc → Ready x h (mem s (objectsIs ot (slotsIs st (addressesIs dt (hotIs hot (countersIs (l .cur) used l)))))) sc′
+  unopened-ready g = rw (z .0, z .1, z .2, z .3, z .4, z .5) g
 
-  pub unopened-headed : (x : Input) (r : Reader SlotValue) (space tag : ℕ) {out : Out ℕ} → out ≡ headed x r space tag (mem s (objectsIs ot (slotsIs st (hotIs hot l)))) → out ≡ headed x r space tag (mem s l)
-  unopened-headed x r space tag e = e ∙ ap (headed x r space tag) (unopened s l z)
+  pub unopened-headed : (x : Input) (r : Reader SlotValue) (space tag : ℕ) {out : Out ℕ} → out ≡ headed x r space tag (mem s (objectsIs ot (slotsIs st (addressesIs dt (hotIs hot (countersIs (l .cur) used l)))))) → out ≡ headed x r space tag (mem s l)
+  unopened-headed x r space tag e = e ∙ ap (headed x r space tag) unopened

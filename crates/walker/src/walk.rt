@@ -3,10 +3,10 @@
 // vt, dt, the hot ring hr, the chunk counters c and u (chunk, next free offset) of k spaces, and the
 // scratch sc.
 use leaves::leaf::leaf_at;
-use leaves::leaf::open_leaf;
 use leaves::leaf::place_leaf;
-use leaves::leaf::place_weak;
 use leaves::leaf::take_leaf;
+use leaves::opening::open_leaf;
+use leaves::weak::place_weak;
 use objects::head::open_object;
 use objects::item::place_item;
 use objects::map::after_map;
@@ -259,16 +259,16 @@ fn parse_head(
     ensures small { λ r. ⌜ Below (2 ^ 33) r ⌝ }
 {
     let o = s.objects;
-    let next = s.at;
-    let i = s.slots;
     let word = word_bytes(v);
-    let opened = open_leaf(v, h, tr, p, ot, st, hr, next, at, o, i, word, d);
+    let opened = open_leaf(v, h, tr, p, ot, st, dt, hr, c, u, sc, k, s, d, at, a);
     let map = opened.map;
     if map.kind != 0 {
         let mut t = s;
         t.at = map.next;
         t.objects = o + 1;
-        t.slots = i + 1;
+        t.slots = s.slots + 1;
+        t.addresses = opened.records;
+        t.alignment = opened.alignment;
         return Count::Is(opened.words * word, t);
     }
     match open_object(v, p, ot, s, at, a) {
@@ -360,6 +360,9 @@ fn parse_items(
             let start = done + t.skip;
             let count = t.objects;
             let i = t.slots;
+            let m = t.addresses;
+            let f = t.alignment;
+            let at = start / word;
             let leaf = place_leaf(
                 v,
                 h,
@@ -373,9 +376,9 @@ fn parse_items(
                 count,
                 i,
                 o,
-                start / word,
-                t.addresses,
-                t.alignment,
+                at,
+                m,
+                f,
                 word,
                 d,
             );
@@ -437,22 +440,8 @@ fn parse_slot(
     let i = s.slots;
     let n = s.values;
     let start = done + s.skip;
-    let leaf = place_weak(
-        h,
-        p,
-        ot,
-        st,
-        vt,
-        hr,
-        at,
-        count,
-        i,
-        n,
-        o,
-        start / word,
-        word,
-        d,
-    );
+    let x = start / word;
+    let leaf = place_weak(h, p, ot, st, vt, hr, at, count, i, n, o, x, word, d);
     if leaf.kind != 0 {
         let mut t = s;
         t.at = leaf.next;

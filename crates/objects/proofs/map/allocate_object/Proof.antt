@@ -20,7 +20,7 @@ same-length-2 : tie.Need-same-length-2
 same-length-2 c = search needs
 
 returns : tie.Need-returns
-returns c = (λ p tr l. allocated-no (input (c .before .before .before .before .before .before .before .before .before .before .before .before .before .before .before .args .sheet .now) p (c .before .before .before .before .before .before .before .before .before .before .before .before .before .before .before .args .spaces) tr) (c .before .before .before .before .before .before .before .before .before .before .before .before .before .before .before .args .s) _ _ _ _ _ _ _ (c .before .before .before .before .before .before .allocate-record .ensures .0) l (c .before .before .before .before .before .before .before .before .before .before .before .word-bytes .ensures .0) (c .if1 .taken), (tt, c .before .before .before .before .before .before .allocate-record .ensures .1 .1))
+returns c = (λ p tr l. allocated-no (input (c .before .before .before .before .before .before .before .before .before .before .before .before .before .before .before .args .sheet .now) p (c .before .before .before .before .before .before .before .before .before .before .before .before .before .before .before .args .spaces) tr) (c .before .before .before .before .before .before .before .before .before .before .before .before .before .before .before .args .s) _ _ _ _ _ _ _ (c .before .before .before .before .before .before .allocate-record .ensures .0) l (c .before .before .before .before .before .before .before .before .before .before .before .word-bytes .ensures .0) (c .if1 .taken), (tt, c .before .before .before .before .before .before .allocate-record .ensures .1 .1 .0))
 
 add-t : tie.Need-add-t
 add-t c = omega (arith, allocated-room _ _ _ _ _ _ (c .before .before .before .before .before .before .allocate-record .ensures .0) (c .if1 .left))
@@ -32,7 +32,7 @@ same-length-4 : tie.Need-same-length-4
 same-length-4 c = search needs
 
 returns-2 : tie.Need-returns-2
-returns-2 c = (λ p tr l. allocated (input (c .before .before .before .before .before .before .before .before .before .before .before .before .before .before .before .args .sheet .now) p (c .before .before .before .before .before .before .before .before .before .before .before .before .before .before .before .args .spaces) tr) (c .before .before .before .before .before .before .before .before .before .before .before .before .before .before .before .args .s) _ _ _ _ _ _ _ (c .before .before .before .before .before .before .allocate-record .ensures .0) l (c .before .before .before .before .before .before .before .before .before .before .before .word-bytes .ensures .0) (c .if1 .left), (c .before .before .before .before .before .before .allocate-record .ensures .1 .0 (c .if1 .left), c .before .before .before .before .before .before .allocate-record .ensures .1 .1))
+returns-2 c = (λ p tr l. allocated (input (c .before .before .before .before .before .before .before .before .before .before .before .before .before .before .before .args .sheet .now) p (c .before .before .before .before .before .before .before .before .before .before .before .before .before .before .before .args .spaces) tr) (c .before .before .before .before .before .before .before .before .before .before .before .before .before .before .before .args .s) _ _ _ _ _ _ _ (c .before .before .before .before .before .before .allocate-record .ensures .0) l (c .before .before .before .before .before .before .before .before .before .before .before .word-bytes .ensures .0) (c .if1 .left), (c .before .before .before .before .before .before .allocate-record .ensures .1 .0 (c .if1 .left), c .before .before .before .before .before .before .allocate-record .ensures .1 .1 .0))
 
 pub allocate-object-spec : {M : Type 1} → statement M
 allocate-object-spec =

@@ -17,13 +17,13 @@ same-length-2 : tie.Need-same-length-2
 same-length-2 c = search needs
 
 returns : tie.Need-returns
-returns c = (c .before .before .before .before .before .before .before .before .before .allocate .ensures, (λ _. c .before .before .enter-record .ensures .0, c .before .before .enter-record .ensures .1))
+returns c = (c .before .before .before .before .before .before .before .before .before .allocate .ensures, (λ _. c .before .before .enter-record .ensures .0, (c .before .before .enter-record .ensures .1, λ h. absurd (h (c .before .before .before .before .before .if1 .taken)))))
 
 same-length-3 : tie.Need-same-length-3
 same-length-3 c = search needs
 
 returns-2 : tie.Need-returns-2
-returns-2 c = (c .before .before .before .before .allocate .ensures, (λ e. absurd (c .if1 .left e), refl))
+returns-2 c = (c .before .before .before .before .allocate .ensures, (λ e. absurd (c .if1 .left e), (refl, λ _. refl)))
 
 pub allocate-record-spec : {M : Type 1} → statement M
 allocate-record-spec =

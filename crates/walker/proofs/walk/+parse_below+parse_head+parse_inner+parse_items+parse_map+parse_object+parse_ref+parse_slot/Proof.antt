@@ -54,19 +54,19 @@ use Rattle.walker.proofs.walk.+parse_below+parse_head+parse_inner+parse
 }
 use Rattle.walker.proofs.walk.+parse_below+parse_head+parse_inner+parse_items+parse_map+parse_object+parse_ref+parse_slot.Proof.Common.{μ-parse-below, μ-parse-head, μ-parse-inner, μ-parse-items, μ-parse-map, μ-parse-object, μ-parse-ref, μ-parse-slot, parse-below-at, parse-below-below, parse-head-at, parse-head-below, parse-inner-at, parse-inner-below, parse-items-at, parse-items-below, parse-map-at, parse-map-below, parse-object-at, parse-object-below, parse-ref-at, parse-ref-below, parse-slot-at, parse-slot-below, parse-items-Inv-loop, parse-items-μ-loop}
 use Rattle.walker.proofs.walk.+parse_below+parse_head+parse_inner+parse_items+parse_map+parse_object+parse_ref+parse_slot.Proof.Inner.{parse-inner-word-bytes-requires, parse-inner-leaf-at-requires, parse-inner-take-leaf-requires, parse-inner-returns, parse-inner-add-parse-ref, parse-inner-parse-ref-requires, parse-inner-same-length, parse-inner-same-length-2, parse-inner-same-length-3, parse-inner-same-length-4, parse-inner-same-length-5, parse-inner-returns-2}
-use Rattle.walker.proofs.walk.+parse_below+parse_head+parse_inner+parse_items+parse_map+parse_object+parse_ref+parse_slot.Proof.Items.{parse-items-word-bytes-requires, parse-items-loop-holds, parse-items-peek-requires, parse-items-is-tag-requires, parse-items-add-t, parse-items-loop-less, parse-items-loop-again, parse-items-add-start, parse-items-div-place-leaf, parse-items-place-leaf-requires, parse-items-add-t-2, parse-items-add-done, parse-items-loop-less-2, parse-items-loop-again-2, parse-items-parse-slot-requires, parse-items-enum-known-item, parse-items-same-length, parse-items-same-length-2, parse-items-same-length-3, parse-items-same-length-4, parse-items-same-length-5, parse-items-returns, parse-items-enum-known-item-2, parse-items-loop-less-3, parse-items-loop-again-3, parse-items-same-length-6, parse-items-same-length-7, parse-items-same-length-8, parse-items-same-length-9, parse-items-same-length-10, parse-items-returns-2, parse-items-same-length-11, parse-items-same-length-12, parse-items-same-length-13, parse-items-same-length-14, parse-items-same-length-15, parse-items-returns-3}
+use Rattle.walker.proofs.walk.+parse_below+parse_head+parse_inner+parse_items+parse_map+parse_object+parse_ref+parse_slot.Proof.Items.{parse-items-word-bytes-requires, parse-items-loop-holds, parse-items-peek-requires, parse-items-is-tag-requires, parse-items-add-t, parse-items-loop-less, parse-items-loop-again, parse-items-add-start, parse-items-div-at, parse-items-place-leaf-requires, parse-items-add-t-2, parse-items-add-done, parse-items-loop-less-2, parse-items-loop-again-2, parse-items-parse-slot-requires, parse-items-enum-known-item, parse-items-same-length, parse-items-same-length-2, parse-items-same-length-3, parse-items-same-length-4, parse-items-same-length-5, parse-items-returns, parse-items-enum-known-item-2, parse-items-loop-less-3, parse-items-loop-again-3, parse-items-same-length-6, parse-items-same-length-7, parse-items-same-length-8, parse-items-same-length-9, parse-items-same-length-10, parse-items-returns-2, parse-items-same-length-11, parse-items-same-length-12, parse-items-same-length-13, parse-items-same-length-14, parse-items-same-length-15, parse-items-returns-3}
 use Rattle.walker.proofs.walk.+parse_below+parse_head+parse_inner+parse_items+parse_map+parse_object+parse_ref+parse_slot.Proof.Map.{parse-map-parse-inner-requires, parse-map-enum-known-m, parse-map-enum-known-x, parse-map-after-map-requires, parse-map-enum-known-m-2, parse-map-enum-known-y, parse-map-keep-map-requires, parse-map-enum-known-m-3, parse-map-enum-known-w, parse-map-resolves-requires, parse-map-same-length, parse-map-same-length-2, parse-map-same-length-3, parse-map-same-length-4, parse-map-same-length-5, parse-map-returns, parse-map-same-length-6, parse-map-same-length-7, parse-map-same-length-8, parse-map-same-length-9, parse-map-same-length-10, parse-map-returns-2, parse-map-same-length-11, parse-map-same-length-12, parse-map-same-length-13, parse-map-same-length-14, parse-map-same-length-15, parse-map-returns-3, parse-map-same-length-16, parse-map-same-length-17, parse-map-same-length-18, parse-map-same-length-19, parse-map-same-length-20, parse-map-returns-4}
 use Rattle.walker.proofs.walk.+parse_below+parse_head+parse_inner+parse_items+parse_map+parse_object+parse_ref+parse_slot.Proof.Object.{parse-object-parse-head-requires, parse-object-enum-known-m, parse-object-enum-known-n, parse-object-parse-items-requires, parse-object-same-length, parse-object-same-length-2, parse-object-same-length-3, parse-object-same-length-4, parse-object-same-length-5, parse-object-returns, parse-object-same-length-6, parse-object-same-length-7, parse-object-same-length-8, parse-object-same-length-9, parse-object-same-length-10, parse-object-returns-2}
-use Rattle.walker.proofs.walk.+parse_below+parse_head+parse_inner+parse_items+parse_map+parse_object+parse_ref+parse_slot.Proof.Head.{parse-head-word-bytes-requires, parse-head-open-leaf-requires, parse-head-add-t, parse-head-add-t-2, parse-head-mul-t41, parse-head-same-length, parse-head-same-length-2, parse-head-returns, parse-head-open-object-requires, parse-head-enum-known-m, parse-head-enum-known-words, parse-head-mul-n, parse-head-parse-map-requires, parse-head-enum-known-m-2, parse-head-enum-known-y, parse-head-same-length-3, parse-head-same-length-4, parse-head-returns-2, parse-head-same-length-5, parse-head-same-length-6, parse-head-same-length-7, parse-head-same-length-8, parse-head-same-length-9, parse-head-returns-3, parse-head-same-length-10, parse-head-same-length-11, parse-head-same-length-12, parse-head-same-length-13, parse-head-same-length-14, parse-head-returns-4}
+use Rattle.walker.proofs.walk.+parse_below+parse_head+parse_inner+parse_items+parse_map+parse_object+parse_ref+parse_slot.Proof.Head.{parse-head-word-bytes-requires, parse-head-open-leaf-requires, parse-head-add-t, parse-head-add-t-2, parse-head-mul-t45, parse-head-same-length, parse-head-same-length-2, parse-head-same-length-3, parse-head-same-length-4, parse-head-returns, parse-head-open-object-requires, parse-head-enum-known-m, parse-head-enum-known-words, parse-head-mul-n, parse-head-parse-map-requires, parse-head-enum-known-m-2, parse-head-enum-known-y, parse-head-same-length-5, parse-head-same-length-6, parse-head-same-length-7, parse-head-same-length-8, parse-head-returns-2, parse-head-same-length-9, parse-head-same-length-10, parse-head-same-length-11, parse-head-same-length-12, parse-head-same-length-13, parse-head-returns-3, parse-head-same-length-14, parse-head-same-length-15, parse-head-same-length-16, parse-head-same-length-17, parse-head-same-length-18, parse-head-returns-4}
 use Rattle.walker.proofs.walk.+parse_below+parse_head+parse_inner+parse_items+parse_map+parse_object+parse_ref+parse_slot.Proof.Below.{parse-below-byte-requires, parse-below-mul-kind, parse-below-element-copy-out-kind, parse-below-cast-kind, parse-below-add-a, parse-below-mul-a, parse-below-element-copy-out-a, parse-below-cast-a, parse-below-add-t, parse-below-add-parse-object, parse-below-parse-object-requires, parse-below-same-length, parse-below-same-length-2, parse-below-same-length-3, parse-below-same-length-4, parse-below-same-length-5, parse-below-returns, parse-below-add-parse-ref, parse-below-parse-ref-requires, parse-below-same-length-6, parse-below-same-length-7, parse-below-same-length-8, parse-below-same-length-9, parse-below-same-length-10, parse-below-returns-2}
 use Rattle.walker.proofs.walk.+parse_below+parse_head+parse_inner+parse_items+parse_map+parse_object+parse_ref+parse_slot.Proof.Reference.{parse-ref-returns, parse-ref-returns-2, parse-ref-byte-requires, parse-ref-mul-kind, parse-ref-element-copy-out-kind, parse-ref-cast-kind, parse-ref-add-a, parse-ref-mul-a, parse-ref-element-copy-out-a, parse-ref-cast-a, parse-ref-add-t, parse-ref-parse-object-requires, parse-ref-same-length, parse-ref-same-length-2, parse-ref-same-length-3, parse-ref-same-length-4, parse-ref-same-length-5, parse-ref-returns-3, parse-ref-begin-requires, parse-ref-enum-told, parse-ref-simple-ref-requires, parse-ref-enum-known-n, parse-ref-enum-known-held, parse-ref-hold-requires, parse-ref-enum-known-held-2, parse-ref-parse-inner-requires, parse-ref-enum-known-inner, parse-ref-enum-known-inner-2, parse-ref-hold-requires-2, parse-ref-same-length-6, parse-ref-same-length-7, parse-ref-returns-4, parse-ref-returns-5, parse-ref-same-length-8, parse-ref-returns-6, parse-ref-same-length-9, parse-ref-same-length-10, parse-ref-same-length-11, parse-ref-same-length-12, parse-ref-same-length-13, parse-ref-returns-7, parse-ref-same-length-14, parse-ref-same-length-15, parse-ref-same-length-16, parse-ref-same-length-17, parse-ref-same-length-18, parse-ref-returns-8}
-use Rattle.walker.proofs.walk.+parse_below+parse_head+parse_inner+parse_items+parse_map+parse_object+parse_ref+parse_slot.Proof.Slot.{parse-slot-word-bytes-requires, parse-slot-add-start, parse-slot-div-place-weak, parse-slot-place-weak-requires, parse-slot-add-t, parse-slot-add-t-2, parse-slot-add-t40, parse-slot-same-length, parse-slot-same-length-2, parse-slot-same-length-3, parse-slot-returns, parse-slot-parse-below-requires, parse-slot-enum-known-m, parse-slot-enum-known-x, parse-slot-place-item-requires, parse-slot-same-length-4, parse-slot-same-length-5, parse-slot-same-length-6, parse-slot-same-length-7, parse-slot-same-length-8, parse-slot-returns-2, parse-slot-same-length-9, parse-slot-same-length-10, parse-slot-same-length-11, parse-slot-same-length-12, parse-slot-same-length-13, parse-slot-returns-3}
+use Rattle.walker.proofs.walk.+parse_below+parse_head+parse_inner+parse_items+parse_map+parse_object+parse_ref+parse_slot.Proof.Slot.{parse-slot-word-bytes-requires, parse-slot-add-start, parse-slot-div-x, parse-slot-place-weak-requires, parse-slot-add-t, parse-slot-add-t-2, parse-slot-add-t40, parse-slot-same-length, parse-slot-same-length-2, parse-slot-same-length-3, parse-slot-returns, parse-slot-parse-below-requires, parse-slot-enum-known-m, parse-slot-enum-known-x, parse-slot-place-item-requires, parse-slot-same-length-4, parse-slot-same-length-5, parse-slot-same-length-6, parse-slot-same-length-7, parse-slot-same-length-8, parse-slot-returns-2, parse-slot-same-length-9, parse-slot-same-length-10, parse-slot-same-length-11, parse-slot-same-length-12, parse-slot-same-length-13, parse-slot-returns-3}
 use Rattle.walker.proofs.walk.parse_head.Reads as parse-head
 use Rattle.walker.proofs.walk.+parse_below+parse_head+parse_inner+parse_items+parse_map+parse_object+parse_ref+parse_slot.Lts-parse_head as parse-head-lts
-use Rattle.leaves.proofs.leaf.open_leaf.Reads as open-leaf-reads
+use Rattle.leaves.proofs.opening.open_leaf.Reads as open-leaf-reads
 use Rattle.walker.proofs.walk.parse_below.Reads as parse-below
 use Rattle.walker.proofs.walk.+parse_below+parse_head+parse_inner+parse_items+parse_map+parse_object+parse_ref+parse_slot.Lts-parse_below as parse-below-lts
-use Rattle.leaves.proofs.leaf.place_weak.Reads as place-weak-reads
+use Rattle.leaves.proofs.weak.place_weak.Reads as place-weak-reads
 
 pub +parse-below+parse-head+parse-inner+parse-items+parse-map+parse-object+parse-ref+parse-slot-spec : {M : Type 1} → statement M
 +parse-below+parse-head+parse-inner+parse-items+parse-map+parse-object+parse-ref+parse-slot-spec =
@@ -130,9 +130,11 @@ pub +parse-below+parse-head+parse-inner+parse-items+parse-map+parse-object+parse
     (parse-head-open-leaf-requires t)
     (parse-head-add-t t)
     (parse-head-add-t-2 t)
-    (parse-head-mul-t41 t)
+    (parse-head-mul-t45 t)
     (parse-head-same-length t)
     (parse-head-same-length-2 t)
+    (parse-head-same-length-3 t)
+    (parse-head-same-length-4 t)
     (parse-head-returns t)
     (parse-head-open-object-requires t)
     (parse-head-enum-known-m t)
@@ -141,20 +143,22 @@ pub +parse-below+parse-head+parse-inner+parse-items+parse-map+parse-object+parse
     (parse-head-parse-map-requires t)
     (parse-head-enum-known-m-2 t)
     (parse-head-enum-known-y t)
-    (parse-head-same-length-3 t)
-    (parse-head-same-length-4 t)
-    (parse-head-returns-2 t)
     (parse-head-same-length-5 t)
     (parse-head-same-length-6 t)
     (parse-head-same-length-7 t)
     (parse-head-same-length-8 t)
+    (parse-head-returns-2 t)
     (parse-head-same-length-9 t)
-    (parse-head-returns-3 t)
     (parse-head-same-length-10 t)
     (parse-head-same-length-11 t)
     (parse-head-same-length-12 t)
     (parse-head-same-length-13 t)
+    (parse-head-returns-3 t)
     (parse-head-same-length-14 t)
+    (parse-head-same-length-15 t)
+    (parse-head-same-length-16 t)
+    (parse-head-same-length-17 t)
+    (parse-head-same-length-18 t)
     (parse-head-returns-4 t))
     (λ t. parse-inner-lts.spec (
       word-bytes-reads.Asked,
@@ -204,7 +208,7 @@ pub +parse-below+parse-head+parse-inner+parse-items+parse-map+parse-object+parse
     (parse-items-loop-less t)
     (parse-items-loop-again t)
     (parse-items-add-start t)
-    (parse-items-div-place-leaf t)
+    (parse-items-div-at t)
     (parse-items-place-leaf-requires t)
     (parse-items-add-t-2 t)
     (parse-items-add-done t)
@@ -380,7 +384,7 @@ pub +parse-below+parse-head+parse-inner+parse-items+parse-map+parse-object+parse
     parse-slot.Post
     (parse-slot-word-bytes-requires t)
     (parse-slot-add-start t)
-    (parse-slot-div-place-weak t)
+    (parse-slot-div-x t)
     (parse-slot-place-weak-requires t)
     (parse-slot-add-t t)
     (parse-slot-add-t-2 t)

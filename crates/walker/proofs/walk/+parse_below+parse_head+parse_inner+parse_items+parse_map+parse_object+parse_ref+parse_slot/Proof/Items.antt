@@ -139,8 +139,8 @@ pub parse-items-add-start : (t : ℕ) → parse-items-lts.Need-add-start (
 ) (parse-items-at t) parse-items.Post parse-items-Inv-loop parse-items-μ-loop
 parse-items-add-start t c = let w = c .before .before .before .before .before .loop .inv .0 in omega (arith, c .before .before .before .before .loop-test .taken, c .before .before .before .before .before .before .before .before .before .before .before .before .before .before .before .pre .1 .1 .1, w .ready .sound .skip-low, w .ready .sound .within, w .ready .proper .short)
 
--- src/walk.rt:376:17
-pub parse-items-div-place-leaf : (t : ℕ) → parse-items-lts.Need-div-place-leaf (
+-- src/walk.rt:365:22
+pub parse-items-div-at : (t : ℕ) → parse-items-lts.Need-div-at (
   word-bytes-reads.Asked,
   word-bytes-reads.Learnt,
   peek-reads.Asked,
@@ -152,9 +152,9 @@ pub parse-items-div-place-leaf : (t : ℕ) → parse-items-lts.Need-div-place-le
   parse-slot-below t,
   parse-slot.Post,
 ) (parse-items-at t) parse-items.Post parse-items-Inv-loop parse-items-μ-loop
-parse-items-div-place-leaf t c = omega (arith, word-some (c .before .before .before .before .before .before .before .before .before .before .loop .inv .0 .ready) .1, c .before .before .before .before .before .before .before .before .before .before .before .word-bytes .ensures .0)
+parse-items-div-at t c = omega (arith, word-some (c .before .before .before .before .before .loop .inv .0 .ready) .1, c .before .before .before .before .before .before .word-bytes .ensures .0)
 
--- src/walk.rt:363:17
+-- src/walk.rt:366:17
 pub parse-items-place-leaf-requires : (t : ℕ) → parse-items-lts.Need-place-leaf-requires (
   word-bytes-reads.Asked,
   word-bytes-reads.Learnt,
@@ -169,7 +169,7 @@ pub parse-items-place-leaf-requires : (t : ℕ) → parse-items-lts.Need-place-l
 ) (parse-items-at t) parse-items.Post parse-items-Inv-loop parse-items-μ-loop
 parse-items-place-leaf-requires t c κs = let w = c .before .before .before .before .before .before .before .before .before .before .loop .inv .0 in (leaf-asks (w .ready) _ (c .before .before .before .before .before .before .before .before .before .before .before .word-bytes .ensures .0), (place-asks (w .ready) _ (omega (arith, w .onward .slots-size, c .before .before .before .before .before .before .before .before .before .before .before .before .before .before .before .before .before .before .before .before .good .1 .1 .1 .1 .1 .0 .0)), found-by (w .ready)))
 
--- src/walk.rt:384:27
+-- src/walk.rt:369:27
 pub parse-items-add-t-2 : (t : ℕ) → parse-items-lts.Need-add-t-2 (
   word-bytes-reads.Asked,
   word-bytes-reads.Learnt,
@@ -184,7 +184,7 @@ pub parse-items-add-t-2 : (t : ℕ) → parse-items-lts.Need-add-t-2 (
 ) (parse-items-at t) parse-items.Post parse-items-Inv-loop parse-items-μ-loop
 parse-items-add-t-2 t c = let w = c .before .before .before .before .before .before .before .before .before .before .before .before .before .before .before .before .before .loop .inv .0 in omega (arith, w .ready .sound .slots-fit, w .onward .slots-size, c .before .before .before .before .before .before .before .before .before .before .before .before .before .before .before .before .before .before .before .before .before .before .before .before .before .before .before .good .1 .1 .1 .1 .1 .0 .0)
 
--- src/walk.rt:386:24
+-- src/walk.rt:371:24
 pub parse-items-add-done : (t : ℕ) → parse-items-lts.Need-add-done (
   word-bytes-reads.Asked,
   word-bytes-reads.Learnt,
@@ -229,7 +229,7 @@ pub parse-items-loop-again-2 : (t : ℕ) → parse-items-lts.Need-loop-again-2 (
 ) (parse-items-at t) parse-items.Post parse-items-Inv-loop parse-items-μ-loop
 parse-items-loop-again-2 t c = let w = c .before .before .before .before .before .before .before .before .before .before .before .before .before .before .before .before .before .before .loop .inv .0 in let a = c .before .before .before .before .before .before .before .before .before .before .before .before .before .before .before .before .before .before .before .before .before .before .before .before .before .before .before .before .args in let l = c .before .before .before .before .before .before .before .before .before .before .before .before .before .before .before .before .before .before .loop in let q = c .before .before .before .before .before .before .before .place-leaf in let z = q .ensures .0 (c .before .if2 .taken) in (loop-turn _ _ _ _ _ _ _ _ w (c .before .before .before .before .before .before .before .before .before .before .before .before .before .before .before .before .before .loop-test .taken) (deferred-not (a .v .now) _ _ (c .before .before .before .before .before .before .before .before .before .before .before .before .before .before .before .before .peek .ensures) (c .before .before .before .before .before .before .before .before .before .before .before .before .before .before .before .is-tag .ensures) (c .before .before .before .before .before .before .before .before .before .before .before .before .before .before .if1 .left)) (leaf-item (a .v .now) (a .p .now) (a .k) (a .tr .now) (a .h .now) (l .sc) (l .t) (lent (l .ot) (l .st) (l .vt) (l .dt) (l .hr) (l .c) (l .u)) (w .ready) (a .d) (z .0) (q .result) (c .before .if2 .taken) (λ _. (z .1, z .2)) (c .before .before .before .before .before .before .before .before .before .before .before .before .before .before .before .before .before .before .before .word-bytes .result) (c .before .before .before .before .before .before .before .before .before .before .before .before .before .before .before .before .before .before .before .word-bytes .ensures .0) (q .ensures .1 .0) (a .o) (l .done) _ refl _ _ _ (q .ensures .1 .1)) (leaf-index (a .v .now) (a .p .now) (a .k) (a .tr .now) (a .h .now) (l .sc) (l .t) (lent (l .ot) (l .st) (l .vt) (l .dt) (l .hr) (l .c) (l .u)) (w .ready) (a .d) (z .0) (q .result) (c .before .if2 .taken) (λ _. (z .1, z .2)) (c .before .before .before .before .before .before .before .before .before .before .before .before .before .before .before .before .before .before .before .word-bytes .result) (c .before .before .before .before .before .before .before .before .before .before .before .before .before .before .before .before .before .before .before .word-bytes .ensures .0) (q .ensures .1 .0) (a .o) (l .done) _ refl _ _ _ (q .ensures .1 .1)), c .before .before .before .before .before .before .before .before .before .before .before .before .before .before .before .before .before .before .loop .inv .1)
 
--- src/walk.rt:388:21
+-- src/walk.rt:373:21
 pub parse-items-parse-slot-requires : (t : ℕ) → parse-items-lts.Need-parse-slot-requires (
   word-bytes-reads.Asked,
   word-bytes-reads.Learnt,
@@ -244,7 +244,7 @@ pub parse-items-parse-slot-requires : (t : ℕ) → parse-items-lts.Need-parse-s
 ) (parse-items-at t) parse-items.Post parse-items-Inv-loop parse-items-μ-loop
 parse-items-parse-slot-requires t c κs = let i = (unplaced (c .before .before .before .before .before .before .before .before .before .before .before .before .before .before .before .before .before .before .before .before .before .before .before .before .before .loop .t) (lent (c .before .before .before .before .before .before .before .before .before .before .before .before .before .before .before .before .before .before .before .before .before .before .before .before .before .loop .ot) (c .before .before .before .before .before .before .before .before .before .before .before .before .before .before .before .before .before .before .before .before .before .before .before .before .before .loop .st) (c .before .before .before .before .before .before .before .before .before .before .before .before .before .before .before .before .before .before .before .before .before .before .before .before .before .loop .vt) (c .before .before .before .before .before .before .before .before .before .before .before .before .before .before .before .before .before .before .before .before .before .before .before .before .before .loop .dt) (c .before .before .before .before .before .before .before .before .before .before .before .before .before .before .before .before .before .before .before .before .before .before .before .before .before .loop .hr) (c .before .before .before .before .before .before .before .before .before .before .before .before .before .before .before .before .before .before .before .before .before .before .before .before .before .loop .c) (c .before .before .before .before .before .before .before .before .before .before .before .before .before .before .before .before .before .before .before .before .before .before .before .before .before .loop .u)) (c .before .before .before .before .before .before .before .before .before .before .before .before .before .before .place-leaf .ensures .1 .1) (c .before .before .before .before .before .before .before .before .if2 .left) (c .before .before .before .before .before .before .before .before .before .before .before .before .before .before .before .before .before .before .before .before .before .before .before .before .before .loop .inv .0)) in let p = c .before .before .before .before .before .before .before .before .before .before .before .before .before .before .before .before .before .before .before .before .before .before .before .before .before .before .before .before .before .before .before .before .before .before .before .pre in (omega (arith, p .0), (i .ready, (p .1 .1 .0, omega (arith, c .before .before .before .before .before .before .before .before .before .before .before .before .before .before .before .before .before .before .before .before .before .before .before .before .loop-test .taken, p .1 .1 .1), i .below, i .some)))
 
--- src/walk.rt:390:36
+-- src/walk.rt:375:36
 pub parse-items-enum-known-item : (t : ℕ) → parse-items-lts.Need-enum-known-item (
   word-bytes-reads.Asked,
   word-bytes-reads.Learnt,
@@ -259,7 +259,7 @@ pub parse-items-enum-known-item : (t : ℕ) → parse-items-lts.Need-enum-known-
 ) (parse-items-at t) parse-items.Post parse-items-Inv-loop parse-items-μ-loop
 parse-items-enum-known-item t c = search needs
 
--- src/walk.rt:391:25
+-- src/walk.rt:376:25
 pub parse-items-same-length : (t : ℕ) → parse-items-lts.Need-same-length (
   word-bytes-reads.Asked,
   word-bytes-reads.Learnt,
@@ -274,7 +274,7 @@ pub parse-items-same-length : (t : ℕ) → parse-items-lts.Need-same-length (
 ) (parse-items-at t) parse-items.Post parse-items-Inv-loop parse-items-μ-loop
 parse-items-same-length t c = c .before .before .before .before .before .before .before .before .before .before .before .before .before .parse-slot .kept .1 .1 .1 .1 .0 ∙ (unplaced (c .before .before .before .before .before .before .before .before .before .before .before .before .before .before .before .before .before .before .before .before .before .before .before .before .before .before .before .before .before .before .before .before .before .before .before .before .before .before .before .loop .t) (lent (c .before .before .before .before .before .before .before .before .before .before .before .before .before .before .before .before .before .before .before .before .before .before .before .before .before .before .before .before .before .before .before .before .before .before .before .before .before .before .before .loop .ot) (c .before .before .before .before .before .before .before .before .before .before .before .before .before .before .before .before .before .before .before .before .before .before .before .before .before .before .before .before .before .before .before .before .before .before .before .before .before .before .before .loop .st) (c .before .before .before .before .before .before .before .before .before .before .before .before .before .before .before .before .before .before .before .before .before .before .before .before .before .before .before .before .before .before .before .before .before .before .before .before .before .before .before .loop .vt) (c .before .before .before .before .before .before .before .before .before .before .before .before .before .before .before .before .before .before .before .before .before .before .before .before .before .before .before .before .before .before .before .before .before .before .before .before .before .before .before .loop .dt) (c .before .before .before .before .before .before .before .before .before .before .before .before .before .before .before .before .before .before .before .before .before .before .before .before .before .before .before .before .before .before .before .before .before .before .before .before .before .before .before .loop .hr) (c .before .before .before .before .before .before .before .before .before .before .before .before .before .before .before .before .before .before .before .before .before .before .before .before .before .before .before .before .before .before .before .before .before .before .before .before .before .before .before .loop .c) (c .before .before .before .before .before .before .before .before .before .before .before .before .before .before .before .before .before .before .before .before .before .before .before .before .before .before .before .before .before .before .before .before .before .before .before .before .before .before .before .loop .u)) (c .before .before .before .before .before .before .before .before .before .before .before .before .before .before .before .before .before .before .before .before .before .before .before .before .before .before .before .before .place-leaf .ensures .1 .1) (c .before .before .before .before .before .before .before .before .before .before .before .before .before .before .before .before .before .before .before .before .before .before .if2 .left) (c .before .before .before .before .before .before .before .before .before .before .before .before .before .before .before .before .before .before .before .before .before .before .before .before .before .before .before .before .before .before .before .before .before .before .before .before .before .before .before .loop .inv .0)) .onward .objects-size
 
--- src/walk.rt:391:25
+-- src/walk.rt:376:25
 pub parse-items-same-length-2 : (t : ℕ) → parse-items-lts.Need-same-length-2 (
   word-bytes-reads.Asked,
   word-bytes-reads.Learnt,
@@ -289,7 +289,7 @@ pub parse-items-same-length-2 : (t : ℕ) → parse-items-lts.Need-same-length-2
 ) (parse-items-at t) parse-items.Post parse-items-Inv-loop parse-items-μ-loop
 parse-items-same-length-2 t c = c .before .before .before .before .before .before .before .before .before .before .before .before .before .parse-slot .kept .1 .1 .1 .1 .1 .0 ∙ (unplaced (c .before .before .before .before .before .before .before .before .before .before .before .before .before .before .before .before .before .before .before .before .before .before .before .before .before .before .before .before .before .before .before .before .before .before .before .before .before .before .before .loop .t) (lent (c .before .before .before .before .before .before .before .before .before .before .before .before .before .before .before .before .before .before .before .before .before .before .before .before .before .before .before .before .before .before .before .before .before .before .before .before .before .before .before .loop .ot) (c .before .before .before .before .before .before .before .before .before .before .before .before .before .before .before .before .before .before .before .before .before .before .before .before .before .before .before .before .before .before .before .before .before .before .before .before .before .before .before .loop .st) (c .before .before .before .before .before .before .before .before .before .before .before .before .before .before .before .before .before .before .before .before .before .before .before .before .before .before .before .before .before .before .before .before .before .before .before .before .before .before .before .loop .vt) (c .before .before .before .before .before .before .before .before .before .before .before .before .before .before .before .before .before .before .before .before .before .before .before .before .before .before .before .before .before .before .before .before .before .before .before .before .before .before .before .loop .dt) (c .before .before .before .before .before .before .before .before .before .before .before .before .before .before .before .before .before .before .before .before .before .before .before .before .before .before .before .before .before .before .before .before .before .before .before .before .before .before .before .loop .hr) (c .before .before .before .before .before .before .before .before .before .before .before .before .before .before .before .before .before .before .before .before .before .before .before .before .before .before .before .before .before .before .before .before .before .before .before .before .before .before .before .loop .c) (c .before .before .before .before .before .before .before .before .before .before .before .before .before .before .before .before .before .before .before .before .before .before .before .before .before .before .before .before .before .before .before .before .before .before .before .before .before .before .before .loop .u)) (c .before .before .before .before .before .before .before .before .before .before .before .before .before .before .before .before .before .before .before .before .before .before .before .before .before .before .before .before .place-leaf .ensures .1 .1) (c .before .before .before .before .before .before .before .before .before .before .before .before .before .before .before .before .before .before .before .before .before .before .if2 .left) (c .before .before .before .before .before .before .before .before .before .before .before .before .before .before .before .before .before .before .before .before .before .before .before .before .before .before .before .before .before .before .before .before .before .before .before .before .before .before .before .loop .inv .0)) .onward .slots-size
 
--- src/walk.rt:391:25
+-- src/walk.rt:376:25
 pub parse-items-same-length-3 : (t : ℕ) → parse-items-lts.Need-same-length-3 (
   word-bytes-reads.Asked,
   word-bytes-reads.Learnt,
@@ -304,7 +304,7 @@ pub parse-items-same-length-3 : (t : ℕ) → parse-items-lts.Need-same-length-3
 ) (parse-items-at t) parse-items.Post parse-items-Inv-loop parse-items-μ-loop
 parse-items-same-length-3 t c = c .before .before .before .before .before .before .before .before .before .before .before .before .before .parse-slot .kept .1 .1 .1 .1 .1 .1 .0 ∙ (unplaced (c .before .before .before .before .before .before .before .before .before .before .before .before .before .before .before .before .before .before .before .before .before .before .before .before .before .before .before .before .before .before .before .before .before .before .before .before .before .before .before .loop .t) (lent (c .before .before .before .before .before .before .before .before .before .before .before .before .before .before .before .before .before .before .before .before .before .before .before .before .before .before .before .before .before .before .before .before .before .before .before .before .before .before .before .loop .ot) (c .before .before .before .before .before .before .before .before .before .before .before .before .before .before .before .before .before .before .before .before .before .before .before .before .before .before .before .before .before .before .before .before .before .before .before .before .before .before .before .loop .st) (c .before .before .before .before .before .before .before .before .before .before .before .before .before .before .before .before .before .before .before .before .before .before .before .before .before .before .before .before .before .before .before .before .before .before .before .before .before .before .before .loop .vt) (c .before .before .before .before .before .before .before .before .before .before .before .before .before .before .before .before .before .before .before .before .before .before .before .before .before .before .before .before .before .before .before .before .before .before .before .before .before .before .before .loop .dt) (c .before .before .before .before .before .before .before .before .before .before .before .before .before .before .before .before .before .before .before .before .before .before .before .before .before .before .before .before .before .before .before .before .before .before .before .before .before .before .before .loop .hr) (c .before .before .before .before .before .before .before .before .before .before .before .before .before .before .before .before .before .before .before .before .before .before .before .before .before .before .before .before .before .before .before .before .before .before .before .before .before .before .before .loop .c) (c .before .before .before .before .before .before .before .before .before .before .before .before .before .before .before .before .before .before .before .before .before .before .before .before .before .before .before .before .before .before .before .before .before .before .before .before .before .before .before .loop .u)) (c .before .before .before .before .before .before .before .before .before .before .before .before .before .before .before .before .before .before .before .before .before .before .before .before .before .before .before .before .place-leaf .ensures .1 .1) (c .before .before .before .before .before .before .before .before .before .before .before .before .before .before .before .before .before .before .before .before .before .before .if2 .left) (c .before .before .before .before .before .before .before .before .before .before .before .before .before .before .before .before .before .before .before .before .before .before .before .before .before .before .before .before .before .before .before .before .before .before .before .before .before .before .before .loop .inv .0)) .onward .values-size
 
--- src/walk.rt:391:25
+-- src/walk.rt:376:25
 pub parse-items-same-length-4 : (t : ℕ) → parse-items-lts.Need-same-length-4 (
   word-bytes-reads.Asked,
   word-bytes-reads.Learnt,
@@ -319,7 +319,7 @@ pub parse-items-same-length-4 : (t : ℕ) → parse-items-lts.Need-same-length-4
 ) (parse-items-at t) parse-items.Post parse-items-Inv-loop parse-items-μ-loop
 parse-items-same-length-4 t c = c .before .before .before .before .before .before .before .before .before .before .before .before .before .parse-slot .kept .1 .1 .1 .1 .1 .1 .1 .0 ∙ (unplaced (c .before .before .before .before .before .before .before .before .before .before .before .before .before .before .before .before .before .before .before .before .before .before .before .before .before .before .before .before .before .before .before .before .before .before .before .before .before .before .before .loop .t) (lent (c .before .before .before .before .before .before .before .before .before .before .before .before .before .before .before .before .before .before .before .before .before .before .before .before .before .before .before .before .before .before .before .before .before .before .before .before .before .before .before .loop .ot) (c .before .before .before .before .before .before .before .before .before .before .before .before .before .before .before .before .before .before .before .before .before .before .before .before .before .before .before .before .before .before .before .before .before .before .before .before .before .before .before .loop .st) (c .before .before .before .before .before .before .before .before .before .before .before .before .before .before .before .before .before .before .before .before .before .before .before .before .before .before .before .before .before .before .before .before .before .before .before .before .before .before .before .loop .vt) (c .before .before .before .before .before .before .before .before .before .before .before .before .before .before .before .before .before .before .before .before .before .before .before .before .before .before .before .before .before .before .before .before .before .before .before .before .before .before .before .loop .dt) (c .before .before .before .before .before .before .before .before .before .before .before .before .before .before .before .before .before .before .before .before .before .before .before .before .before .before .before .before .before .before .before .before .before .before .before .before .before .before .before .loop .hr) (c .before .before .before .before .before .before .before .before .before .before .before .before .before .before .before .before .before .before .before .before .before .before .before .before .before .before .before .before .before .before .before .before .before .before .before .before .before .before .before .loop .c) (c .before .before .before .before .before .before .before .before .before .before .before .before .before .before .before .before .before .before .before .before .before .before .before .before .before .before .before .before .before .before .before .before .before .before .before .before .before .before .before .loop .u)) (c .before .before .before .before .before .before .before .before .before .before .before .before .before .before .before .before .before .before .before .before .before .before .before .before .before .before .before .before .place-leaf .ensures .1 .1) (c .before .before .before .before .before .before .before .before .before .before .before .before .before .before .before .before .before .before .before .before .before .before .if2 .left) (c .before .before .before .before .before .before .before .before .before .before .before .before .before .before .before .before .before .before .before .before .before .before .before .before .before .before .before .before .before .before .before .before .before .before .before .before .before .before .before .loop .inv .0)) .onward .addresses-size
 
--- src/walk.rt:391:25
+-- src/walk.rt:376:25
 pub parse-items-same-length-5 : (t : ℕ) → parse-items-lts.Need-same-length-5 (
   word-bytes-reads.Asked,
   word-bytes-reads.Learnt,
@@ -334,7 +334,7 @@ pub parse-items-same-length-5 : (t : ℕ) → parse-items-lts.Need-same-length-5
 ) (parse-items-at t) parse-items.Post parse-items-Inv-loop parse-items-μ-loop
 parse-items-same-length-5 t c = c .before .before .before .before .before .before .before .before .before .before .before .before .before .parse-slot .kept .1 .1 .1 .1 .1 .1 .1 .1 .1 .1 .1 .0 ∙ c .before .before .before .before .before .before .before .before .before .before .before .before .before .before .before .before .before .before .before .before .before .before .before .before .before .before .before .before .before .before .before .before .before .before .before .before .before .before .before .loop .inv .1
 
--- src/walk.rt:391:25
+-- src/walk.rt:376:25
 pub parse-items-returns : (t : ℕ) → parse-items-lts.Need-returns (
   word-bytes-reads.Asked,
   word-bytes-reads.Learnt,
@@ -349,7 +349,7 @@ pub parse-items-returns : (t : ℕ) → parse-items-lts.Need-returns (
 ) (parse-items-at t) parse-items.Post parse-items-Inv-loop parse-items-μ-loop
 parse-items-returns t c = (loop-no _ _ _ _ _ _ _ _ (unplaced (c .before .before .before .before .before .before .before .before .before .before .before .before .before .before .before .before .before .before .before .before .before .before .before .before .before .before .before .before .before .before .before .before .before .before .before .before .before .before .before .loop .t) (lent (c .before .before .before .before .before .before .before .before .before .before .before .before .before .before .before .before .before .before .before .before .before .before .before .before .before .before .before .before .before .before .before .before .before .before .before .before .before .before .before .loop .ot) (c .before .before .before .before .before .before .before .before .before .before .before .before .before .before .before .before .before .before .before .before .before .before .before .before .before .before .before .before .before .before .before .before .before .before .before .before .before .before .before .loop .st) (c .before .before .before .before .before .before .before .before .before .before .before .before .before .before .before .before .before .before .before .before .before .before .before .before .before .before .before .before .before .before .before .before .before .before .before .before .before .before .before .loop .vt) (c .before .before .before .before .before .before .before .before .before .before .before .before .before .before .before .before .before .before .before .before .before .before .before .before .before .before .before .before .before .before .before .before .before .before .before .before .before .before .before .loop .dt) (c .before .before .before .before .before .before .before .before .before .before .before .before .before .before .before .before .before .before .before .before .before .before .before .before .before .before .before .before .before .before .before .before .before .before .before .before .before .before .before .loop .hr) (c .before .before .before .before .before .before .before .before .before .before .before .before .before .before .before .before .before .before .before .before .before .before .before .before .before .before .before .before .before .before .before .before .before .before .before .before .before .before .before .loop .c) (c .before .before .before .before .before .before .before .before .before .before .before .before .before .before .before .before .before .before .before .before .before .before .before .before .before .before .before .before .before .before .before .before .before .before .before .before .before .before .before .loop .u)) (c .before .before .before .before .before .before .before .before .before .before .before .before .before .before .before .before .before .before .before .before .before .before .before .before .before .before .before .before .place-leaf .ensures .1 .1) (c .before .before .before .before .before .before .before .before .before .before .before .before .before .before .before .before .before .before .before .before .before .before .if2 .left) (c .before .before .before .before .before .before .before .before .before .before .before .before .before .before .before .before .before .before .before .before .before .before .before .before .before .before .before .before .before .before .before .before .before .before .before .before .before .before .before .loop .inv .0)) (c .before .before .before .before .before .before .before .before .before .before .before .before .before .before .before .before .before .before .before .before .before .before .before .before .before .before .before .before .before .before .before .before .before .before .before .before .before .before .loop-test .taken) (deferred-not (c .before .before .before .before .before .before .before .before .before .before .before .before .before .before .before .before .before .before .before .before .before .before .before .before .before .before .before .before .before .before .before .before .before .before .before .before .before .before .before .before .before .before .before .before .before .before .before .before .before .args .v .now) _ _ (c .before .before .before .before .before .before .before .before .before .before .before .before .before .before .before .before .before .before .before .before .before .before .before .before .before .before .before .before .before .before .before .before .before .before .before .before .before .peek .ensures) (c .before .before .before .before .before .before .before .before .before .before .before .before .before .before .before .before .before .before .before .before .before .before .before .before .before .before .before .before .before .before .before .before .before .before .before .before .is-tag .ensures) (c .before .before .before .before .before .before .before .before .before .before .before .before .before .before .before .before .before .before .before .before .before .before .before .before .before .before .before .before .before .before .before .before .before .before .before .if1 .left)) (count-no _ (c .before .item .given .1) (c .before .before .before .before .before .before .before .before .before .before .before .before .before .parse-slot .ensures .0)), tt)
 
--- src/walk.rt:393:31
+-- src/walk.rt:378:31
 pub parse-items-enum-known-item-2 : (t : ℕ) → parse-items-lts.Need-enum-known-item-2 (
   word-bytes-reads.Asked,
   word-bytes-reads.Learnt,
