@@ -358,30 +358,12 @@ fn parse_items(
             done = n;
         } else {
             let start = done + t.skip;
-            let count = t.objects;
+            let b = t.objects;
             let i = t.slots;
             let m = t.addresses;
             let f = t.alignment;
-            let at = start / word;
-            let leaf = place_leaf(
-                v,
-                h,
-                p,
-                dt,
-                sc,
-                ot,
-                st,
-                hr,
-                next,
-                count,
-                i,
-                o,
-                at,
-                m,
-                f,
-                word,
-                d,
-            );
+            let x = start / word;
+            let leaf = place_leaf(v, h, p, dt, sc, ot, st, hr, next, b, i, o, x, m, f, word, d);
             if leaf.kind != 0 {
                 t.at = leaf.next;
                 t.slots = i + 1;

@@ -54,7 +54,7 @@ use Rattle.walker.proofs.walk.+parse_below+parse_head+parse_inner+parse
 }
 use Rattle.walker.proofs.walk.+parse_below+parse_head+parse_inner+parse_items+parse_map+parse_object+parse_ref+parse_slot.Proof.Common.{μ-parse-below, μ-parse-head, μ-parse-inner, μ-parse-items, μ-parse-map, μ-parse-object, μ-parse-ref, μ-parse-slot, parse-below-at, parse-below-below, parse-head-at, parse-head-below, parse-inner-at, parse-inner-below, parse-items-at, parse-items-below, parse-map-at, parse-map-below, parse-object-at, parse-object-below, parse-ref-at, parse-ref-below, parse-slot-at, parse-slot-below, parse-items-Inv-loop, parse-items-μ-loop}
 use Rattle.walker.proofs.walk.+parse_below+parse_head+parse_inner+parse_items+parse_map+parse_object+parse_ref+parse_slot.Proof.Inner.{parse-inner-word-bytes-requires, parse-inner-leaf-at-requires, parse-inner-take-leaf-requires, parse-inner-returns, parse-inner-add-parse-ref, parse-inner-parse-ref-requires, parse-inner-same-length, parse-inner-same-length-2, parse-inner-same-length-3, parse-inner-same-length-4, parse-inner-same-length-5, parse-inner-returns-2}
-use Rattle.walker.proofs.walk.+parse_below+parse_head+parse_inner+parse_items+parse_map+parse_object+parse_ref+parse_slot.Proof.Items.{parse-items-word-bytes-requires, parse-items-loop-holds, parse-items-peek-requires, parse-items-is-tag-requires, parse-items-add-t, parse-items-loop-less, parse-items-loop-again, parse-items-add-start, parse-items-div-at, parse-items-place-leaf-requires, parse-items-add-t-2, parse-items-add-done, parse-items-loop-less-2, parse-items-loop-again-2, parse-items-parse-slot-requires, parse-items-enum-known-item, parse-items-same-length, parse-items-same-length-2, parse-items-same-length-3, parse-items-same-length-4, parse-items-same-length-5, parse-items-returns, parse-items-enum-known-item-2, parse-items-loop-less-3, parse-items-loop-again-3, parse-items-same-length-6, parse-items-same-length-7, parse-items-same-length-8, parse-items-same-length-9, parse-items-same-length-10, parse-items-returns-2, parse-items-same-length-11, parse-items-same-length-12, parse-items-same-length-13, parse-items-same-length-14, parse-items-same-length-15, parse-items-returns-3}
+use Rattle.walker.proofs.walk.+parse_below+parse_head+parse_inner+parse_items+parse_map+parse_object+parse_ref+parse_slot.Proof.Items.{parse-items-word-bytes-requires, parse-items-loop-holds, parse-items-peek-requires, parse-items-is-tag-requires, parse-items-add-t, parse-items-loop-less, parse-items-loop-again, parse-items-add-start, parse-items-div-x, parse-items-place-leaf-requires, parse-items-add-t-2, parse-items-add-done, parse-items-loop-less-2, parse-items-loop-again-2, parse-items-parse-slot-requires, parse-items-enum-known-item, parse-items-same-length, parse-items-same-length-2, parse-items-same-length-3, parse-items-same-length-4, parse-items-same-length-5, parse-items-returns, parse-items-enum-known-item-2, parse-items-loop-less-3, parse-items-loop-again-3, parse-items-same-length-6, parse-items-same-length-7, parse-items-same-length-8, parse-items-same-length-9, parse-items-same-length-10, parse-items-returns-2, parse-items-same-length-11, parse-items-same-length-12, parse-items-same-length-13, parse-items-same-length-14, parse-items-same-length-15, parse-items-returns-3}
 use Rattle.walker.proofs.walk.+parse_below+parse_head+parse_inner+parse_items+parse_map+parse_object+parse_ref+parse_slot.Proof.Map.{parse-map-parse-inner-requires, parse-map-enum-known-m, parse-map-enum-known-x, parse-map-after-map-requires, parse-map-enum-known-m-2, parse-map-enum-known-y, parse-map-keep-map-requires, parse-map-enum-known-m-3, parse-map-enum-known-w, parse-map-resolves-requires, parse-map-same-length, parse-map-same-length-2, parse-map-same-length-3, parse-map-same-length-4, parse-map-same-length-5, parse-map-returns, parse-map-same-length-6, parse-map-same-length-7, parse-map-same-length-8, parse-map-same-length-9, parse-map-same-length-10, parse-map-returns-2, parse-map-same-length-11, parse-map-same-length-12, parse-map-same-length-13, parse-map-same-length-14, parse-map-same-length-15, parse-map-returns-3, parse-map-same-length-16, parse-map-same-length-17, parse-map-same-length-18, parse-map-same-length-19, parse-map-same-length-20, parse-map-returns-4}
 use Rattle.walker.proofs.walk.+parse_below+parse_head+parse_inner+parse_items+parse_map+parse_object+parse_ref+parse_slot.Proof.Object.{parse-object-parse-head-requires, parse-object-enum-known-m, parse-object-enum-known-n, parse-object-parse-items-requires, parse-object-same-length, parse-object-same-length-2, parse-object-same-length-3, parse-object-same-length-4, parse-object-same-length-5, parse-object-returns, parse-object-same-length-6, parse-object-same-length-7, parse-object-same-length-8, parse-object-same-length-9, parse-object-same-length-10, parse-object-returns-2}
 use Rattle.walker.proofs.walk.+parse_below+parse_head+parse_inner+parse_items+parse_map+parse_object+parse_ref+parse_slot.Proof.Head.{parse-head-word-bytes-requires, parse-head-open-leaf-requires, parse-head-add-t, parse-head-add-t-2, parse-head-mul-t45, parse-head-same-length, parse-head-same-length-2, parse-head-same-length-3, parse-head-same-length-4, parse-head-returns, parse-head-open-object-requires, parse-head-enum-known-m, parse-head-enum-known-words, parse-head-mul-n, parse-head-parse-map-requires, parse-head-enum-known-m-2, parse-head-enum-known-y, parse-head-same-length-5, parse-head-same-length-6, parse-head-same-length-7, parse-head-same-length-8, parse-head-returns-2, parse-head-same-length-9, parse-head-same-length-10, parse-head-same-length-11, parse-head-same-length-12, parse-head-same-length-13, parse-head-returns-3, parse-head-same-length-14, parse-head-same-length-15, parse-head-same-length-16, parse-head-same-length-17, parse-head-same-length-18, parse-head-returns-4}
@@ -208,7 +208,7 @@ pub +parse-below+parse-head+parse-inner+parse-items+parse-map+parse-object+parse
     (parse-items-loop-less t)
     (parse-items-loop-again t)
     (parse-items-add-start t)
-    (parse-items-div-at t)
+    (parse-items-div-x t)
     (parse-items-place-leaf-requires t)
     (parse-items-add-t-2 t)
     (parse-items-add-done t)

@@ -140,7 +140,7 @@ pub parse-items-add-start : (t : ℕ) → parse-items-lts.Need-add-start (
 parse-items-add-start t c = let w = c .before .before .before .before .before .loop .inv .0 in omega (arith, c .before .before .before .before .loop-test .taken, c .before .before .before .before .before .before .before .before .before .before .before .before .before .before .before .pre .1 .1 .1, w .ready .sound .skip-low, w .ready .sound .within, w .ready .proper .short)
 
 -- src/walk.rt:365:22
-pub parse-items-div-at : (t : ℕ) → parse-items-lts.Need-div-at (
+pub parse-items-div-x : (t : ℕ) → parse-items-lts.Need-div-x (
   word-bytes-reads.Asked,
   word-bytes-reads.Learnt,
   peek-reads.Asked,
@@ -152,7 +152,7 @@ pub parse-items-div-at : (t : ℕ) → parse-items-lts.Need-div-at (
   parse-slot-below t,
   parse-slot.Post,
 ) (parse-items-at t) parse-items.Post parse-items-Inv-loop parse-items-μ-loop
-parse-items-div-at t c = omega (arith, word-some (c .before .before .before .before .before .loop .inv .0 .ready) .1, c .before .before .before .before .before .before .word-bytes .ensures .0)
+parse-items-div-x t c = omega (arith, word-some (c .before .before .before .before .before .loop .inv .0 .ready) .1, c .before .before .before .before .before .before .word-bytes .ensures .0)
 
 -- src/walk.rt:366:17
 pub parse-items-place-leaf-requires : (t : ℕ) → parse-items-lts.Need-place-leaf-requires (
