@@ -106,7 +106,7 @@ pub fn read_up_to<'a>(call: &Call<'a>, most: Rooms) -> Result<Graph<'a>, Refusal
 }
 
 /// As much scratch as keeps the call from searching: a place for each pending number, of which there are no more than payload bytes, and for
-/// legacy sheets the index of addresses, 256 numbers and five for each record, of which two are hints where a search begins.
+/// legacy sheets the index of addresses, 256 numbers and five for each record, of which two are places for hints where a search begins.
 fn scratch_length(call: &Call, rooms: Rooms) -> usize {
     let records = rooms.addresses.saturating_mul(5);
     let index = if call.sheet.is_legacy() { records.saturating_add(256) } else { 0 };

@@ -1,5 +1,5 @@
-// Hints where a search in the index of legacy addresses should begin: two for each record, behind the links, where the index has five numbers
-// for each record. They are not cleared first, and hints and links of later records overwrite them, so that nothing is known of what they
+// Hints where a search in the index of legacy addresses should begin: two places for each record, behind the links, where the index has five
+// numbers for each record. They are not cleared first, and hints and links of later records overwrite them, so that nothing is known of what they
 // hold: the search checks the record that a hint names, and begins at the newest one where it is not of use. Records are counted from 1.
 ghost use Prim.Native.Nat.{_+_, _*_, _^_, _<_, _≤_};
 ghost use lib.ListN.{length};

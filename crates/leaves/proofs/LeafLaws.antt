@@ -32,7 +32,7 @@ use Rattle.readers.specs.Views.{Lent, input, mem, hotIs}
 use Rattle.readers.proofs.ViewLaws.{then-got}
 use Rattle.readers.proofs.SimpleLaws.{backref-in, hot-is, legacy-to, raw-to}
 use Rattle.leaves.specs.declared.leaf.Leaf.{Leaf}
-use Rattle.leaves.specs.Leaf.{ring, after, valueOf, entering, Stands, Found, FoundIn, Placed}
+use Rattle.leaves.specs.Leaf.{ring, after, valueOf, entering, Entered, Stands, Found, FoundIn, Placed}
 
 -- nothing is said of none
 pub none-found : (p hot : List ℕ) (objects ts at kind a : ℕ) (r : Leaf) → r .kind ≡ 0 → Found p hot objects ts at kind a r
@@ -42,12 +42,12 @@ none-found p hot objects ts at kind a r e h = absurd (h e)
 pub found-kind : (p hot : List ℕ) (objects ts at a : ℕ) (r : Leaf) {kind key : ℕ} → kind ≡ key → Found p hot objects ts at key a r → Found p hot objects ts at kind a r
 found-kind p hot objects ts at a r e f = subst (λ (k : ℕ). Found p hot objects ts at k a r) (sym e) f
 
-pub none-found-in : (v p dt hot : List ℕ) (objects n alignment ts at kind a : ℕ) (r : Leaf) → r .kind ≡ 0 → FoundIn v p dt hot objects n alignment ts at kind a r
-none-found-in v p dt hot objects n alignment ts at kind a r e h = absurd (h e)
-
 -- what is right in every sheet is right in one
 pub found-in : (v p dt hot : List ℕ) (objects n alignment ts at kind a : ℕ) (r : Leaf) → Found p hot objects ts at kind a r → FoundIn v p dt hot objects n alignment ts at kind a r
 found-in v p dt hot objects n alignment ts at kind a r f h tr sp tag s l ew ea eo _ _ _ = f h v tr sp tag s l ew ea eo
+
+pub none-found-in : (v p dt hot : List ℕ) (objects n alignment ts at kind a : ℕ) (r : Leaf) → r .kind ≡ 0 → FoundIn v p dt hot objects n alignment ts at kind a r
+none-found-in v p dt hot objects n alignment ts at kind a r e = found-in v p dt hot objects n alignment ts at kind a r (none-found p hot objects ts at kind a r e)
 
 -- a reference is a slot of one word
 module _ (x : Input) (r : Ref) where
@@ -78,10 +78,6 @@ pub words-small : {n w : ℕ} → n < 2 ^ 30 → w ≤ 8 → n * w < 2 ^ 64
 words-small h l = let z = mul-le-mul (le-of-lt h) l in omega (arith, z)
 
 module _ (p hots : List ℕ) (objects ts at : ℕ) where
-  -- what `entering` answers
-  abbrev Entered : Ref → ℕ → Leaf → Type 0
-  Entered r next leaf = (leaf .kind ≡ 0 → ⊥) → (leaf ≡ entering r next ts) × (valueOf leaf ≡ IsRef r)
-
   pub root-found : (i : ℕ) → Found p hots objects ts at 10 i (record { kind = 2; a = i; b = 0; width = ts; next = at; enters = false })
   unfolding byHead
   root-found i h v tr sp tag s l ew ea eo =
@@ -102,7 +98,7 @@ module _ (p hots : List ℕ) (objects ts at : ℕ) where
       unfolding hotAt
       hot-root z = hot-found (Root i) k i (rw z) (rw z) (rw (← ek, z, ← ei))
 
-  pub back-found : (i n a : ℕ) → IntIs i n ≡ intAt p at → i < objects → (leaf : Leaf) → Entered (Object i) (at + n) leaf → Found p hots objects ts at 2 a leaf
+  pub back-found : (i n a : ℕ) → IntIs i n ≡ intAt p at → i < objects → (leaf : Leaf) → Entered (Object i) (at + n) ts leaf → Found p hots objects ts at 2 a leaf
   unfolding byHead
   back-found i n a e b leaf q h v tr sp tag s l ew ea eo =
       let x = input v p sp tr in
@@ -110,7 +106,7 @@ module _ (p hots : List ℕ) (objects ts at : ℕ) where
       let g : got i (moved (s .at + n) m) ≡ int x m = int-got x m (ap (intAt p) ea ∙ sym e) in
       entering-stands x tag 2 a s (hotIs hots l) (Object i) (at + n) ts leaf (q h .0) (q h .1) ew (λ inner. rw (← ea) (then-got backrefTo g (backref-in (moved (s .at + n) m) i (rw eo b) refl)))
 
-  pub root-array-found : (i n a : ℕ) → IntIs i n ≡ intAt p at → (leaf : Leaf) → Entered (Root i) (at + n) leaf → Found p hots objects ts at 9 a leaf
+  pub root-array-found : (i n a : ℕ) → IntIs i n ≡ intAt p at → (leaf : Leaf) → Entered (Root i) (at + n) ts leaf → Found p hots objects ts at 9 a leaf
   unfolding byHead
   root-array-found i n a e leaf q h v tr sp tag s l ew ea eo =
       let x = input v p sp tr in
@@ -136,7 +132,7 @@ module _ (p hots : List ℕ) (objects ts at : ℕ) where
       record { value = IsRaw (record { off = at; len = n * ts; advances = true }); is = λ inner. rw (← ea, ← ew) (raw-to x (n * wordBytes v) true m refl (rw (ea, ew) (sym e))); fields = refl; width = refl; kept = λ o done m. refl; waits = refl; valued = refl }
 
 -- a legacy back-reference
-pub legacy-found : (v p dt hots : List ℕ) (objects n alignment ts at space : ℕ) {b : Backref} → b ≡ backrefOf v p dt n alignment space at → (r : Ref) (next : ℕ) → b ≡ To r next → (leaf : Leaf) → ((leaf .kind ≡ 0 → ⊥) → (leaf ≡ entering r next ts) × (valueOf leaf ≡ IsRef r)) → {kind : ℕ} → kind ≡ 3 → FoundIn v p dt hots objects n alignment ts at kind space leaf
+pub legacy-found : (v p dt hots : List ℕ) (objects n alignment ts at space : ℕ) {b : Backref} → b ≡ backrefOf v p dt n alignment space at → (r : Ref) (next : ℕ) → b ≡ To r next → (leaf : Leaf) → Entered r next ts leaf → {kind : ℕ} → kind ≡ 3 → FoundIn v p dt hots objects n alignment ts at kind space leaf
 unfolding byHead
 legacy-found v p dt hots objects n alignment ts at space {b} e r next k leaf q ek h tr sp tag s l ew ea eo en el ed =
     let x = input v p sp tr in

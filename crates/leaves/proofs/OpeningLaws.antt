@@ -1,9 +1,8 @@
 -- An object whose map is a leaf, at each way out of the code. Assumes nothing.
 use mathlib.Core.Path.{_≡_, subst}
 use mathlib.Core.List.{List}
-use Prim.Native.Nat.{ℕ, _+_, _*_, _^_, _<_}
+use Prim.Native.Nat.{ℕ, _^_, _<_}
 use native.Mathlib.Omega.{arith}
-use lib.ListN.{set}
 use Rattle.tables.specs.Records.{room, field, objectRow, written}
 use Rattle.tables.proofs.RecordLaws.{written-same}
 use Rattle.alloc.specs.declared.legacy_alloc.LegacyAlloc.{LegacyAlloc}

@@ -5,7 +5,7 @@ use mathlib.Core.List.{List}
 use Prim.Native.Nat.{ℕ, _+_, _*_, _<_}
 use Rattle.sheet.specs.Sheet.{wordBytes}
 use lib.Dec.{eqb}
-use lib.ListN.{set}
+use lib.ListN.{getD, set}
 use Rattle.tables.specs.declared.values.Fields.{Fields}
 use Rattle.tables.specs.declared.values.Ref.{Ref}
 use Rattle.tables.specs.declared.values.Ref.the-variants.{Object, Root, RoRef}
@@ -22,12 +22,16 @@ use Rattle.readers.specs.Simple.{pickValue}
 use Rattle.readers.specs.Views.{Lent, input, mem, hotIs}
 use Rattle.leaves.specs.declared.leaf.Leaf.{Leaf}
 
--- the ring, where these fields enter it
+-- the numbers of the heads fit in 16 bits
+abbrev pub HeadsFit : List ℕ → Type 0
+HeadsFit h = (b : ℕ) → b < 256 → (getD h b 0 < 65536) × (getD h (256 + b) 0 < 65536)
+
+-- the ring after fields that enter it, or do not
 abbrev pub ringWith : Bool → Fields → List ℕ → List ℕ
 ringWith true f hot = entered hot f
 ringWith false f hot = hot
 
--- the ring after it
+-- the ring after a leaf
 abbrev pub ring : Leaf → List ℕ → List ℕ
 ring r hot = ringWith (r .enters) (triple (r .kind) (r .a) (r .b)) hot
 
@@ -69,6 +73,10 @@ FoundIn v p addresses hot objects n alignment ts at kind a r =
 abbrev pub entering : Ref → ℕ → ℕ → Leaf
 entering r next ts =
     record { kind = refFields r .kind; a = refFields r .a; b = refFields r .b; width = ts; next = next; enters = true }
+
+-- no leaf, or this one, which stands for that reference
+abbrev pub Entered : Ref → ℕ → ℕ → Leaf → Type 0
+Entered r next ts leaf = (leaf .kind ≡ 0 → ⊥) → (leaf ≡ entering r next ts) × (valueOf leaf ≡ IsRef r)
 
 -- its slot record n of object o, at this index, with the object's slot count and the ring; where there is no leaf, all stays
 pub record Placed (n o index : ℕ) (r : Leaf) (objects slots hot objects′ slots′ hot′ : List ℕ) : Type 0 where

@@ -1,4 +1,4 @@
--- An object whose map is a leaf, opened without a state. Assumes nothing: these are definitions.
+-- An object whose map is a leaf, opened without the readers of every reference. Assumes nothing: these are definitions.
 use mathlib.Core.Path.{_≡_}
 use mathlib.Core.Bool.{true, false}
 use mathlib.Core.List.{List}
@@ -20,8 +20,8 @@ use Rattle.leaves.specs.declared.leaf.Leaf.{Leaf}
 use Rattle.leaves.specs.declared.opening.Opened.{Opened}
 use Rattle.leaves.specs.Leaf.{ring, valueOf, Found}
 
--- the size stands at a place and the map after it, a leaf that sets no flag; no byte of a large object stands between them, nothing but an
--- allocation belongs to the map, and no resolve follows
+-- the size stands at a place and the map after it, a leaf that sets no flag; no byte of a large object stands between them, and nothing
+-- but an allocation follows the map, no resolve either
 pub record MapAt (v h tr p hot : List ℕ) (at count ts : ℕ) (r : Opened) : Type 0 where
   pub no-large-byte : isSixX v ≡ false
   pub not-first : isMapFirst v ≡ false
@@ -46,3 +46,8 @@ pub record Addressed (v : List ℕ) (spaces n size : ℕ) (want : Request) (cur 
   pub legacy : isLegacy v ≡ true → (outcome 0 alignment (record { cur = cur; used = used′ }) addresses′ ≡ allocateOf addresses n spaces want (record { cur = cur; used = used })) × (records ≡ n + 1)
   pub linked : Linked addresses′ records (drop size scratch′)
   pub front : take size scratch′ ≡ take size scratch
+
+-- all stays
+abbrev pub Unopened : List ℕ → List ℕ → List ℕ → List ℕ → List ℕ → List ℕ → List ℕ → List ℕ → List ℕ → List ℕ → List ℕ → List ℕ → Type 0
+Unopened objects slots addresses hot used scratch objects′ slots′ addresses′ hot′ used′ scratch′ =
+    (objects′ ≡ objects) × (slots′ ≡ slots) × (addresses′ ≡ addresses) × (hot′ ≡ hot) × (used′ ≡ used) × (scratch′ ≡ scratch)

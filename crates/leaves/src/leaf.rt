@@ -1,5 +1,5 @@
 // The commonest references that hold no other, read without a state, so that a slot with one of them costs little: a root, a hot place, a
-// back-reference, a read-only reference and fixed raw data. What is refused is left to the readers of every reference.
+// back-reference (in an item a legacy one too), a read-only reference and fixed raw data. What is refused is left to the readers of every reference.
 use backref::hot_ring::add_fields;
 use backref::legacy::Backref;
 use backref::legacy::backref_at;
@@ -25,15 +25,14 @@ ghost use Prim.Native.Nat.{ℕ, _+_, _*_, _^_, _<_, _≤_};
 ghost use lib.Dec.{ltb, eqb};
 ghost use lib.ListN.{length, getD, drop};
 ghost use Rattle.sheet.specs.Sheet.{usable};
-ghost use Rattle.tables.specs.declared.values.SlotValue.the-variants.{Ref as IsRef};
 ghost use Rattle.tables.specs.Records.{room, field};
 ghost use Rattle.address_index.specs.Links.{Linked};
 ghost use Rattle.address_index.specs.Sorted.{Sorted};
 ghost use Rattle.definition.specs.Memory.{got};
 ghost use Rattle.readers.specs.Views.{Lent, mem, seen, hotIs};
-ghost use Rattle.leaves.specs.Leaf.{ringWith, ring, after, valueOf, entering as enteringLeaf, Found, FoundIn, Placed};
+ghost use Rattle.leaves.specs.Leaf.{HeadsFit, ringWith, ring, after, valueOf, Entered, Found, FoundIn, Placed};
 
-// Kind, a and b of a slot, its width, the cursor after it, and whether the object a enters the hot ring. Kind 0: none of these references, or
+// Kind, a and b of a slot, its width, the cursor after it, and whether it enters the hot ring. Kind 0: none of these references, or
 // one to refuse.
 pub struct Leaf {
     pub kind: u64,
@@ -96,7 +95,7 @@ fn hot_leaf(hot: &[u64; 25], place: usize, next: usize, word: u64) -> Leaf
 
 // A reference that enters the ring: an object, a root or a read-only place.
 fn entering(r: Ref, next: usize, word: u64) -> Leaf
-    ensures { λ leaf. ⌜ ((leaf .kind ≡ 0 → ⊥) → (leaf ≡ enteringLeaf r next word) × (valueOf leaf ≡ IsRef r)) ⌝ }
+    ensures { λ leaf. ⌜ Entered r next word leaf ⌝ }
 {
     let f = fields_of(SlotValue::Ref(r));
     if 3 < f.kind {
@@ -184,7 +183,7 @@ pub fn leaf_at(
     objects: usize,
     word: u64,
 ) -> Leaf
-    requires { ⌜ (word ≤ 8) × ((b : ℕ) → b < 256 → (getD (now h) b 0 < 65536) × (getD (now h) (256 + b) 0 < 65536)) ⌝ }
+    requires { ⌜ (word ≤ 8) × HeadsFit (now h) ⌝ }
     ensures { λ r. ⌜ ((r .kind ≡ 0 → ⊥) → (at < length (now (p .entry))) × (getD (now (p .entry)) at 0 < 256)) ⌝ }
     ensures found { λ r. ⌜ Found (now (p .entry)) (now (hot .entry)) objects word (at + 1) (getD (now (h .entry)) (getD (now (p .entry)) at 0) 0) (getD (now (h .entry)) (256 + getD (now (p .entry)) at 0) 0) r ⌝ }
 {
@@ -223,7 +222,7 @@ fn legacy_leaf(
     alignment: u64,
     word: u64,
 ) -> Leaf
-    requires { ⌜ (n ≤ room 5 (now dt)) × (usable (now v) ≡ true) × ((b : ℕ) → b < 256 → (getD (now h) b 0 < 65536) × (getD (now h) (256 + b) 0 < 65536)) ⌝ }
+    requires { ⌜ (n ≤ room 5 (now dt)) × (usable (now v) ≡ true) × HeadsFit (now h) ⌝ }
     requires { ⌜ Linked (now dt) n (drop (length (now p)) (now sc)) × Sorted (now dt) n ⌝ }
     ensures { λ r. ⌜ ((r .kind ≡ 0 → ⊥) → (at < length (now (p .entry))) × (getD (now (p .entry)) at 0 < 256)) ⌝ }
     ensures found { λ r. ⌜ ((hot : List ℕ) (objects : ℕ) → FoundIn (now (v .entry)) (now (p .entry)) (now (dt .entry)) hot objects n alignment word (at + 1) (getD (now (h .entry)) (getD (now (p .entry)) at 0) 0) (getD (now (h .entry)) (256 + getD (now (p .entry)) at 0) 0) r) ⌝ }
@@ -268,7 +267,7 @@ fn any_leaf(
     alignment: u64,
     word: u64,
 ) -> Leaf
-    requires { ⌜ (word ≤ 8) × ((b : ℕ) → b < 256 → (getD (now h) b 0 < 65536) × (getD (now h) (256 + b) 0 < 65536)) ⌝ }
+    requires { ⌜ (word ≤ 8) × HeadsFit (now h) ⌝ }
     requires { ⌜ (n ≤ room 5 (now dt)) × (usable (now v) ≡ true) ⌝ }
     requires { ⌜ Linked (now dt) n (drop (length (now p)) (now sc)) × Sorted (now dt) n ⌝ }
     ensures { λ r. ⌜ ((r .kind ≡ 0 → ⊥) → (at < length (now (p .entry))) × (getD (now (p .entry)) at 0 < 256)) ⌝ }
@@ -346,7 +345,7 @@ pub fn place_leaf(
     word: u64,
     d: usize,
 ) -> Leaf
-    requires { ⌜ (word ≤ 8) × ((b : ℕ) → b < 256 → (getD (now h) b 0 < 65536) × (getD (now h) (256 + b) 0 < 65536)) ⌝ }
+    requires { ⌜ (word ≤ 8) × HeadsFit (now h) ⌝ }
     requires { ⌜ (field 4 (now objects) o 3 < 2 ^ 63) × (addresses ≤ room 5 (now dt)) × (usable (now v) ≡ true) ⌝ }
     requires { ⌜ Linked (now dt) addresses (drop (length (now p)) (now sc)) × Sorted (now dt) addresses ⌝ }
     ensures { λ r. ⌜ ((r .kind ≡ 0 → ⊥) → (d < 64) × (at < length (now (p .entry))) × (getD (now (p .entry)) at 0 < 256)) ⌝ }

@@ -1,4 +1,4 @@
-// Objects whose map is a leaf, opened without a state.
+// Objects whose map is a leaf, opened without the readers of every reference.
 use crate::leaf::Leaf;
 use crate::leaf::enter;
 use crate::leaf::leaf_at;
@@ -24,11 +24,12 @@ use tables::values::Fields;
 ghost use mathlib.Core.Bool.{true, false};
 ghost use mathlib.Core.Path.{_≡_};
 ghost use Prim.Native.Nat.{ℕ, _+_, _*_, _^_, _<_, _≤_};
-ghost use lib.ListN.{length, getD, take, drop};
+ghost use lib.ListN.{length, drop};
 ghost use Rattle.sheet.specs.Sheet.{usable, wordBytes};
 ghost use Rattle.tables.specs.Records.{room};
 ghost use Rattle.address_index.specs.Links.{Linked};
-ghost use Rattle.leaves.specs.Opening.{MapAt, Opens, Addressed};
+ghost use Rattle.leaves.specs.Leaf.{HeadsFit};
+ghost use Rattle.leaves.specs.Opening.{MapAt, Opens, Addressed, Unopened};
 
 // An object whose map is a leaf: its size in words, how many bytes that integer has, and the map; with the address records that there are then, and
 // the alignment that is pending. Kind 0 of the map: none.
@@ -41,10 +42,10 @@ pub struct Opened {
 }
 
 // Whether an object has its address, the address records that there are then, and the alignment that is pending.
-pub struct Address {
-    pub given: bool,
-    pub records: usize,
-    pub alignment: u64,
+struct Address {
+    given: bool,
+    records: usize,
+    alignment: u64,
 }
 
 // No object.
@@ -62,7 +63,7 @@ fn unopened() -> Opened
 }
 
 // The size of an object and its map, where the map is a leaf that is not flagged and no resolve follows it. Where a large object has a byte after
-// its size, and where more than its allocation follows its map, it is left to others.
+// its size, and where more than its allocation follows its map, it is left to others. The address is `open_leaf`'s.
 fn map_at(
     v: &[u16],
     h: &[u16; 512],
@@ -73,7 +74,7 @@ fn map_at(
     count: usize,
     word: u64,
 ) -> Opened
-    requires { ⌜ (word ≤ 8) × ((b : ℕ) → b < 256 → (getD (now h) b 0 < 65536) × (getD (now h) (256 + b) 0 < 65536)) ⌝ }
+    requires { ⌜ (word ≤ 8) × HeadsFit (now h) ⌝ }
     ensures { λ r. ⌜ ((r .map .kind ≡ 0 → ⊥) → MapAt (now (v .entry)) (now (h .entry)) (now (tr .entry)) (now (p .entry)) (now (hot .entry)) at count word r) ⌝ }
 {
     if six_x(v) {
@@ -180,9 +181,9 @@ pub fn open_leaf(
     tag: usize,
     space: u64,
 ) -> Opened
-    requires { ⌜ (usable (now v) ≡ true) × (space < 256) × (s .objects < 2 ^ 63) × ((b : ℕ) → b < 256 → (getD (now h) b 0 < 65536) × (getD (now h) (256 + b) 0 < 65536)) ⌝ }
+    requires { ⌜ (usable (now v) ≡ true) × (space < 256) × (s .objects < 2 ^ 63) × HeadsFit (now h) ⌝ }
     requires { ⌜ Linked (now dt) (s .addresses) (drop (length (now p)) (now sc)) ⌝ }
-    ensures { λ r. ⌜ (r .map .kind ≡ 0 → (now (ot .exit) ≡ now (ot .entry)) × (now (st .exit) ≡ now (st .entry)) × (now (dt .exit) ≡ now (dt .entry)) × (now (hr .exit) ≡ now (hr .entry)) × (now (u .exit) ≡ now (u .entry)) × (now (sc .exit) ≡ now (sc .entry))) ⌝ }
+    ensures { λ r. ⌜ (r .map .kind ≡ 0 → Unopened (now (ot .entry)) (now (st .entry)) (now (dt .entry)) (now (hr .entry)) (now (u .entry)) (now (sc .entry)) (now (ot .exit)) (now (st .exit)) (now (dt .exit)) (now (hr .exit)) (now (u .exit)) (now (sc .exit))) ⌝ }
     ensures opens { λ r. ⌜ ((r .map .kind ≡ 0 → ⊥) → (d < 64) × MapAt (now (v .entry)) (now (h .entry)) (now (tr .entry)) (now (p .entry)) (now (hr .entry)) (s .at) (s .objects + 1) (wordBytes (now (v .entry))) r × Opens tag (s .objects) (s .slots) (r .words * wordBytes (now (v .entry))) (r .map) (now (ot .entry)) (now (st .entry)) (now (hr .entry)) (now (ot .exit)) (now (st .exit)) (now (hr .exit)) × Addressed (now (v .entry)) k (s .addresses) (length (now (p .entry))) (record { space = space; size = r .words * wordBytes (now (v .entry)); object = s .objects; alignment = s .alignment; word = wordBytes (now (v .entry)) }) (now (c .entry)) (r .records) (r .alignment) (now (dt .entry)) (now (u .entry)) (now (sc .entry)) (now (dt .exit)) (now (u .exit)) (now (sc .exit))) ⌝ }
 {
     if 64 <= d {

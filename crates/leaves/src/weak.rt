@@ -12,8 +12,8 @@ use tables::values::Fields;
 ghost use mathlib.Core.Bool.{true, false};
 ghost use mathlib.Core.Path.{_≡_};
 ghost use Prim.Native.Nat.{ℕ, _+_, _^_, _<_, _≤_};
-ghost use lib.ListN.{getD};
 ghost use Rattle.tables.specs.Records.{field};
+ghost use Rattle.leaves.specs.Leaf.{HeadsFit};
 ghost use Rattle.leaves.specs.Weak.{WeakAt, WeakPlaced, Stays};
 
 // A leaf after a weak prefix at the cursor. A weak reference in an object at depth d is one level below it, and the leaf two.
@@ -26,7 +26,7 @@ fn weak_leaf(
     word: u64,
     d: usize,
 ) -> Leaf
-    requires { ⌜ (word ≤ 8) × ((b : ℕ) → b < 256 → (getD (now h) b 0 < 65536) × (getD (now h) (256 + b) 0 < 65536)) ⌝ }
+    requires { ⌜ (word ≤ 8) × HeadsFit (now h) ⌝ }
     ensures { λ r. ⌜ ((r .kind ≡ 0 → ⊥) → WeakAt (now (h .entry)) (now (p .entry)) (now (hot .entry)) at count word d r) ⌝ }
 {
     if 63 <= d {
@@ -99,7 +99,7 @@ pub fn place_weak(
     word: u64,
     d: usize,
 ) -> Leaf
-    requires { ⌜ (word ≤ 8) × ((b : ℕ) → b < 256 → (getD (now h) b 0 < 65536) × (getD (now h) (256 + b) 0 < 65536)) ⌝ }
+    requires { ⌜ (word ≤ 8) × HeadsFit (now h) ⌝ }
     requires { ⌜ field 4 (now objects) o 3 < 2 ^ 63 ⌝ }
     ensures { λ r. ⌜ (r .kind ≡ 0 → Stays (now (objects .entry)) (now (slots .entry)) (now (values .entry)) (now (hot .entry)) (now (objects .exit)) (now (slots .exit)) (now (values .exit)) (now (hot .exit))) ⌝ }
     ensures placed { λ r. ⌜ ((r .kind ≡ 0 → ⊥) → WeakAt (now (h .entry)) (now (p .entry)) (now (hot .entry)) at count word d r × WeakPlaced n k o index r (now (objects .entry)) (now (slots .entry)) (now (values .entry)) (now (hot .entry)) (now (objects .exit)) (now (slots .exit)) (now (values .exit)) (now (hot .exit))) ⌝ }

@@ -157,6 +157,6 @@ pub fn place_item(
         },
         _ => {}
     }
-    // the only call of `keep_item`, so that it costs no call
+    // the only call of `keep_item`, so that the compiler puts it here
     keep_item(objects, slots, scratch, size, t, o, done, w, word)
 }

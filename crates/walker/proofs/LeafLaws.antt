@@ -20,20 +20,20 @@ use Rattle.readers.specs.Views.{Lent, input, mem, seen, objectsIs, slotsIs, hot
 use Rattle.readers.proofs.HeadFacts.{head-fits}
 use Rattle.objects.proofs.WaiterLaws.{indexed-plain}
 use Rattle.leaves.specs.declared.leaf.Leaf.{Leaf}
-use Rattle.leaves.specs.Leaf.{ring, after, valueOf, Stands, FoundIn, Placed}
+use Rattle.leaves.specs.Leaf.{HeadsFit, ring, after, valueOf, Stands, FoundIn, Placed}
 use Rattle.walker.specs.Ready.{Index, OutIndex, Ready, slotIn}
 use Rattle.walker.proofs.ReadyLaws.{ref-went}
 use Rattle.walker.proofs.ItemsLaws.{word-some, slot-got, Loop}
 use Rattle.walker.proofs.ReferenceLaws.{next, ref-head, head-low}
 
 -- what `leaf_at` asks
-pub leaf-asks : {x : Input} {h sc : List ℕ} {m : Mem} → Ready x h m sc → (w : ℕ) → w ≡ word x → (w ≤ 8) × ((b : ℕ) → b < 256 → (getD h b 0 < 65536) × (getD h (256 + b) 0 < 65536))
+pub leaf-asks : {x : Input} {h sc : List ℕ} {m : Mem} → Ready x h m sc → (w : ℕ) → w ≡ word x → (w ≤ 8) × HeadsFit h
 leaf-asks {x} g w e =
     (omega (arith, e, word-some g .0), λ b l. (omega (arith, head-low (x .sheet) b, g .decoded .kind b l), rw (g .decoded .argument b l) (head-fits (x .sheet) b l .small)))
 
 -- and what `place_leaf` asks beside
-pub place-asks : {x : Input} {h sc : List ℕ} {m : Mem} → Ready x h m sc → (o : ℕ) → length (m .slots .rows) < 2 ^ 64 → (field 4 (m .objects .rows) o 3 < 2 ^ 63) × (m .addresses .count ≤ room 5 (m .addresses .rows)) × (usable (x .sheet) ≡ true)
-place-asks g o few = (omega (arith, g .counted .count-low o, g .sound .slots-fit), omega (arith, g .sound), g .proper .sheet-usable)
+pub place-leaf-asks : {x : Input} {h sc : List ℕ} {m : Mem} → Ready x h m sc → (o : ℕ) → length (m .slots .rows) < 2 ^ 64 → (field 4 (m .objects .rows) o 3 < 2 ^ 63) × (m .addresses .count ≤ room 5 (m .addresses .rows)) × (usable (x .sheet) ≡ true)
+place-leaf-asks g o few = (omega (arith, g .counted .count-low o, g .sound .slots-fit), omega (arith, g .sound), g .proper .sheet-usable)
 
 -- a slot record that does not wait leaves scratch right
 pub plain-index : {x : Input} {h sc : List ℕ} {s : State} {l : Lent} → Ready x h (mem s l) sc → (o index : ℕ) (f : Fields) → s .slots < room 6 (l .slots) → {st : List ℕ} → st ≡ written (l .slots) (s .slots) (slotRow o index f 0) → Index (length (x .payload)) (table st (s .slots + 1)) (table (l .addresses) (s .addresses)) sc

@@ -24,7 +24,7 @@ use Rattle.objects.proofs.MapLaws.{allocated}
 use Rattle.leaves.specs.declared.opening.Opened.{Opened}
 use Rattle.leaves.specs.Leaf.{ring, after, FoundIn}
 use Rattle.leaves.proofs.LeafLaws.{int-got, found-in}
-use Rattle.leaves.specs.Opening.{MapAt, Opens, Addressed}
+use Rattle.leaves.specs.Opening.{MapAt, Opens, Addressed, Unopened}
 use Rattle.walker.specs.Ready.{Index, Ready, mapped, headed}
 use Rattle.walker.proofs.LeafLaws.{plain-index, stands, read}
 use Rattle.walker.proofs.ObjectLaws.{opened-ready, mapped-on, headed-on}
@@ -139,12 +139,15 @@ module _ (v p : List ℕ) (sp : ℕ) (tr h sc : List ℕ) (s : State) (l : Lent)
       record { pending = rw (y .front) (z .pending); linked = y .linked }
 
 -- where none was opened, what held before holds still
-module _ (s : State) (l : Lent) {ot st dt hot used sc sc′ : List ℕ} (z : (ot ≡ l .objects) × (st ≡ l .slots) × (dt ≡ l .addresses) × (hot ≡ l .hot) × (used ≡ l .used) × (sc′ ≡ sc)) where
-  unopened : mem s (objectsIs ot (slotsIs st (addressesIs dt (hotIs hot (countersIs (l .cur) used l))))) ≡ mem s l
+module _ (s : State) (l : Lent) {ot st dt hot used sc sc′ : List ℕ} (z : Unopened (l .objects) (l .slots) (l .addresses) (l .hot) (l .used) sc ot st dt hot used sc′) where
+  abbrev same : Lent
+  same = objectsIs ot (slotsIs st (addressesIs dt (hotIs hot (countersIs (l .cur) used l))))
+
+  unopened : mem s same ≡ mem s l
   unopened = rw (z .0, z .1, z .2, z .3, z .4)
 
-  pub unopened-ready : {x : Input} {h : List ℕ} → Ready x h (mem s l) sc → Ready x h (mem s (objectsIs ot (slotsIs st (addressesIs dt (hotIs hot (countersIs (l .cur) used l)))))) sc′
+  pub unopened-ready : {x : Input} {h : List ℕ} → Ready x h (mem s l) sc → Ready x h (mem s same) sc′
   unopened-ready g = rw (z .0, z .1, z .2, z .3, z .4, z .5) g
 
-  pub unopened-headed : (x : Input) (r : Reader SlotValue) (space tag : ℕ) {out : Out ℕ} → out ≡ headed x r space tag (mem s (objectsIs ot (slotsIs st (addressesIs dt (hotIs hot (countersIs (l .cur) used l)))))) → out ≡ headed x r space tag (mem s l)
+  pub unopened-headed : (x : Input) (r : Reader SlotValue) (space tag : ℕ) {out : Out ℕ} → out ≡ headed x r space tag (mem s same) → out ≡ headed x r space tag (mem s l)
   unopened-headed x r space tag e = e ∙ ap (headed x r space tag) unopened

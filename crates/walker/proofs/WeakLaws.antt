@@ -39,9 +39,9 @@ valued s =
     record { at = s .at; objects = s .objects; slots = s .slots; values = s .values + 1; addresses = s .addresses; pending = s .pending; waiting = s .waiting; skip = s .skip; alignment = s .alignment }
 
 -- that record, for which there is room
-value-added : (v : SlotValue) (s : State) (l : Lent) {t : List ℕ} → s .values < room 3 (l .values) → t ≡ written (l .values) (s .values) (valueRow (fieldsOf v)) → got (s .values) (mem (valued s) (valuesIs t l)) ≡ addValue (fieldsOf v) (mem s l)
+value-put : (v : SlotValue) (s : State) (l : Lent) {t : List ℕ} → s .values < room 3 (l .values) → t ≡ written (l .values) (s .values) (valueRow (fieldsOf v)) → got (s .values) (mem (valued s) (valuesIs t l)) ≡ addValue (fieldsOf v) (mem s l)
 unfolding addValue
-value-added v s l b e = rw (e, lt-ltb (s .values) (room 3 (l .values)) b)
+value-put v s l b e = rw (e, lt-ltb (s .values) (room 3 (l .values)) b)
 
 -- the state after the slot
 abbrev pub weak-state : Leaf → State → State
@@ -76,7 +76,7 @@ module _ (v p : List ℕ) (sp : ℕ) (tr h sc : List ℕ) (s : State) (l : Lent)
   m₂ = mem (after r (valued s)) (valuesIs vt l₁)
 
   weak-held : got (WeakRef (s .values)) m₂ ≡ held 1 (inner .value) (mem (after r s) l₁)
-  weak-held = hold-weak (inner .value) (mem (after r s) l₁) 1 refl (value-added (inner .value) (after r s) l₁ (k .value-room) (rw (← (inner .valued)) (k .value)))
+  weak-held = hold-weak (inner .value) (mem (after r s) l₁) 1 refl (value-put (inner .value) (after r s) l₁ (k .value-room) (rw (← (inner .valued)) (k .value)))
 
   weak-read : got (WeakRef (s .values)) m₂ ≡ refAt x (65 - (d + 1)) (mem s l)
   weak-read =

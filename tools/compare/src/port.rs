@@ -47,7 +47,7 @@ impl Call {
         Call::index_scratch(payload, 5)
     }
 
-    /// The same with so many numbers for each record in the index: three are its links, two more its hints.
+    /// The same with so many numbers for each record in the index: three are its links, two more are places for hints.
     pub fn index_scratch(payload: &[u8], numbers: usize) -> usize {
         let records = payload.len() / 2 + 2;
         payload.len() + 256 + numbers * records

@@ -1,5 +1,4 @@
-use Rattle.leaves.proofs.LeafLaws.{none-found-in}
-use Rattle.leaves.proofs.LeafLaws.{found-in}
+use Rattle.leaves.proofs.LeafLaws.{none-found-in, found-in}
 use borrow.Author.Needs.{needs}
 use Rattle.leaves.proofs.leaf.any_leaf.Statement.{statement}
 use Rattle.leaves.proofs.leaf.any_leaf.Tie as tie

@@ -1,6 +1,6 @@
 use borrow.Author.Needs.{needs}
 use native.Mathlib.Omega.{arith}
-use mathlib.Core.Path.{_≡_, refl, sym, ap, _∙_}
+use mathlib.Core.Path.{sym, _∙_}
 use Rattle.backref.proofs.BackrefLaws.{int-end}
 use Rattle.leaves.proofs.LeafLaws.{none-found, back-found}
 use Rattle.leaves.proofs.leaf.back_leaf.Statement.{statement}

@@ -1,5 +1,4 @@
 use borrow.Author.Needs.{needs}
-use mathlib.Core.Path.{refl}
 use Rattle.leaves.proofs.leaf.enter.Statement.{statement}
 use Rattle.leaves.proofs.leaf.enter.Tie as tie
 

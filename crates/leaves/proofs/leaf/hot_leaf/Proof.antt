@@ -1,6 +1,6 @@
 use borrow.Author.Needs.{needs}
 use native.Mathlib.Omega.{arith}
-use mathlib.Core.Path.{_≡_, refl, sym, ap, _∙_}
+use mathlib.Core.Path.{refl}
 use Rattle.leaves.proofs.LeafLaws.{none-found, hot-object, hot-root}
 use Rattle.leaves.proofs.leaf.hot_leaf.Statement.{statement}
 use Rattle.leaves.proofs.leaf.hot_leaf.Tie as tie

@@ -1,6 +1,5 @@
 use borrow.Author.Needs.{needs}
 use native.Mathlib.Omega.{arith}
-use mathlib.Core.Path.{_≡_, refl, sym, ap, _∙_}
 use Rattle.leaves.proofs.LeafLaws.{none-found, found-kind}
 use Rattle.leaves.proofs.leaf.leaf_at.Statement.{statement}
 use Rattle.leaves.proofs.leaf.leaf_at.Tie as tie

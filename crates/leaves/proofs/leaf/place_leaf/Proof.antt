@@ -1,6 +1,6 @@
 use borrow.Author.Needs.{needs}
 use native.Mathlib.Omega.{arith}
-use mathlib.Core.Path.{_≡_, refl, sym, ap, _∙_}
+use mathlib.Core.Path.{refl}
 use borrow.Author.Tests.{not-true, not-false}
 use Rattle.readers.proofs.ViewLaws.{put-full, put-done, put-below}
 use Rattle.leaves.proofs.LeafLaws.{none-found-in, none-placed, some-placed}

@@ -1,4 +1,4 @@
-use mathlib.Core.Path.{_≡_, sym, _∙_}
+use mathlib.Core.Path.{sym, _∙_}
 use native.Mathlib.Omega.{arith}
 use Rattle.backref.proofs.BackrefLaws.{int-end}
 use Rattle.leaves.proofs.LeafLaws.{none-found, root-array-found}

@@ -1,5 +1,5 @@
 use native.Mathlib.Omega.{arith}
-use mathlib.Core.Path.{_≡_, sym, _∙_}
+use mathlib.Core.Path.{sym, _∙_}
 use Rattle.backref.proofs.BackrefLaws.{int-end}
 use borrow.Author.Needs.{needs}
 use Rattle.leaves.proofs.opening.map_at.Statement.{statement}

@@ -1,5 +1,5 @@
 use native.Mathlib.Omega.{arith}
-use mathlib.Core.Path.{_≡_, refl}
+use mathlib.Core.Path.{refl}
 use borrow.Author.Tests.{not-true, not-false}
 use Rattle.backref.proofs.BackrefLaws.{word-small}
 use Rattle.leaves.proofs.LeafLaws.{words-small}

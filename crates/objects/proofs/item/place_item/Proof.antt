@@ -4,7 +4,7 @@ use mathlib.Core.Path.{_≡_, refl}
 use mathlib.Core.Logic.{⊎-elim}
 use lib.ListN.{length, take}
 use Rattle.readers.specs.Views.{mem, objectsIs, slotsIs, valuesIs}
-use Rattle.readers.proofs.ViewLaws.{count-is, count-no}
+use Rattle.readers.proofs.ViewLaws.{count-no}
 use Rattle.objects.proofs.ItemLaws.{place-skip, place-stream, place-no, skip-fits, AsKept, kept-itself, kept-previous}
 use Rattle.objects.proofs.item.place_item.Statement.{statement}
 use Rattle.objects.proofs.item.place_item.Tie as tie
@@ -72,55 +72,24 @@ kept c =
 values-length : (c : tie.At-match-came) → length (c .match .values) ≡ length (c .before .before .before .before .before .args .values .now)
 values-length c = ⊎-elim (λ u. rw (u .11) (u .5 .kept .1 .0)) (λ u. rw (u .1)) (c .match .came)
 
--- proofkit: perhaps this is the old keep-item-requires-2
--- proofkit old: keep-item-requires-2: search needs
 keep-item-requires : tie.Need-keep-item-requires
 keep-item-requires c κs =
     let q = c .before .before .before .before .before .before .before .before .pre in
     let k = kept (c .before .before .before) in
     ((q .0 .0, q .0 .1, k .waiting, q .0 .3, q .0 .4, k .fits), k .indexed)
 
--- proofkit: perhaps this is the old same-length-7
--- proofkit old: same-length-7: search needs
--- proofkit: perhaps this is the old same-length-8
--- proofkit old: same-length-8: search needs
--- proofkit: perhaps this is the old same-length-9
--- proofkit old: same-length-9: search needs
 same-length-3 : tie.Need-same-length-3
 same-length-3 c = search needs
 
--- proofkit: perhaps this is the old same-length-7
--- proofkit old: same-length-7: search needs
--- proofkit: perhaps this is the old same-length-8
--- proofkit old: same-length-8: search needs
--- proofkit: perhaps this is the old same-length-9
--- proofkit old: same-length-9: search needs
 same-length-4 : tie.Need-same-length-4
 same-length-4 c = search needs
 
--- proofkit: perhaps this is the old same-length-7
--- proofkit old: same-length-7: search needs
--- proofkit: perhaps this is the old same-length-8
--- proofkit old: same-length-8: search needs
--- proofkit: perhaps this is the old same-length-9
--- proofkit old: same-length-9: search needs
 same-length-5 : tie.Need-same-length-5
 same-length-5 c = values-length (c .before .before .before .before .before .before .before .before .before .before)
 
--- proofkit: perhaps this is the old same-length-7
--- proofkit old: same-length-7: search needs
--- proofkit: perhaps this is the old same-length-8
--- proofkit old: same-length-8: search needs
--- proofkit: perhaps this is the old same-length-9
--- proofkit old: same-length-9: search needs
 same-length-6 : tie.Need-same-length-6
 same-length-6 c = search needs
 
--- proofkit: perhaps this is the old returns-5
--- proofkit old: returns-5:
--- proofkit old:     let a = @args in
--- proofkit old:     let i = @keep-item2 in
--- proofkit old:     (λ x l e. place-keep x (a .o) (a .done) (a .v) (mem (a .s) (objectsIs (a .objects .now) (slotsIs (a .slots .now) (valuesIs (a .values .now) l)))) (@match .keys4) (i .ensures .0 x (valuesIs (a .values .now) l) e), i .ensures .1)
 returns-4 : tie.Need-returns-4
 returns-4 c =
     let a = c .before .before .before .before .before .before .before .before .before .before .before .before .before .before .before .args in

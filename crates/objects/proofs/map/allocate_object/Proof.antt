@@ -1,5 +1,4 @@
 use native.Mathlib.Omega.{arith}
-use mathlib.Core.Path.{refl}
 use Rattle.backref.proofs.BackrefLaws.{word-small}
 use Rattle.readers.specs.Views.{input}
 use Rattle.objects.proofs.MapLaws.{allocated-room, allocated-no, allocated}

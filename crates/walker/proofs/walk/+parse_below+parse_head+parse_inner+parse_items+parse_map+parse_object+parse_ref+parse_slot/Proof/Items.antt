@@ -1,7 +1,7 @@
 -- The needs of `parse_items`: the laws are in ItemsLaws. Assumes nothing.
 use Rattle.walker.proofs.ReferenceLaws.{found-by}
 use Prim.Native.Nat.{ℕ}
-use Rattle.walker.proofs.LeafLaws.{leaf-asks, place-asks, leaf-item, leaf-index, leaf-narrow, unplaced}
+use Rattle.walker.proofs.LeafLaws.{leaf-asks, place-leaf-asks, leaf-item, leaf-index, leaf-narrow, unplaced}
 use borrow.Author.Needs.{needs}
 use native.Mathlib.Omega.{arith}
 use mathlib.Core.Path.{refl, _∙_}
@@ -167,7 +167,7 @@ pub parse-items-place-leaf-requires : (t : ℕ) → parse-items-lts.Need-place-l
   parse-slot-below t,
   parse-slot.Post,
 ) (parse-items-at t) parse-items.Post parse-items-Inv-loop parse-items-μ-loop
-parse-items-place-leaf-requires t c κs = let w = c .before .before .before .before .before .before .before .before .before .before .loop .inv .0 in (leaf-asks (w .ready) _ (c .before .before .before .before .before .before .before .before .before .before .before .word-bytes .ensures .0), (place-asks (w .ready) _ (omega (arith, w .onward .slots-size, c .before .before .before .before .before .before .before .before .before .before .before .before .before .before .before .before .before .before .before .before .good .1 .1 .1 .1 .1 .0 .0)), found-by (w .ready)))
+parse-items-place-leaf-requires t c κs = let w = c .before .before .before .before .before .before .before .before .before .before .loop .inv .0 in (leaf-asks (w .ready) _ (c .before .before .before .before .before .before .before .before .before .before .before .word-bytes .ensures .0), (place-leaf-asks (w .ready) _ (omega (arith, w .onward .slots-size, c .before .before .before .before .before .before .before .before .before .before .before .before .before .before .before .before .before .before .before .before .good .1 .1 .1 .1 .1 .0 .0)), found-by (w .ready)))
 
 -- src/walk.rt:369:27
 pub parse-items-add-t-2 : (t : ℕ) → parse-items-lts.Need-add-t-2 (

@@ -3,12 +3,9 @@ use Prim.Native.Nat.{ℕ, _-_}
 use borrow.Author.Needs.{needs}
 use native.Mathlib.Omega.{arith}
 use mathlib.Core.Path.{refl, sym, _∙_}
-use Rattle.walker.proofs.walk.parse_ref.Reads as parse-ref
 use Rattle.walker.proofs.walk.parse_slot.Reads as parse-slot
 use Rattle.walker.proofs.walk.+parse_below+parse_head+parse_inner+parse_items+parse_map+parse_object+parse_ref+parse_slot.Lts-parse_slot as parse-slot-lts
 use Rattle.objects.proofs.item.place_item.Reads as place-item-reads
-use Rattle.leaves.proofs.leaf.leaf_at.Reads as leaf-at-reads
-use Rattle.leaves.proofs.leaf.place_leaf.Reads as place-leaf-reads
 use Rattle.sheet.proofs.numbers.word_bytes.Reads as word-bytes-reads
 use mathlib.Core.List.{[]}
 use Rattle.definition.specs.Reference.{refAt}
@@ -18,7 +15,7 @@ use Rattle.readers.specs.Views.{input}
 use Rattle.walker.proofs.GroundLaws.{placeItem-ground, count-index}
 use Rattle.walker.proofs.ReadyLaws.{out-index}
 use Rattle.walker.proofs.ItemsLaws.{word-some, slot-no, slot-got, place-asks}
-use Rattle.walker.proofs.LeafLaws.{leaf-asks, place-asks as leaf-place-asks}
+use Rattle.walker.proofs.LeafLaws.{leaf-asks, place-leaf-asks}
 use Rattle.walker.proofs.WeakLaws.{weak-item, weak-index, unplaced-ready, unplaced-slot}
 use Rattle.walker.proofs.walk.+parse_below+parse_head+parse_inner+parse_items+parse_map+parse_object+parse_ref+parse_slot.Proof.Common.{parse-below-below, parse-slot-at}
 use Rattle.walker.proofs.walk.parse_below.Reads as parse-below
@@ -74,7 +71,7 @@ pub parse-slot-place-weak-requires : (t : ℕ) → parse-slot-lts.Need-place-wea
   place-item-reads.Asked,
   place-item-reads.Learnt,
 ) (parse-slot-at t) parse-slot.Post
-parse-slot-place-weak-requires t c κs = let g = c .before .before .before .before .before .before .before .before .before .before .before .before .before .before .pre .1 .0 in (leaf-asks g _ (c .before .before .before .before .before .word-bytes .ensures .0), leaf-place-asks g _ (c .before .before .before .before .before .before .before .before .before .before .before .before .before .before .good .1 .1 .1 .1 .1 .0 .0) .0)
+parse-slot-place-weak-requires t c κs = let g = c .before .before .before .before .before .before .before .before .before .before .before .before .before .before .pre .1 .0 in (leaf-asks g _ (c .before .before .before .before .before .word-bytes .ensures .0), place-leaf-asks g _ (c .before .before .before .before .before .before .before .before .before .before .before .before .before .before .good .1 .1 .1 .1 .1 .0 .0) .0)
 
 -- src/walk.rt:430:19
 pub parse-slot-add-t : (t : ℕ) → parse-slot-lts.Need-add-t (
