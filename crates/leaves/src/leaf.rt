@@ -243,7 +243,7 @@ fn legacy_leaf(
 }
 
 // A new object stands at the cursor: the commonest of what is no leaf, so that it is looked for first.
-fn opens_object(h: &[u16; 512], p: &[u8], at: usize) -> bool
+pub fn opens_object(h: &[u16; 512], p: &[u8], at: usize) -> bool
     ensures { λ r. ⌜ r ≡ ltb at (length (now (p .entry))) && eqb (getD (now (h .entry)) (getD (now (p .entry)) at 0) 0) 1 ⌝ }
 {
     if p.len() <= at {

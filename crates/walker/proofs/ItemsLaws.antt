@@ -1,37 +1,39 @@
--- The items of an object in the steps that the code takes: one item, and what holds at the head of the loop over them. Assumes nothing.
+-- The items of an object in the steps that the code takes: one item, what it keeps, and the rest after it. Assumes nothing.
 use mathlib.Core.Path.{_≡_, refl, sym, ap, subst, _∙_}
 use mathlib.Core.Bool.{Bool, true, false}
 use mathlib.Core.Logic.{⊎-elim}
 use mathlib.Core.List.{List}
 use Prim.Native.Nat.{ℕ, suc, _+_, _-_, _^_, _<_, _≤_}
 use native.Mathlib.Omega.{arith}
-use borrow.Author.Tests.{lt-ltb, le-leb, lt-leb, eq-eqb, ne-eqb}
+use borrow.Author.Tests.{lt-ltb, le-leb, lt-leb}
 use lib.Dec.{eqb}
 use lib.ListN.{length, take}
 use Rattle.stream.specs.Bytes.{peekAt}
 use Rattle.sheet.specs.Names.{kDeferred}
 use Rattle.sheet.specs.Sheet.{number}
 use Rattle.sheet.specs.Tests.{isDeferred}
-use Rattle.tables.specs.declared.values.Ref.the-variants.{Object}
 use Rattle.tables.specs.declared.values.SlotValue.{SlotValue}
-use Rattle.tables.specs.declared.values.SlotValue.the-variants.{Ref}
 use Rattle.tables.specs.Values.{widthOf}
 use Rattle.tables.specs.Records.{room, field}
 use Rattle.definition.specs.Memory.{Input, word, Mem, Out, got, no, Reader, andThen, moved, byte}
 use Rattle.definition.specs.Slots.{placeItem}
-use Rattle.definition.specs.Object.{peek, items, closed}
+use Rattle.definition.specs.Object.{peek, items}
 use Rattle.definition.specs.Reference.{refAt}
-use Rattle.laws.specs.Sound.{Onward, Referred}
+use Rattle.laws.specs.Sound.{Proper, Sound, Counted, Referred}
 use Rattle.laws.specs.Leaves.{tag-inside}
 use Rattle.laws.specs.Keeps.{sheet-gives, word-low, Placed}
 use Rattle.laws.specs.Theorems.{ref-keeps, placeItem-keeps}
-use Rattle.laws.specs.Numbered.{placeItem-numbered}
+use Rattle.laws.specs.Numbered.{Numbered, FreshValue, placeItem-numbered}
+use Rattle.laws.specs.Addresses.{Ascending}
 use Rattle.laws.specs.Fuel.{items-fuel}
 use Rattle.readers.proofs.ViewLaws.{then-got, then-no}
 use Rattle.objects.specs.Index.{Indexed}
-use Rattle.walker.specs.Ready.{Index, Ready, slotIn, filledFrom}
+use Rattle.levels.specs.declared.level.Item.{Item}
+use Rattle.levels.specs.Level.{seenItem}
+use Rattle.readers.specs.Views.{Lent, mem}
+use Rattle.walker.specs.Ready.{Index, OutIndex, Ready, slotIn, itemIn}
 use Rattle.walker.proofs.GroundLaws.{ground-ascends, placeItem-ground}
-use Rattle.walker.proofs.ReadyLaws.{one-less, Went, went, Free, None, ready-after, moved-ready, ref-went}
+use Rattle.walker.proofs.ReadyLaws.{one-less, Went, went, Free, None, moved-kept, ref-went}
 
 -- the code's test of the byte at the cursor
 module _ (v p : List ℕ) (at : ℕ) {b : ℕ} {t : Bool} (eb : b ≡ peekAt p at) (et : t ≡ eqb (number v kDeferred) b) where
@@ -69,20 +71,31 @@ module _ {x : Input} {h sc : List ℕ} {m : Mem} (g : Ready x h m sc) (d o done 
       let wide : widthOf w v ≤ 2 ^ 34 = rw ew (z .more .narrow) in
       ((omega (arith, so .objects-fit, up .objects-up), omega (arith, z .kept .counted .count-low o), omega (arith, so .waiting-low), omega (arith, ws .0), omega (arith, ws .1), omega (arith, so .skip-low, so .within, g .proper .short)), ((omega (arith, up .slots-up), omega (arith, so .slots-fit)), i .pending))
 
--- what an item keeps
-pub record Added (done : ℕ) (m : Mem) (d : ℕ) (m′ : Mem) : Type 0 where
-  pub reads : m .at < m′ .at
-  pub bound : d ≤ done + 2 ^ 55
+-- what a value that was placed keeps
+module _ {x : Input} {m : Mem} (s : Sound x m) (c : Counted m) (u : Numbered m) (a : Ascending x (m .addresses) (m .alloc)) (p : Proper x) where
+  pub place-went : (o done : ℕ) → o < m .objects .count → (v : SlotValue) → widthOf (word x) v ≤ 2 ^ 34 → FreshValue m v → {d1 : ℕ} {m1 : Mem} → got d1 m1 ≡ placeItem x o done v m → Went x m (Placed done m) None d1 m1
+  place-went o done b v narrow fresh f =
+      went (placeItem-keeps p m s c o b done v narrow) (placeItem-numbered p m s c u o (done + 1) done b v fresh narrow (omega arith)) (ground-ascends x m a (placeItem x o done v m) (placeItem-ground x o done v m)) f
 
-slot-keeps : {x : Input} {h sc : List ℕ} {m : Mem} → Ready x h m sc → (k o done : ℕ) → o < m .objects .count → (u : Out SlotValue) → u ≡ refAt x k m → {d1 : ℕ} {m1 : Mem} → got d1 m1 ≡ andThen u (placeItem x o done) → Went x m (Added done m) None d1 m1
-slot-keeps {x} {h} {sc} {m} g k o done b (got v m2) e {d1} {m1} f =
+-- what an item keeps, of an object of n bytes
+pub record Added (done n : ℕ) (m : Mem) (d : ℕ) (m′ : Mem) : Type 0 where
+  pub reads : m .at < m′ .at
+  pub rises : done ≤ d
+  pub less : d ≤ n + 2 ^ 55
+
+slot-keeps : {x : Input} {h sc : List ℕ} {m : Mem} → Ready x h m sc → (k o done n : ℕ) → o < m .objects .count → done < n → (u : Out SlotValue) → u ≡ refAt x k m → {d1 : ℕ} {m1 : Mem} → got d1 m1 ≡ andThen u (placeItem x o done) → Went x m (Added done n m) None d1 m1
+slot-keeps {x} {h} {sc} {m} g k o done n b low (got v m2) e {d1} {m1} f =
     let z : Went x m (Referred x m) Free v m2 = ref-went g k e in
     let b2 : o < m2 .objects .count = omega (arith, z .kept .onward .objects-up) in
-    let y : Went x m2 (Placed done m2) None d1 m1 = went (placeItem-keeps (g .proper) m2 (z .kept .sound) (z .kept .counted) o b2 done v (z .more .narrow)) (placeItem-numbered (g .proper) m2 (z .kept .sound) (z .kept .counted) (z .numbered) o (done + 1) done b2 v (z .fresh) (z .more .narrow) (omega arith)) (ground-ascends x m2 (z .ascending) (placeItem x o done v m2) (placeItem-ground x o done v m2)) f in
-    record { kept = record { sound = y .kept .sound; counted = y .kept .counted; onward = omega (arith, z .kept .onward, y .kept .onward) }; more = record { reads = omega (arith, z .more .reads, y .more .at-same); bound = omega (arith, y .more .bound, z .kept .sound .skip-low, z .kept .sound .within, g .proper .short) }; numbered = y .numbered; ascending = y .ascending; fresh = tt }
-slot-keeps g k o done b (no n q m2) e f = absurd (let z : _≡_ {A = ℕ} 0 1 = cc in omega arith)
+    let y : Went x m2 (Placed done m2) None d1 m1 = place-went (z .kept .sound) (z .kept .counted) (z .numbered) (z .ascending) (g .proper) o done b2 v (z .more .narrow) (z .fresh) f in
+    record { kept = record { sound = y .kept .sound; counted = y .kept .counted; onward = omega (arith, z .kept .onward, y .kept .onward) }; more = record { reads = omega (arith, z .more .reads, y .more .at-same); rises = y .more .rises; less = omega (arith, y .more .bound, z .kept .sound .skip-low, z .kept .sound .within, g .proper .short) }; numbered = y .numbered; ascending = y .ascending; fresh = tt }
+slot-keeps g k o done n b low (no r q m2) e f = absurd (let z : _≡_ {A = ℕ} 0 1 = cc in omega arith)
 
--- ---- the loop
+abbrev WentOut : Input → Mem → (ℕ → Mem → Type 0) → Out ℕ → Type 0
+WentOut x m P (got d m′) = Went x m P None d m′
+WentOut x m P (no n q m′) = Unit {0}
+
+-- ---- one item, and the rest
 
 -- the definition's items, of which so many bytes are left in the payload
 abbrev pub itemsFrom : Input → Reader SlotValue → ℕ → ℕ → ℕ → Reader ℕ
@@ -92,72 +105,71 @@ module _ (x : Input) (r : Reader SlotValue) (o n done : ℕ) (m : Mem) where
   one-more : length (x .payload) - m .at + 1 ≡ suc (length (x .payload) - m .at)
   one-more = omega arith
 
-  items-full : n ≤ done → itemsFrom x r o n done m ≡ got done m
+  pub items-full : n ≤ done → itemsFrom x r o n done m ≡ got done m
   unfolding items
   items-full l = rw (one-more, le-leb n done l)
+
+  pub item-deferred : isDeferred (x .sheet) (peek x m) ≡ true → m .at < length (x .payload) → got n (moved (m .at + 1) m) ≡ itemIn x r o n done m
+  unfolding byte
+  item-deferred e b = rw (e, lt-ltb (m .at) (length (x .payload)) b)
+
+  pub item-slot : isDeferred (x .sheet) (peek x m) ≡ false → {out : Out ℕ} → out ≡ slotIn x r o done m → out ≡ itemIn x r o n done m
+  item-slot e f = rw e f
 
   module _ (l : done < n) where
     items-deferred : isDeferred (x .sheet) (peek x m) ≡ true → m .at < length (x .payload) → itemsFrom x r o n done m ≡ got n (moved (m .at + 1) m)
     unfolding items byte
     items-deferred e b = rw (one-more, lt-leb n done l, e, lt-ltb (m .at) (length (x .payload)) b)
 
-    module _ (e : isDeferred (x .sheet) (peek x m) ≡ false) where
-      items-no : {k q : ℕ} {m1 : Mem} → no k q m1 ≡ slotIn x r o done m → no k q m1 ≡ itemsFrom x r o n done m
-      unfolding items
-      items-no h = rw (one-more, lt-leb n done l, e) (then-no (items x r o n (length (x .payload) - m .at)) h)
+    items-slot : isDeferred (x .sheet) (peek x m) ≡ false → andThen (slotIn x r o done m) (items x r o n (length (x .payload) - m .at)) ≡ itemsFrom x r o n done m
+    unfolding items
+    items-slot e = rw (one-more, lt-leb n done l, e)
 
-      items-next : {d1 : ℕ} {m1 : Mem} → got d1 m1 ≡ slotIn x r o done m → items x r o n (length (x .payload) - m .at) d1 m1 ≡ itemsFrom x r o n done m
-      unfolding items
-      items-next h = rw (one-more, lt-leb n done l, e) (then-got (items x r o n (length (x .payload) - m .at)) h refl)
+pub deferred-inside : {x : Input} {h sc : List ℕ} {m : Mem} → Ready x h m sc → isDeferred (x .sheet) (peek x m) ≡ true → m .at < length (x .payload)
+deferred-inside {x} {m = m} g e = tag-inside (x .sheet) (sheet-gives (g .proper)) kDeferred (omega arith) (x .payload) (m .at) e
 
--- what holds at the head of the loop over the items: what is left gives what the whole gives
-pub record Loop (x : Input) (h : List ℕ) (d o tag n : ℕ) (m₀ : Mem) (done : ℕ) (m : Mem) (sc : List ℕ) : Type 0 where
-  pub ready : Ready x h m sc
-  pub same : andThen (itemsFrom x (refAt x (64 - d)) o n done m) (closed o tag n) ≡ filledFrom x (refAt x (64 - d)) o tag n m₀
-  pub onward : Onward m₀ m
-  pub below : o < m .objects .count
-  pub some : 0 < m .slots .count
-  pub less : done ≤ n + 2 ^ 55
+module _ {x : Input} {h sc : List ℕ} {m : Mem} (g : Ready x h m sc) (d o n done : ℕ) (b : o < m .objects .count) (low : done < n) where
+  abbrev r : Reader SlotValue
+  r = refAt x (64 - d)
 
-module _ (x : Input) (h : List ℕ) (d o tag n : ℕ) where
-  pub loop-start : (m₀ : Mem) (sc₀ : List ℕ) → Ready x h m₀ sc₀ → o < m₀ .objects .count → 0 < m₀ .slots .count → (w : ℕ) → w ≡ word x → Loop x h d o tag n m₀ w m₀ sc₀
-  loop-start m₀ sc₀ g b s w ew =
-      record { ready = g; same = rw ew; onward = omega arith; below = b; some = s; less = omega (arith, word-some g .0) }
+  slot-went : {d1 : ℕ} {m1 : Mem} → got d1 m1 ≡ slotIn x r o done m → Went x m (Added done n m) None d1 m1
+  slot-went f = slot-keeps g (64 - d) o done n b low (refAt x (64 - d) m) refl f
 
-  module _ {m₀ : Mem} (done : ℕ) (m : Mem) {sc : List ℕ} (w : Loop x h d o tag n m₀ done m sc) where
-    closes : {out : Out SlotValue} → out ≡ andThen (itemsFrom x (refAt x (64 - d)) o n done m) (closed o tag n) → out ≡ filledFrom x (refAt x (64 - d)) o tag n m₀
-    closes e = e ∙ w .same
+  -- after an item the rest of the bytes is enough for the rest of the items
+  enough : (u : Out ℕ) → u ≡ slotIn x r o done m → andThen u (itemsFrom x r o n) ≡ andThen u (items x r o n (length (x .payload) - m .at))
+  enough (got d1 m1) e =
+      let z = slot-went e in
+      items-fuel (g .proper) r (ref-keeps (g .proper) (64 - d)) o n _ _ d1 m1 (z .kept .sound) (z .kept .counted) (omega (arith, b, z .kept .onward .objects-up)) (omega arith) (omega (arith, z .more .reads, z .kept .sound .within))
+  enough (no k q m1) e = refl
 
-    pub loop-whole : n ≤ done → done ≡ n → got (Ref (Object o)) m ≡ filledFrom x (refAt x (64 - d)) o tag n m₀
-    loop-whole l e = closes (rw (items-full x (refAt x (64 - d)) o n done m l, eq-eqb done n e))
+  by-tag : (t : Bool) → isDeferred (x .sheet) (peek x m) ≡ t → andThen (itemIn x r o n done m) (itemsFrom x r o n) ≡ itemsFrom x r o n done m
+  by-tag true e =
+      let i = deferred-inside g e in
+      rw (← item-deferred x r o n done m e i, items-full x r o n n (moved (m .at + 1) m) (omega arith), items-deferred x r o n done m low e i)
+  by-tag false e = rw (← item-slot x r o n done m e refl) (enough (slotIn x r o done m) refl ∙ items-slot x r o n done m low e)
 
-    pub loop-over : n ≤ done → (done ≡ n → ⊥) → no 12 tag m ≡ filledFrom x (refAt x (64 - d)) o tag n m₀
-    loop-over l e = closes (rw (items-full x (refAt x (64 - d)) o n done m l, ne-eqb done n e))
+  -- the items are one and the rest
+  pub items-one : andThen (itemIn x r o n done m) (itemsFrom x r o n) ≡ itemsFrom x r o n done m
+  items-one = by-tag (isDeferred (x .sheet) (peek x m)) refl
 
-    module _ (l : done < n) where
-      module _ (e : isDeferred (x .sheet) (peek x m) ≡ true) where
-        pub deferred-inside : m .at < length (x .payload)
-        deferred-inside = tag-inside (x .sheet) (sheet-gives (w .ready .proper)) kDeferred (omega arith) (x .payload) (m .at) e
+  went-by-tag : (t : Bool) → isDeferred (x .sheet) (peek x m) ≡ t → {d1 : ℕ} {m1 : Mem} → got d1 m1 ≡ itemIn x r o n done m → Went x m (Added done n m) None d1 m1
+  went-by-tag true e {d1} {m1} f =
+      let i = deferred-inside g e in
+      let q : got d1 m1 ≡ got n (moved (m .at + 1) m) = f ∙ sym (item-deferred x r o n done m e i) in
+      let w : Went x m (Added done n m) None n (moved (m .at + 1) m) = record { kept = moved-kept g i; more = record { reads = omega arith; rises = omega (arith, low); less = omega arith }; numbered = g .numbered; ascending = g .ascending; fresh = tt } in
+      subst (λ (u : Out ℕ). WentOut x m (Added done n m) u) (sym q) w
+  went-by-tag false e f = slot-went (f ∙ sym (item-slot x r o n done m e refl))
 
-        pub loop-deferred : Loop x h d o tag n m₀ n (moved (m .at + 1) m) sc
-        loop-deferred =
-            let b = deferred-inside in
-            let r = refAt x (64 - d) in
-            record { ready = moved-ready (w .ready) b; same = closes (rw (items-full x r o n n (moved (m .at + 1) m) (omega arith), items-deferred x r o n done m l e b)); onward = omega (arith, w .onward); below = w .below; some = w .some; less = omega arith }
+  pub item-went : {d1 : ℕ} {m1 : Mem} → got d1 m1 ≡ itemIn x r o n done m → Went x m (Added done n m) None d1 m1
+  item-went = went-by-tag (isDeferred (x .sheet) (peek x m)) refl
 
-      module _ (e : isDeferred (x .sheet) (peek x m) ≡ false) where
-        pub loop-no : {k q : ℕ} {m1 : Mem} → no k q m1 ≡ slotIn x (refAt x (64 - d)) o done m → no k q m1 ≡ filledFrom x (refAt x (64 - d)) o tag n m₀
-        loop-no f = closes (then-no (closed o tag n) (items-no x (refAt x (64 - d)) o n done m l e f))
+-- an answer of the code, as the definition's
+pub answered : (size : ℕ) (r : Item) (l : Lent) (sc : List ℕ) {u out : Out ℕ} → seenItem r l ≡ u → u ≡ out → OutIndex size u sc → (seenItem r l ≡ out) × OutIndex size (seenItem r l) sc
+answered size r l sc e f i = (e ∙ f, subst (λ (o : Out ℕ). OutIndex size o sc) (sym e) i)
 
-        -- an item was read
-        module _ {d1 : ℕ} {m1 : Mem} (f : got d1 m1 ≡ slotIn x (refAt x (64 - d)) o done m) where
-          pub slot-went : Went x m (Added done m) None d1 m1
-          slot-went = slot-keeps (w .ready) (64 - d) o done (w .below) (refAt x (64 - d) m) refl f
+module _ (r : Item) (l : Lent) {out : Out ℕ} (h : seenItem r l ≡ out) where
+  pub item-is : r .went ≡ true → got (r .done) (mem (r .state) l) ≡ out
+  item-is e = rw e at h
 
-          pub loop-turn : {sc1 : List ℕ} → Index (length (x .payload)) (m1 .slots) (m1 .addresses) sc1 → Loop x h d o tag n m₀ d1 m1 sc1
-          loop-turn i =
-              let z = slot-went in
-              let r = refAt x (64 - d) in
-              let k = z .kept in
-              let fuel : itemsFrom x r o n d1 m1 ≡ items x r o n (length (x .payload) - m .at) d1 m1 = items-fuel (w .ready .proper) r (ref-keeps (w .ready .proper) (64 - d)) o n _ _ d1 m1 (k .sound) (k .counted) (omega (arith, w .below, k .onward .objects-up)) (omega arith) (omega (arith, z .more .reads, k .sound .within)) in
-              record { ready = ready-after (w .ready) k (z .numbered) (z .ascending) i; same = closes (ap (λ (u : Out ℕ). andThen u (closed o tag n)) (fuel ∙ items-next x r o n done m l e f)); onward = omega (arith, w .onward, k .onward); below = omega (arith, w .below, k .onward .objects-up); some = omega (arith, w .some, k .onward .slots-up); less = omega (arith, z .more .bound, z .more .reads, w .ready .sound .skip-low, k .sound .within, w .ready .proper .short) }
+  pub item-no : r .went ≡ false → no (r .number) (r .place) (mem (r .state) l) ≡ out
+  item-no e = rw e at h

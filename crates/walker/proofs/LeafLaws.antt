@@ -23,7 +23,7 @@ use Rattle.leaves.specs.declared.leaf.Leaf.{Leaf}
 use Rattle.leaves.specs.Leaf.{HeadsFit, ring, after, valueOf, Stands, FoundIn, Placed}
 use Rattle.walker.specs.Ready.{Index, OutIndex, Ready, slotIn}
 use Rattle.walker.proofs.ReadyLaws.{ref-went}
-use Rattle.walker.proofs.ItemsLaws.{word-some, slot-got, Loop}
+use Rattle.walker.proofs.ItemsLaws.{word-some, slot-got}
 use Rattle.walker.proofs.ReferenceLaws.{next, ref-head, head-low}
 
 -- what `leaf_at` asks
@@ -96,6 +96,6 @@ module _ (v p : List ℕ) (sp : ℕ) (tr h sc : List ℕ) (s : State) (l : Lent)
     pub leaf-index : Index (length p) (table st (s .slots + 1)) (table (l .addresses) (s .addresses)) sc
     leaf-index = plain-index g o index (triple (leaf .kind) (leaf .a) (leaf .b)) (placed .roomy some) (placed .slot some)
 
--- where none was placed, what holds at the head of the loop holds still
-pub unplaced : {x : Input} {h : List ℕ} {d o tag n : ℕ} {m₀ : Mem} {done : ℕ} (s : State) (l : Lent) {sc : List ℕ} {k index : ℕ} {r : Leaf} {ot st hot : List ℕ} → Placed k o index r (l .objects) (l .slots) (l .hot) ot st hot → r .kind ≡ 0 → Loop x h d o tag n m₀ done (mem s l) sc → Loop x h d o tag n m₀ done (mem s (objectsIs ot (slotsIs st (hotIs hot l)))) sc
-unplaced s l q e w = let z = q .none e in rw (z .0, z .1, z .2) w
+-- where none was placed, all stays
+pub unplaced : (s : State) (l : Lent) {k o index : ℕ} {r : Leaf} {ot st hot : List ℕ} → Placed k o index r (l .objects) (l .slots) (l .hot) ot st hot → r .kind ≡ 0 → mem s (objectsIs ot (slotsIs st (hotIs hot l))) ≡ mem s l
+unplaced s l q e = let z = q .none e in rw (z .0, z .1, z .2)

@@ -2,6 +2,7 @@ pub mod SameLaws
 pub mod GroundLaws
 pub mod ReadyLaws
 pub mod ItemsLaws
+pub mod NestLaws
 pub mod ObjectLaws
 pub mod ReferenceLaws
 pub mod LeafLaws

@@ -20,7 +20,7 @@ use Rattle.definition.specs.Memory.{Input, word, inMap, item, Table, table, wit
 use Rattle.definition.specs.Slots.{addSlot}
 use Rattle.definition.specs.Object.{peek, largeByte, addObject, changeChunk, flagged, allocate, alignmentByte, chunkChanges, readMap, flags, flagObject, keepMap, resolves, closed, body, object}
 use Rattle.definition.specs.Reference.{refAt}
-use Rattle.laws.specs.Sound.{Proper, Sound, Counted, Kept, Holds, Referred}
+use Rattle.laws.specs.Sound.{Proper, Sound, Counted, Onward, Kept, Holds, Referred}
 use Rattle.laws.specs.Steps.{kept-trans}
 use Rattle.laws.specs.Keeps.{Appended}
 use Rattle.laws.specs.Waiting.{Waits}
@@ -242,11 +242,11 @@ through (no n q m) f e = absurd (let z : _≡_ {A = ℕ} 0 1 = cc in omega arith
 
 module _ {x : Input} {h sc : List ℕ} {m : Mem} (g : Ready x h m sc) where
   -- what holds after an object's head
-  pub opened-ready : (space tag : ℕ) {words : ℕ} {m₁ : Mem} → got words m₁ ≡ opening x space tag m → (Ready x h m₁ sc) × (m .objects .count < m₁ .objects .count)
+  pub opened-ready : (space tag : ℕ) {words : ℕ} {m₁ : Mem} → got words m₁ ≡ opening x space tag m → (Ready x h m₁ sc) × (m .objects .count < m₁ .objects .count) × (Onward m m₁)
   opened-ready space tag {words} {m₁} e =
       let p : Passes x m 1 (got words m₁) = subst (Passes x m 1) (sym e) (opening-passes x (g .proper) space tag m (g .sound) (g .counted)) in
       let s : restOf m ≡ restOf m₁ = sym (p .1 .0) in
-      (ready-after g (p .0) (subst (λ (r : Rest). Waits (r .slots .rows) (r .slots .count) (r .pending) (r .waiting)) s (g .numbered)) (subst (λ (r : Rest). Ascending x (r .addresses) (r .alloc)) s (g .ascending)) (subst (λ (r : Rest). Index (length (x .payload)) (r .slots) (r .addresses) sc) s (g .index)), omega (arith, p .1 .1))
+      (ready-after g (p .0) (subst (λ (r : Rest). Waits (r .slots .rows) (r .slots .count) (r .pending) (r .waiting)) s (g .numbered)) (subst (λ (r : Rest). Ascending x (r .addresses) (r .alloc)) s (g .ascending)) (subst (λ (r : Rest). Index (length (x .payload)) (r .slots) (r .addresses) sc) s (g .index)), omega (arith, p .1 .1), p .0 .onward)
 
   -- and after its map and its resolves
   module _ (k space bytes o : ℕ) (b : o < m .objects .count) (l : space < 256) (u : bytes % word x ≡ 0) where
@@ -262,8 +262,8 @@ module _ {x : Input} {h sc : List ℕ} {m : Mem} (g : Ready x h m sc) where
         let w₂ = went (resolves-keep (g .proper) (t .between) (w₁ .kept .sound) (w₁ .kept .counted) o b₂ _) (resolves-numbered (g .proper) (t .between) (w₁ .kept .sound) (w₁ .kept .counted) (w₁ .numbered) o 0 0 b₂ _) (ground-ascends x (t .between) (w₁ .ascending) (resolves x o n (t .between)) (resolves-ground x o n (t .between))) (t .second) in
         (kept-trans (w .kept) (kept-trans (w₁ .kept) (w₂ .kept)), w₂ .numbered, w₂ .ascending, omega (arith, w₁ .more .more, w₂ .kept .onward .slots-up))
 
-    pub mapped-ready : {m₃ : Mem} → got tt m₃ ≡ mapped x (refAt x k) space bytes o m → {sc₃ : List ℕ} → Index (length (x .payload)) (m₃ .slots) (m₃ .addresses) sc₃ → (Ready x h m₃ sc₃) × (o < m₃ .objects .count) × (0 < m₃ .slots .count)
-    mapped-ready e i = let w = mapped-kept e in (ready-after g (w .0) (w .1) (w .2) i, omega (arith, b, w .0 .onward .objects-up), w .3)
+    pub mapped-ready : {m₃ : Mem} → got tt m₃ ≡ mapped x (refAt x k) space bytes o m → {sc₃ : List ℕ} → Index (length (x .payload)) (m₃ .slots) (m₃ .addresses) sc₃ → (Ready x h m₃ sc₃) × (o < m₃ .objects .count) × (0 < m₃ .slots .count) × (Onward m m₃)
+    mapped-ready e i = let w = mapped-kept e in (ready-after g (w .0) (w .1) (w .2) i, omega (arith, b, w .0 .onward .objects-up), w .3, w .0 .onward)
 
 -- ---- the head with the map, as one reading
 
@@ -286,7 +286,7 @@ memOf (got n m) = m
 memOf (no n q m) = m
 
 -- what holds after it
-pub headed-ready : {x : Input} {h sc : List ℕ} {m : Mem} → Ready x h m sc → (k space tag : ℕ) → space < 256 → {n : ℕ} {m₂ : Mem} → got n m₂ ≡ headed x (refAt x k) space tag m → {sc₂ : List ℕ} → Index (length (x .payload)) (m₂ .slots) (m₂ .addresses) sc₂ → (Ready x h m₂ sc₂) × (m .objects .count < m₂ .objects .count) × (0 < m₂ .slots .count)
+pub headed-ready : {x : Input} {h sc : List ℕ} {m : Mem} → Ready x h m sc → (k space tag : ℕ) → space < 256 → {n : ℕ} {m₂ : Mem} → got n m₂ ≡ headed x (refAt x k) space tag m → {sc₂ : List ℕ} → Index (length (x .payload)) (m₂ .slots) (m₂ .addresses) sc₂ → (Ready x h m₂ sc₂) × (m .objects .count < m₂ .objects .count) × (0 < m₂ .slots .count) × (Onward m m₂)
 headed-ready {x} {m = m} g k space tag l {m₂ = m₂} e i =
     let t = through (opening x space tag m) (λ words. mapped x (refAt x k) space (words * word x) (m .objects .count) >> give (words * word x)) e in
     let bytes : ℕ = t .value * word x in
@@ -294,7 +294,8 @@ headed-ready {x} {m = m} g k space tag l {m₂ = m₂} e i =
     let z : m₂ ≡ u .between = ap memOf (u .second) in
     let f : got tt m₂ ≡ mapped x (refAt x k) space bytes (m .objects .count) (t .between) = subst (λ (m₃ : Mem). got tt m₃ ≡ mapped x (refAt x k) space bytes (m .objects .count) (t .between)) (sym z) (u .first) in
     let r = opened-ready g space tag (t .first) in
-    mapped-ready (r .0) k space bytes (m .objects .count) (r .1) l (bytes-whole (t .value) refl) f i
+    let q = mapped-ready (r .0) k space bytes (m .objects .count) (r .1) l (bytes-whole (t .value) refl) f i in
+    (q .0, q .1, q .2, omega (arith, r .2, q .3))
 
 -- ---- the object, from its head and its map
 

@@ -3,12 +3,13 @@
 use mathlib.Core.List.{List}
 use Prim.Native.Nat.{ℕ, _+_, _-_, _*_}
 use lib.ListN.{length, take, drop}
+use Rattle.sheet.specs.Tests.{isDeferred}
 use Rattle.heads.specs.Heads.{Heads}
 use Rattle.tables.specs.declared.values.SlotValue.{SlotValue}
 use Rattle.address_index.specs.Links.{Linked}
-use Rattle.definition.specs.Memory.{Input, word, Table, Mem, Out, got, no, Reader, _>>=_, _>>_, give}
+use Rattle.definition.specs.Memory.{Input, word, Table, Mem, Out, got, no, Reader, _>>=_, _>>_, choose, give, byte}
 use Rattle.definition.specs.Slots.{placeItem}
-use Rattle.definition.specs.Object.{readMap, keepMap, resolves, items, closed}
+use Rattle.definition.specs.Object.{peek, readMap, keepMap, resolves, items, closed}
 use Rattle.laws.specs.Sound.{Proper, Sound, Counted}
 use Rattle.laws.specs.Numbered.{Numbered}
 use Rattle.laws.specs.Addresses.{Ascending}
@@ -55,6 +56,10 @@ headed x r space tag m =
 -- an item, of whose object `done` bytes have been read
 abbrev pub slotIn : Input → Reader SlotValue → ℕ → ℕ → Reader ℕ
 slotIn x r o done = r >>= placeItem x o done
+
+-- the same, where kDeferred may end the object early
+abbrev pub itemIn : Input → Reader SlotValue → ℕ → ℕ → ℕ → Reader ℕ
+itemIn x r o size done m = choose (isDeferred (x .sheet) (peek x m)) (byte x >> give size) (slotIn x r o done) m
 
 -- the items after the map, which fill the object
 abbrev pub filledFrom : Input → Reader SlotValue → ℕ → ℕ → ℕ → Reader SlotValue

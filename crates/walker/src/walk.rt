@@ -7,6 +7,13 @@ use leaves::leaf::place_leaf;
 use leaves::leaf::take_leaf;
 use leaves::opening::open_leaf;
 use leaves::weak::place_weak;
+use levels::level::Item;
+use levels::level::begins_object;
+use levels::level::child_at;
+use levels::level::item_of;
+use levels::level::put_object;
+use levels::level::read;
+use levels::level::unread;
 use objects::head::open_object;
 use objects::item::place_item;
 use objects::map::after_map;
@@ -34,7 +41,8 @@ ghost use Rattle.sheet.specs.Sheet.{wordBytes};
 ghost use Rattle.definition.specs.Object.{object};
 ghost use Rattle.definition.specs.Reference.{refAt};
 ghost use Rattle.readers.specs.Views.{input, mem, seen, seenCount, seenWent, Below};
-ghost use Rattle.walker.specs.Ready.{lent, OutIndex, Ready, headed, mapped, slotIn, filledFrom};
+ghost use Rattle.levels.specs.Level.{seenItem};
+ghost use Rattle.walker.specs.Ready.{lent, OutIndex, Ready, headed, mapped, slotIn, itemIn};
 
 // A reference at depth d.
 pub fn parse_ref(
@@ -123,64 +131,8 @@ fn parse_inner(
     parse_ref(v, h, tr, p, ot, st, vt, dt, hr, c, u, sc, k, s, d + 1)
 }
 
-// A reference below one at depth d, as an item, where leaves were tried before. A new object, the commonest, needs no call of `parse_ref`.
-fn parse_below(
-    v: &[u16],
-    h: &[u16; 512],
-    tr: &[u8],
-    p: &[u8],
-    ot: &mut [u64],
-    st: &mut [u64],
-    vt: &mut [u64],
-    dt: &mut [u64],
-    hr: &mut [u64; 25],
-    c: &mut [u32; 256],
-    u: &mut [u32; 256],
-    sc: &mut [u64],
-    k: u64,
-    s: State,
-    d: usize,
-) -> Step
-    requires { ⌜ Ready (input (now v) (now p) k (now tr)) (now h) (mem s (lent (now ot) (now st) (now vt) (now dt) (now hr) (now c) (now u))) (now sc) ⌝ }
-    requires { ⌜ d ≤ 64 ⌝ }
-    ensures { λ r. ⌜ seen r (lent (now (ot .exit)) (now (st .exit)) (now (vt .exit)) (now (dt .exit)) (now (hr .exit)) (now (c .exit)) (now (u .exit))) ≡ refAt (input (now (v .entry)) (now (p .entry)) k (now (tr .entry))) (65 - (d + 1)) (mem s (lent (now (ot .entry)) (now (st .entry)) (now (vt .entry)) (now (dt .entry)) (now (hr .entry)) (now (c .entry)) (now (u .entry)))) ⌝ }
-    ensures index { λ r. ⌜ OutIndex (length (now (p .entry))) (seen r (lent (now (ot .exit)) (now (st .exit)) (now (vt .exit)) (now (dt .exit)) (now (hr .exit)) (now (c .exit)) (now (u .exit)))) (now (sc .exit)) ⌝ }
-{
-    let at = s.at;
-    if d < 64 {
-        if at < p.len() {
-            let b = byte(p, at) as usize;
-            let kind = h[b] as u64;
-            if kind == 1 {
-                let a = h[256 + b] as u64;
-                let mut t = s;
-                t.at = at + 1;
-                return parse_object(
-                    v,
-                    h,
-                    tr,
-                    p,
-                    ot,
-                    st,
-                    vt,
-                    dt,
-                    hr,
-                    c,
-                    u,
-                    sc,
-                    k,
-                    t,
-                    d + 1,
-                    at,
-                    a,
-                );
-            }
-        }
-    }
-    parse_ref(v, h, tr, p, ot, st, vt, dt, hr, c, u, sc, k, s, d + 1)
-}
-
-// An object at depth d in space a, whose head stands at `at`; the cursor stands after it.
+// An object at depth d in space a, whose head stands at `at`; the cursor stands after it. Objects within it are read in the same loop, as many
+// levels down as are kept.
 pub fn parse_object(
     v: &[u16],
     h: &[u16; 512],
@@ -205,29 +157,100 @@ pub fn parse_object(
     ensures { λ r. ⌜ seen r (lent (now (ot .exit)) (now (st .exit)) (now (vt .exit)) (now (dt .exit)) (now (hr .exit)) (now (c .exit)) (now (u .exit))) ≡ object (input (now (v .entry)) (now (p .entry)) k (now (tr .entry))) (refAt (input (now (v .entry)) (now (p .entry)) k (now (tr .entry))) (64 - d)) a at (mem s (lent (now (ot .entry)) (now (st .entry)) (now (vt .entry)) (now (dt .entry)) (now (hr .entry)) (now (c .entry)) (now (u .entry)))) ⌝ }
     ensures index { λ r. ⌜ OutIndex (length (now (p .entry))) (seen r (lent (now (ot .exit)) (now (st .exit)) (now (vt .exit)) (now (dt .exit)) (now (hr .exit)) (now (c .exit)) (now (u .exit)))) (now (sc .exit)) ⌝ }
 {
-    let o = s.objects;
-    match parse_head(v, h, tr, p, ot, st, vt, dt, hr, c, u, sc, k, s, d, at, a) {
-        Count::Refused(m, q, t) => Step::Refused(m, q, t),
-        Count::Is(n, t) => parse_items(
-            v,
-            h,
-            tr,
-            p,
-            ot,
-            st,
-            vt,
-            dt,
-            hr,
-            c,
-            u,
-            sc,
-            k,
-            t,
-            d,
-            at,
-            n,
-            o,
-        ),
+    let word = word_bytes(v);
+    let mut level = unread(at, a);
+    let mut levels = [level; 8];
+    let mut kept: usize = 0;
+    let mut t = s;
+    loop {
+        let e = d + kept;
+        let next = t.at;
+        let o = level.object;
+        let done = level.done;
+        let size = level.size;
+        let tag = level.tag;
+        if done == 0 {
+            let b = t.objects;
+            let space = level.space;
+            match parse_head(
+                v,
+                h,
+                tr,
+                p,
+                ot,
+                st,
+                vt,
+                dt,
+                hr,
+                c,
+                u,
+                sc,
+                k,
+                t,
+                e,
+                tag,
+                space,
+            ) {
+                Count::Refused(m, q, y) => {
+                    return Step::Refused(m, q, y);
+                }
+                Count::Is(n, y) => {
+                    level.object = b;
+                    level.size = n;
+                    level.done = word;
+                    t = y;
+                }
+            }
+        } else if size <= done {
+            if done != size {
+                return Step::Refused(12, tag, t);
+            }
+            if kept == 0 {
+                return Step::Got(SlotValue::Ref(Ref::Object(o as u64)), t);
+            }
+            kept = kept - 1;
+            level = levels[kept];
+            let i = t.slots;
+            let start = level.done + t.skip;
+            if !put_object(ot, st, i, level.object, start / word, o) {
+                return Step::Refused(3, next, t);
+            }
+            t.slots = i + 1;
+            t.skip = 0;
+            level.done = start + word;
+        } else if begins_object(v, h, p, next, e, kept) {
+            levels[kept] = level;
+            kept = kept + 1;
+            level = child_at(h, p, next);
+            t.at = next + 1;
+        } else {
+            let item = parse_item(
+                v,
+                h,
+                tr,
+                p,
+                ot,
+                st,
+                vt,
+                dt,
+                hr,
+                c,
+                u,
+                sc,
+                k,
+                t,
+                e,
+                o,
+                done,
+                size,
+            );
+            let y = item.state;
+            if !item.went {
+                return Step::Refused(item.number, item.place, y);
+            }
+            level.done = item.done;
+            t = y;
+        }
     }
 }
 
@@ -322,8 +345,8 @@ fn parse_map(
     }
 }
 
-// The items of object o after its map, until they fill its n bytes; its head stands at `at`. The commonest need no call of the cycle.
-fn parse_items(
+// An item of object o, `done` of whose `size` bytes have been read. The commonest need no call of the cycle.
+fn parse_item(
     v: &[u16],
     h: &[u16; 512],
     tr: &[u8],
@@ -339,55 +362,37 @@ fn parse_items(
     k: u64,
     s: State,
     d: usize,
-    at: usize,
-    n: u64,
     o: usize,
-) -> Step
+    done: u64,
+    size: u64,
+) -> Item
     requires { ⌜ Ready (input (now v) (now p) k (now tr)) (now h) (mem s (lent (now ot) (now st) (now vt) (now dt) (now hr) (now c) (now u))) (now sc) ⌝ }
-    requires { ⌜ (d ≤ 64) × (n < 2 ^ 33) × (o < s .objects) × (0 < s .slots) ⌝ }
-    ensures { λ r. ⌜ seen r (lent (now (ot .exit)) (now (st .exit)) (now (vt .exit)) (now (dt .exit)) (now (hr .exit)) (now (c .exit)) (now (u .exit))) ≡ filledFrom (input (now (v .entry)) (now (p .entry)) k (now (tr .entry))) (refAt (input (now (v .entry)) (now (p .entry)) k (now (tr .entry))) (64 - d)) o at n (mem s (lent (now (ot .entry)) (now (st .entry)) (now (vt .entry)) (now (dt .entry)) (now (hr .entry)) (now (c .entry)) (now (u .entry)))) ⌝ }
-    ensures index { λ r. ⌜ OutIndex (length (now (p .entry))) (seen r (lent (now (ot .exit)) (now (st .exit)) (now (vt .exit)) (now (dt .exit)) (now (hr .exit)) (now (c .exit)) (now (u .exit)))) (now (sc .exit)) ⌝ }
+    requires { ⌜ (d ≤ 64) × (done < 2 ^ 60) × (o < s .objects) × (0 < s .slots) ⌝ }
+    ensures { λ r. ⌜ seenItem r (lent (now (ot .exit)) (now (st .exit)) (now (vt .exit)) (now (dt .exit)) (now (hr .exit)) (now (c .exit)) (now (u .exit))) ≡ itemIn (input (now (v .entry)) (now (p .entry)) k (now (tr .entry))) (refAt (input (now (v .entry)) (now (p .entry)) k (now (tr .entry))) (64 - d)) o size done (mem s (lent (now (ot .entry)) (now (st .entry)) (now (vt .entry)) (now (dt .entry)) (now (hr .entry)) (now (c .entry)) (now (u .entry)))) ⌝ }
+    ensures index { λ r. ⌜ OutIndex (length (now (p .entry))) (seenItem r (lent (now (ot .exit)) (now (st .exit)) (now (vt .exit)) (now (dt .exit)) (now (hr .exit)) (now (c .exit)) (now (u .exit)))) (now (sc .exit)) ⌝ }
 {
-    let word = word_bytes(v);
-    let mut done = word;
+    let at = s.at;
     let mut t = s;
-    while done < n {
-        let next = t.at;
-        if is_tag(v, K_DEFERRED, peek(p, next)) {
-            t.at = next + 1;
-            done = n;
-        } else {
-            let start = done + t.skip;
-            let b = t.objects;
-            let i = t.slots;
-            let m = t.addresses;
-            let f = t.alignment;
-            let x = start / word;
-            let leaf = place_leaf(v, h, p, dt, sc, ot, st, hr, next, b, i, o, x, m, f, word, d);
-            if leaf.kind != 0 {
-                t.at = leaf.next;
-                t.slots = i + 1;
-                t.skip = 0;
-                done = start + leaf.width;
-            } else {
-                let item = parse_slot(v, h, tr, p, ot, st, vt, dt, hr, c, u, sc, k, t, d, o, done);
-                match item {
-                    Count::Refused(m, q, y) => {
-                        return Step::Refused(m, q, y);
-                    }
-                    Count::Is(read, y) => {
-                        t = y;
-                        done = read;
-                    }
-                }
-            }
-        }
+    if is_tag(v, K_DEFERRED, peek(p, at)) {
+        t.at = at + 1;
+        return read(size, t);
     }
-    if done == n {
-        Step::Got(SlotValue::Ref(Ref::Object(o as u64)), t)
-    } else {
-        Step::Refused(12, at, t)
+    let word = word_bytes(v);
+    let b = s.objects;
+    let i = s.slots;
+    let n = s.addresses;
+    let f = s.alignment;
+    let start = done + s.skip;
+    let x = start / word;
+    let leaf = place_leaf(v, h, p, dt, sc, ot, st, hr, at, b, i, o, x, n, f, word, d);
+    if leaf.kind != 0 {
+        t.at = leaf.next;
+        t.slots = i + 1;
+        t.skip = 0;
+        return read(start + leaf.width, t);
     }
+    let slot = parse_slot(v, h, tr, p, ot, st, vt, dt, hr, c, u, sc, k, s, d, o, done);
+    item_of(slot)
 }
 
 // An item of object o, `done` bytes of which have been read: the bytes read then. A weak reference to one of the commonest references needs no
@@ -432,7 +437,7 @@ fn parse_slot(
         t.skip = 0;
         return Count::Is(start + word, t);
     }
-    match parse_below(v, h, tr, p, ot, st, vt, dt, hr, c, u, sc, k, s, d) {
+    match parse_ref(v, h, tr, p, ot, st, vt, dt, hr, c, u, sc, k, s, d + 1) {
         Step::Refused(m, q, t) => Count::Refused(m, q, t),
         Step::Got(x, t) => place_item(ot, st, vt, sc, p.len(), t, o, done, x, word),
     }

@@ -7,22 +7,19 @@ use borrow.Fn.Kinds.{In}
 use borrow.Fn.PlainCycle.{Measures, is, falls, and}
 use Rattle.walker.proofs.walk.parse_inner.Reads as parse-inner
 use Rattle.walker.proofs.walk.parse_inner.Kinds as parse-inner-kinds
-use Rattle.walker.proofs.walk.+parse_below+parse_head+parse_inner+parse_items+parse_map+parse_object+parse_ref+parse_slot.Lts-parse_inner as parse-inner-lts
-use Rattle.walker.proofs.walk.parse_items.Reads as parse-items
-use Rattle.walker.proofs.walk.parse_items.Kinds as parse-items-kinds
-use Rattle.walker.proofs.walk.+parse_below+parse_head+parse_inner+parse_items+parse_map+parse_object+parse_ref+parse_slot.Lts-parse_items as parse-items-lts
+use Rattle.walker.proofs.walk.+parse_head+parse_inner+parse_item+parse_map+parse_object+parse_ref+parse_slot.Lts-parse_inner as parse-inner-lts
 use Rattle.walker.proofs.walk.parse_map.Reads as parse-map
 use Rattle.walker.proofs.walk.parse_map.Kinds as parse-map-kinds
-use Rattle.walker.proofs.walk.+parse_below+parse_head+parse_inner+parse_items+parse_map+parse_object+parse_ref+parse_slot.Lts-parse_map as parse-map-lts
+use Rattle.walker.proofs.walk.+parse_head+parse_inner+parse_item+parse_map+parse_object+parse_ref+parse_slot.Lts-parse_map as parse-map-lts
 use Rattle.walker.proofs.walk.parse_object.Reads as parse-object
 use Rattle.walker.proofs.walk.parse_object.Kinds as parse-object-kinds
-use Rattle.walker.proofs.walk.+parse_below+parse_head+parse_inner+parse_items+parse_map+parse_object+parse_ref+parse_slot.Lts-parse_object as parse-object-lts
+use Rattle.walker.proofs.walk.+parse_head+parse_inner+parse_item+parse_map+parse_object+parse_ref+parse_slot.Lts-parse_object as parse-object-lts
 use Rattle.walker.proofs.walk.parse_ref.Reads as parse-ref
 use Rattle.walker.proofs.walk.parse_ref.Kinds as parse-ref-kinds
-use Rattle.walker.proofs.walk.+parse_below+parse_head+parse_inner+parse_items+parse_map+parse_object+parse_ref+parse_slot.Lts-parse_ref as parse-ref-lts
+use Rattle.walker.proofs.walk.+parse_head+parse_inner+parse_item+parse_map+parse_object+parse_ref+parse_slot.Lts-parse_ref as parse-ref-lts
 use Rattle.walker.proofs.walk.parse_slot.Reads as parse-slot
 use Rattle.walker.proofs.walk.parse_slot.Kinds as parse-slot-kinds
-use Rattle.walker.proofs.walk.+parse_below+parse_head+parse_inner+parse_items+parse_map+parse_object+parse_ref+parse_slot.Lts-parse_slot as parse-slot-lts
+use Rattle.walker.proofs.walk.+parse_head+parse_inner+parse_item+parse_map+parse_object+parse_ref+parse_slot.Lts-parse_slot as parse-slot-lts
 use Rattle.objects.proofs.head.open_object.Reads as open-object-reads
 use Rattle.objects.proofs.item.place_item.Reads as place-item-reads
 use Rattle.objects.proofs.map.after_map.Reads as after-map-reads
@@ -37,14 +34,13 @@ use Rattle.stream.proofs.bytes.byte.Reads as byte-reads
 use Rattle.stream.proofs.bytes.peek.Reads as peek-reads
 use Rattle.readers.specs.Views.{input, mem}
 use Rattle.walker.specs.Ready.{lent}
-use Rattle.walker.proofs.ItemsLaws.{Loop}
+use Rattle.definition.specs.Object.{object}
+use Rattle.definition.specs.Reference.{refAt}
+use Rattle.walker.proofs.NestLaws.{Nest}
 use Rattle.walker.proofs.walk.parse_head.Reads as parse-head
 use Rattle.walker.proofs.walk.parse_head.Kinds as parse-head-kinds
-use Rattle.walker.proofs.walk.parse_below.Reads as parse-below
-use Rattle.walker.proofs.walk.parse_below.Kinds as parse-below-kinds
-
-abbrev pub μ-parse-below : Measures 12 parse-below-kinds.ps ℕ
-μ-parse-below κs a = 5 * (65 - a .1 .1 .1 .1 .1 .1 .1 .1 .1 .1 .1 .1 .1 .1 .0) + 0
+use Rattle.walker.proofs.walk.parse_item.Reads as parse-item
+use Rattle.walker.proofs.walk.parse_item.Kinds as parse-item-kinds
 
 abbrev pub μ-parse-head : Measures 12 parse-head-kinds.ps ℕ
 μ-parse-head κs a = 5 * (65 - a .1 .1 .1 .1 .1 .1 .1 .1 .1 .1 .1 .1 .1 .1 .0) + 2
@@ -52,8 +48,8 @@ abbrev pub μ-parse-head : Measures 12 parse-head-kinds.ps ℕ
 abbrev pub μ-parse-inner : Measures 12 parse-inner-kinds.ps ℕ
 μ-parse-inner κs a = 5 * (65 - a .1 .1 .1 .1 .1 .1 .1 .1 .1 .1 .1 .1 .1 .1 .0) + 0
 
-abbrev pub μ-parse-items : Measures 12 parse-items-kinds.ps ℕ
-μ-parse-items κs a = 5 * (65 - a .1 .1 .1 .1 .1 .1 .1 .1 .1 .1 .1 .1 .1 .1 .0) + 2
+abbrev pub μ-parse-item : Measures 12 parse-item-kinds.ps ℕ
+μ-parse-item κs a = 5 * (65 - a .1 .1 .1 .1 .1 .1 .1 .1 .1 .1 .1 .1 .1 .1 .0) + 2
 
 abbrev pub μ-parse-map : Measures 12 parse-map-kinds.ps ℕ
 μ-parse-map κs a = 5 * (65 - a .1 .1 .1 .1 .1 .1 .1 .1 .1 .1 .1 .1 .1 .1 .0) + 1
@@ -66,14 +62,6 @@ abbrev pub μ-parse-ref : Measures 12 parse-ref-kinds.ps ℕ
 
 abbrev pub μ-parse-slot : Measures 12 parse-slot-kinds.ps ℕ
 μ-parse-slot κs a = 5 * (65 - a .1 .1 .1 .1 .1 .1 .1 .1 .1 .1 .1 .1 .1 .1 .0) + 1
-
-abbrev pub parse-below-at : ℕ → In 12 parse-below-kinds.ps
-parse-below-at t =
-    and 12 parse-below-kinds.ps (is 12 parse-below-kinds.ps μ-parse-below t) parse-below.Pre
-
-abbrev pub parse-below-below : ℕ → In 12 parse-below-kinds.ps
-parse-below-below t =
-    and 12 parse-below-kinds.ps (falls 12 parse-below-kinds.ps _<_ μ-parse-below t) parse-below.Pre
 
 abbrev pub parse-head-at : ℕ → In 12 parse-head-kinds.ps
 parse-head-at t =
@@ -91,13 +79,13 @@ abbrev pub parse-inner-below : ℕ → In 12 parse-inner-kinds.ps
 parse-inner-below t =
     and 12 parse-inner-kinds.ps (falls 12 parse-inner-kinds.ps _<_ μ-parse-inner t) parse-inner.Pre
 
-abbrev pub parse-items-at : ℕ → In 12 parse-items-kinds.ps
-parse-items-at t =
-    and 12 parse-items-kinds.ps (is 12 parse-items-kinds.ps μ-parse-items t) parse-items.Pre
+abbrev pub parse-item-at : ℕ → In 12 parse-item-kinds.ps
+parse-item-at t =
+    and 12 parse-item-kinds.ps (is 12 parse-item-kinds.ps μ-parse-item t) parse-item.Pre
 
-abbrev pub parse-items-below : ℕ → In 12 parse-items-kinds.ps
-parse-items-below t =
-    and 12 parse-items-kinds.ps (falls 12 parse-items-kinds.ps _<_ μ-parse-items t) parse-items.Pre
+abbrev pub parse-item-below : ℕ → In 12 parse-item-kinds.ps
+parse-item-below t =
+    and 12 parse-item-kinds.ps (falls 12 parse-item-kinds.ps _<_ μ-parse-item t) parse-item.Pre
 
 abbrev pub parse-map-at : ℕ → In 12 parse-map-kinds.ps
 parse-map-at t = and 12 parse-map-kinds.ps (is 12 parse-map-kinds.ps μ-parse-map t) parse-map.Pre
@@ -133,10 +121,10 @@ abbrev pub parse-slot-below : ℕ → In 12 parse-slot-kinds.ps
 parse-slot-below t =
     and 12 parse-slot-kinds.ps (falls 12 parse-slot-kinds.ps _<_ μ-parse-slot t) parse-slot.Pre
 
-abbrev pub parse-items-Inv-loop : parse-items-lts.InvT-loop
-parse-items-Inv-loop v h tr p ot₀ st₀ vt₀ dt₀ hr₀ c₀ u₀ sc₀ k d at n o word done₀ t₀ ot st vt dt hr c u sc done t =
-    (Loop (input v p k tr) h d o at n (mem t₀ (lent ot₀ st₀ vt₀ dt₀ hr₀ c₀ u₀)) done (mem t (lent ot st vt dt hr c u)) sc) × (length sc ≡ length sc₀)
+abbrev pub parse-object-Inv-loop : parse-object-lts.InvT-loop
+parse-object-Inv-loop v h tr p ot₀ st₀ vt₀ dt₀ hr₀ c₀ u₀ sc₀ k d at a word level₀ levels₀ kept₀ t₀ ot st vt dt hr c u sc level levels kept t =
+    (Nest (input v p k tr) h d (object (input v p k tr) (refAt (input v p k tr) (64 - d)) a at (mem t₀ (lent ot₀ st₀ vt₀ dt₀ hr₀ c₀ u₀))) (mem t₀ (lent ot₀ st₀ vt₀ dt₀ hr₀ c₀ u₀)) levels kept level (mem t (lent ot st vt dt hr c u)) sc) × (length sc ≡ length sc₀)
 
-abbrev pub parse-items-μ-loop : parse-items-lts.MeasureT-loop
-parse-items-μ-loop v h tr p ot₀ st₀ vt₀ dt₀ hr₀ c₀ u₀ sc₀ k d at n o word done₀ t₀ ot st vt dt hr c u sc done t =
-    length p - t .at
+abbrev pub parse-object-μ-loop : parse-object-lts.MeasureT-loop
+parse-object-μ-loop v h tr p ot₀ st₀ vt₀ dt₀ hr₀ c₀ u₀ sc₀ k d at a word level₀ levels₀ kept₀ t₀ ot st vt dt hr c u sc level levels kept t =
+    3 * (length p - t .at) + kept + (1 - level .done)
