@@ -1,3 +1,1 @@
 pub mod LeafLaws
-pub mod OpeningLaws
-pub mod WeakLaws

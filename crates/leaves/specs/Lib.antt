@@ -1,3 +1,1 @@
 pub mod Leaf
-pub mod Opening
-pub mod Weak

@@ -1,3 +1,1 @@
 pub mod leaf;
-pub mod opening;
-pub mod weak;

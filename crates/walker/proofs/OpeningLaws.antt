@@ -21,10 +21,10 @@ use Rattle.objects.specs.Head.{recording, opening}
 use Rattle.objects.specs.Map.{afterMap}
 use Rattle.objects.proofs.HeadLaws.{open-plain}
 use Rattle.objects.proofs.MapLaws.{allocated}
-use Rattle.leaves.specs.declared.opening.Opened.{Opened}
 use Rattle.leaves.specs.Leaf.{ring, after, FoundIn}
 use Rattle.leaves.proofs.LeafLaws.{int-got, found-in}
-use Rattle.leaves.specs.Opening.{MapAt, Opens, Addressed, Unopened}
+use Rattle.opened_leaves.specs.declared.opening.Opened.{Opened}
+use Rattle.opened_leaves.specs.Opening.{MapAt, Opens, Addressed, Unopened}
 use Rattle.walker.specs.Ready.{Index, Ready, mapped, headed}
 use Rattle.walker.proofs.LeafLaws.{plain-index, stands, read}
 use Rattle.walker.proofs.ObjectLaws.{opened-ready, mapped-on, headed-on}

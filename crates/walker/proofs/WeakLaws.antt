@@ -21,8 +21,8 @@ use Rattle.readers.proofs.ViewLaws.{then-got}
 use Rattle.readers.proofs.PrefixLaws.{weak-on, hold-weak}
 use Rattle.leaves.specs.declared.leaf.Leaf.{Leaf}
 use Rattle.leaves.specs.Leaf.{ring, after, Stands, FoundIn}
-use Rattle.leaves.specs.Weak.{WeakAt, WeakPlaced, Stays}
 use Rattle.leaves.proofs.LeafLaws.{found-in}
+use Rattle.weak_leaves.specs.Weak.{WeakAt, WeakPlaced, Stays}
 use Rattle.walker.specs.Ready.{Index, Ready, slotIn}
 use Rattle.walker.proofs.ReadyLaws.{one-less, moved-ready}
 use Rattle.walker.proofs.ItemsLaws.{slot-got}

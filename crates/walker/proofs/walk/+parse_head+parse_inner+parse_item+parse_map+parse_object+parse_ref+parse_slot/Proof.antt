@@ -58,8 +58,8 @@ use Rattle.walker.proofs.walk.+parse_head+parse_inner+parse_item+parse_
 use Rattle.walker.proofs.walk.+parse_head+parse_inner+parse_item+parse_map+parse_object+parse_ref+parse_slot.Proof.Slot.{parse-slot-word-bytes-requires, parse-slot-add-start, parse-slot-div-x, parse-slot-place-weak-requires, parse-slot-add-t, parse-slot-add-t-2, parse-slot-add-t40, parse-slot-same-length, parse-slot-same-length-2, parse-slot-same-length-3, parse-slot-returns, parse-slot-add-parse-ref, parse-slot-parse-ref-requires, parse-slot-enum-known-m, parse-slot-enum-known-x, parse-slot-place-item-requires, parse-slot-same-length-4, parse-slot-same-length-5, parse-slot-same-length-6, parse-slot-same-length-7, parse-slot-same-length-8, parse-slot-returns-2, parse-slot-same-length-9, parse-slot-same-length-10, parse-slot-same-length-11, parse-slot-same-length-12, parse-slot-same-length-13, parse-slot-returns-3}
 use Rattle.walker.proofs.walk.parse_head.Reads as parse-head
 use Rattle.walker.proofs.walk.+parse_head+parse_inner+parse_item+parse_map+parse_object+parse_ref+parse_slot.Lts-parse_head as parse-head-lts
-use Rattle.leaves.proofs.opening.open_leaf.Reads as open-leaf-reads
-use Rattle.leaves.proofs.weak.place_weak.Reads as place-weak-reads
+use Rattle.opened_leaves.proofs.opening.open_leaf.Reads as open-leaf-reads
+use Rattle.weak_leaves.proofs.weak.place_weak.Reads as place-weak-reads
 use Rattle.walker.proofs.walk.parse_item.Reads as parse-item
 use Rattle.walker.proofs.walk.+parse_head+parse_inner+parse_item+parse_map+parse_object+parse_ref+parse_slot.Lts-parse_item as parse-item-lts
 use Rattle.levels.proofs.level.begins_object.Reads as begins-object-reads

@@ -15,7 +15,7 @@ use mathlib.Core.Path.{_≡_, refl, sym, ap, subst, _∙_}
 use Rattle.walker.proofs.walk.parse_head.Reads as parse-head
 use Rattle.walker.proofs.walk.parse_map.Reads as parse-map
 use Rattle.walker.proofs.walk.+parse_head+parse_inner+parse_item+parse_map+parse_object+parse_ref+parse_slot.Lts-parse_head as parse-head-lts
-use Rattle.leaves.proofs.opening.open_leaf.Reads as open-leaf-reads
+use Rattle.opened_leaves.proofs.opening.open_leaf.Reads as open-leaf-reads
 use Rattle.objects.proofs.head.open_object.Reads as open-object-reads
 use Rattle.sheet.proofs.numbers.word_bytes.Reads as word-bytes-reads
 use Rattle.walker.specs.Ready.{lent}

@@ -18,7 +18,7 @@ use Rattle.walker.proofs.ItemsLaws.{word-some, slot-no, slot-got, place
 use Rattle.walker.proofs.LeafLaws.{leaf-asks, place-leaf-asks}
 use Rattle.walker.proofs.WeakLaws.{weak-item, weak-index, unplaced-ready, unplaced-slot}
 use Rattle.walker.proofs.walk.+parse_head+parse_inner+parse_item+parse_map+parse_object+parse_ref+parse_slot.Proof.Common.{parse-ref-below, parse-slot-at}
-use Rattle.leaves.proofs.weak.place_weak.Reads as place-weak-reads
+use Rattle.weak_leaves.proofs.weak.place_weak.Reads as place-weak-reads
 use Rattle.walker.proofs.walk.parse_ref.Reads as parse-ref
 
 -- src/walk.rt:387:9

@@ -2,8 +2,8 @@ use native.Mathlib.Omega.{arith}
 use mathlib.Core.Path.{sym, _∙_}
 use Rattle.backref.proofs.BackrefLaws.{int-end}
 use borrow.Author.Needs.{needs}
-use Rattle.leaves.proofs.opening.map_at.Statement.{statement}
-use Rattle.leaves.proofs.opening.map_at.Tie as tie
+use Rattle.opened_leaves.proofs.opening.map_at.Statement.{statement}
+use Rattle.opened_leaves.proofs.opening.map_at.Tie as tie
 
 six-x-requires : tie.Need-six-x-requires
 six-x-requires c κs = search needs

@@ -3,10 +3,10 @@ use mathlib.Core.Path.{refl, sym}
 use mathlib.Core.Bool.{true≢false}
 use borrow.Author.Tests.{not-true, not-false}
 use Rattle.readers.proofs.ViewLaws.{put-full}
-use Rattle.leaves.proofs.WeakLaws.{weak-as}
+use Rattle.weak_leaves.proofs.WeakLaws.{weak-as}
 use borrow.Author.Needs.{needs}
-use Rattle.leaves.proofs.weak.put_weak.Statement.{statement}
-use Rattle.leaves.proofs.weak.put_weak.Tie as tie
+use Rattle.weak_leaves.proofs.weak.put_weak.Statement.{statement}
+use Rattle.weak_leaves.proofs.weak.put_weak.Tie as tie
 
 returns : tie.Need-returns
 returns c = (λ _. (refl, refl, refl, refl), λ e. absurd (true≢false (sym e)))

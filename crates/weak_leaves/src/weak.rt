@@ -1,9 +1,9 @@
 // Weak references to a leaf, read without a state.
-use crate::leaf::Leaf;
-use crate::leaf::enter;
-use crate::leaf::leaf_at;
-use crate::leaf::none;
-use crate::leaf::value_of;
+use leaves::leaf::Leaf;
+use leaves::leaf::enter;
+use leaves::leaf::leaf_at;
+use leaves::leaf::none;
+use leaves::leaf::value_of;
 use stream::bytes::byte;
 use tables::records::add_slot;
 use tables::records::add_value;
@@ -13,8 +13,8 @@ ghost use mathlib.Core.Bool.{true, false};
 ghost use mathlib.Core.Path.{_≡_};
 ghost use Prim.Native.Nat.{ℕ, _+_, _^_, _<_, _≤_};
 ghost use Rattle.tables.specs.Records.{field};
 ghost use Rattle.leaves.specs.Leaf.{HeadsFit};
-ghost use Rattle.leaves.specs.Weak.{WeakAt, WeakPlaced, Stays};
+ghost use Rattle.weak_leaves.specs.Weak.{WeakAt, WeakPlaced, Stays};
 
 // A leaf after a weak prefix at the cursor. A weak reference in an object at depth d is one level below it, and the leaf two.
 fn weak_leaf(

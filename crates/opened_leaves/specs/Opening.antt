@@ -16,9 +16,9 @@ use Rattle.alloc.specs.Allocation.{outcome, allocateOf}
 use Rattle.address_index.specs.Links.{Linked}
 use Rattle.definition.specs.Object.{flags}
 use Rattle.readers.specs.Views.{input}
 use Rattle.leaves.specs.declared.leaf.Leaf.{Leaf}
-use Rattle.leaves.specs.declared.opening.Opened.{Opened}
 use Rattle.leaves.specs.Leaf.{ring, valueOf, Found}
+use Rattle.opened_leaves.specs.declared.opening.Opened.{Opened}
 
 -- the size stands at a place and the map after it, a leaf that sets no flag; no byte of a large object stands between them, and nothing
 -- but an allocation follows the map, no resolve either

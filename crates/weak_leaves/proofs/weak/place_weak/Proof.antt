@@ -1,8 +1,8 @@
 use mathlib.Core.Path.{refl}
 use borrow.Author.Tests.{not-true, not-false}
 use borrow.Author.Needs.{needs}
-use Rattle.leaves.proofs.weak.place_weak.Statement.{statement}
-use Rattle.leaves.proofs.weak.place_weak.Tie as tie
+use Rattle.weak_leaves.proofs.weak.place_weak.Statement.{statement}
+use Rattle.weak_leaves.proofs.weak.place_weak.Tie as tie
 
 weak-leaf-requires : tie.Need-weak-leaf-requires
 weak-leaf-requires c κs = search needs

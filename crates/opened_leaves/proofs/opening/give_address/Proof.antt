@@ -2,11 +2,11 @@ use native.Mathlib.Omega.{arith}
 use mathlib.Core.Path.{refl, sym, _∙_}
 use mathlib.Core.Bool.{true≢false}
 use borrow.Author.Tests.{not-true, not-false}
-use Rattle.leaves.proofs.OpeningLaws.{numbered-zero}
+use Rattle.opened_leaves.proofs.OpeningLaws.{numbered-zero}
 use Rattle.objects.proofs.MapLaws.{allocated-room, refused-table, refused-used}
 use borrow.Author.Needs.{needs}
-use Rattle.leaves.proofs.opening.give_address.Statement.{statement}
-use Rattle.leaves.proofs.opening.give_address.Tie as tie
+use Rattle.opened_leaves.proofs.opening.give_address.Statement.{statement}
+use Rattle.opened_leaves.proofs.opening.give_address.Tie as tie
 
 legacy-requires : tie.Need-legacy-requires
 legacy-requires c κs = search needs

@@ -7,8 +7,8 @@ use Rattle.tables.specs.Records.{room, field, objectRow, written}
 use Rattle.tables.proofs.RecordLaws.{written-same}
 use Rattle.alloc.specs.declared.legacy_alloc.LegacyAlloc.{LegacyAlloc}
 use Rattle.alloc.specs.Allocation.{Outcome, outcome}
-use Rattle.leaves.specs.declared.opening.Opened.{Opened}
-use Rattle.leaves.specs.Opening.{MapAt}
+use Rattle.opened_leaves.specs.declared.opening.Opened.{Opened}
+use Rattle.opened_leaves.specs.Opening.{MapAt}
 
 -- a new object has no slot yet
 pub opened-count : (t : List ℕ) (o bytes tag : ℕ) {after : List ℕ} → after ≡ written t o (objectRow bytes tag) → o < room 4 t → field 4 after o 3 < 2 ^ 63

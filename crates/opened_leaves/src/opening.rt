@@ -1,10 +1,10 @@
 // Objects whose map is a leaf, opened without the readers of every reference.
-use crate::leaf::Leaf;
-use crate::leaf::enter;
-use crate::leaf::leaf_at;
-use crate::leaf::none;
-use crate::leaf::value_of;
 use alloc::legacy_alloc::Request;
+use leaves::leaf::Leaf;
+use leaves::leaf::enter;
+use leaves::leaf::leaf_at;
+use leaves::leaf::none;
+use leaves::leaf::value_of;
 use objects::map::allocate_record;
 use objects::map::is_flagged;
 use readers::state::State;
@@ -28,8 +28,8 @@ ghost use lib.ListN.{length, drop};
 ghost use Rattle.sheet.specs.Sheet.{usable, wordBytes};
 ghost use Rattle.tables.specs.Records.{room};
 ghost use Rattle.address_index.specs.Links.{Linked};
 ghost use Rattle.leaves.specs.Leaf.{HeadsFit};
-ghost use Rattle.leaves.specs.Opening.{MapAt, Opens, Addressed, Unopened};
+ghost use Rattle.opened_leaves.specs.Opening.{MapAt, Opens, Addressed, Unopened};
 
 // An object whose map is a leaf: its size in words, how many bytes that integer has, and the map; with the address records that there are then, and
 // the alignment that is pending. Kind 0 of the map: none.

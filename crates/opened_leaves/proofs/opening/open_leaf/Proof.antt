@@ -2,11 +2,11 @@ use native.Mathlib.Omega.{arith}
 use mathlib.Core.Path.{refl}
 use borrow.Author.Tests.{not-true, not-false}
 use Rattle.backref.proofs.BackrefLaws.{word-small}
 use Rattle.leaves.proofs.LeafLaws.{words-small}
-use Rattle.leaves.proofs.OpeningLaws.{map-with}
+use Rattle.opened_leaves.proofs.OpeningLaws.{map-with}
 use borrow.Author.Needs.{needs}
-use Rattle.leaves.proofs.opening.open_leaf.Statement.{statement}
-use Rattle.leaves.proofs.opening.open_leaf.Tie as tie
+use Rattle.opened_leaves.proofs.opening.open_leaf.Statement.{statement}
+use Rattle.opened_leaves.proofs.opening.open_leaf.Tie as tie
 
 unopened-requires : tie.Need-unopened-requires
 unopened-requires c κs = search needs

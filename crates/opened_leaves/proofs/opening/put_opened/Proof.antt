@@ -1,8 +1,8 @@
 use Rattle.leaves.proofs.LeafLaws.{room-put}
-use Rattle.leaves.proofs.OpeningLaws.{opened-count}
+use Rattle.opened_leaves.proofs.OpeningLaws.{opened-count}
 use borrow.Author.Needs.{needs}
-use Rattle.leaves.proofs.opening.put_opened.Statement.{statement}
-use Rattle.leaves.proofs.opening.put_opened.Tie as tie
+use Rattle.opened_leaves.proofs.opening.put_opened.Statement.{statement}
+use Rattle.opened_leaves.proofs.opening.put_opened.Tie as tie
 
 add-object-requires : tie.Need-add-object-requires
 add-object-requires c κs = search needs

@@ -1,7 +1,7 @@
 use native.Mathlib.Omega.{arith}
 use borrow.Author.Needs.{needs}
-use Rattle.leaves.proofs.weak.weak_leaf.Statement.{statement}
-use Rattle.leaves.proofs.weak.weak_leaf.Tie as tie
+use Rattle.weak_leaves.proofs.weak.weak_leaf.Statement.{statement}
+use Rattle.weak_leaves.proofs.weak.weak_leaf.Tie as tie
 
 none-requires : tie.Need-none-requires
 none-requires c κs = search needs
