@@ -171,26 +171,9 @@ pub fn parse_object(
         let tag = level.tag;
         if done == 0 {
             let b = t.objects;
-            let space = level.space;
-            match parse_head(
-                v,
-                h,
-                tr,
-                p,
-                ot,
-                st,
-                vt,
-                dt,
-                hr,
-                c,
-                u,
-                sc,
-                k,
-                t,
-                e,
-                tag,
-                space,
-            ) {
+            let a = level.space;
+            let head = parse_head(v, h, tr, p, ot, st, vt, dt, hr, c, u, sc, k, t, e, tag, a);
+            match head {
                 Count::Refused(m, q, y) => {
                     return Step::Refused(m, q, y);
                 }

@@ -51,7 +51,7 @@ use Rattle.walker.proofs.walk.+parse_head+parse_inner+parse_item+parse_
 use Rattle.walker.proofs.walk.+parse_head+parse_inner+parse_item+parse_map+parse_object+parse_ref+parse_slot.Proof.Common.{μ-parse-head, μ-parse-inner, μ-parse-item, μ-parse-map, μ-parse-object, μ-parse-ref, μ-parse-slot, parse-head-at, parse-head-below, parse-inner-at, parse-inner-below, parse-item-at, parse-item-below, parse-map-at, parse-map-below, parse-object-at, parse-object-below, parse-ref-at, parse-ref-below, parse-slot-at, parse-slot-below, parse-object-Inv-loop, parse-object-μ-loop}
 use Rattle.walker.proofs.walk.+parse_head+parse_inner+parse_item+parse_map+parse_object+parse_ref+parse_slot.Proof.Inner.{parse-inner-word-bytes-requires, parse-inner-leaf-at-requires, parse-inner-take-leaf-requires, parse-inner-returns, parse-inner-add-parse-ref, parse-inner-parse-ref-requires, parse-inner-same-length, parse-inner-same-length-2, parse-inner-same-length-3, parse-inner-same-length-4, parse-inner-same-length-5, parse-inner-returns-2}
 use Rattle.walker.proofs.walk.+parse_head+parse_inner+parse_item+parse_map+parse_object+parse_ref+parse_slot.Proof.Map.{parse-map-parse-inner-requires, parse-map-enum-known-m, parse-map-enum-known-x, parse-map-after-map-requires, parse-map-enum-known-m-2, parse-map-enum-known-y, parse-map-keep-map-requires, parse-map-enum-known-m-3, parse-map-enum-known-w, parse-map-resolves-requires, parse-map-same-length, parse-map-same-length-2, parse-map-same-length-3, parse-map-same-length-4, parse-map-same-length-5, parse-map-returns, parse-map-same-length-6, parse-map-same-length-7, parse-map-same-length-8, parse-map-same-length-9, parse-map-same-length-10, parse-map-returns-2, parse-map-same-length-11, parse-map-same-length-12, parse-map-same-length-13, parse-map-same-length-14, parse-map-same-length-15, parse-map-returns-3, parse-map-same-length-16, parse-map-same-length-17, parse-map-same-length-18, parse-map-same-length-19, parse-map-same-length-20, parse-map-returns-4}
-use Rattle.walker.proofs.walk.+parse_head+parse_inner+parse_item+parse_map+parse_object+parse_ref+parse_slot.Proof.Object.{parse-object-word-bytes-requires, parse-object-unread-requires, parse-object-loop-holds, parse-object-add-e, parse-object-parse-head-requires, parse-object-enum-known-m, parse-object-same-length, parse-object-same-length-2, parse-object-same-length-3, parse-object-same-length-4, parse-object-same-length-5, parse-object-returns, parse-object-enum-known-n, parse-object-loop-less, parse-object-loop-again, parse-object-same-length-6, parse-object-same-length-7, parse-object-same-length-8, parse-object-same-length-9, parse-object-same-length-10, parse-object-returns-2, parse-object-same-length-11, parse-object-same-length-12, parse-object-same-length-13, parse-object-same-length-14, parse-object-same-length-15, parse-object-returns-3, parse-object-sub-kept, parse-object-mul-level, parse-object-array-copy-out-level, parse-object-add-start, parse-object-div-put-object, parse-object-put-object-requires, parse-object-same-length-16, parse-object-same-length-17, parse-object-same-length-18, parse-object-same-length-19, parse-object-same-length-20, parse-object-returns-4, parse-object-add-t, parse-object-add-level, parse-object-loop-less-2, parse-object-loop-again-2, parse-object-begins-object-requires, parse-object-mul-levels, parse-object-array-set-from-levels, parse-object-add-kept, parse-object-child-at-requires, parse-object-add-t-2, parse-object-loop-less-3, parse-object-loop-again-3, parse-object-parse-item-requires, parse-object-same-length-21, parse-object-same-length-22, parse-object-same-length-23, parse-object-same-length-24, parse-object-same-length-25, parse-object-returns-5, parse-object-loop-less-4, parse-object-loop-again-4}
+use Rattle.walker.proofs.walk.+parse_head+parse_inner+parse_item+parse_map+parse_object+parse_ref+parse_slot.Proof.Object.{parse-object-word-bytes-requires, parse-object-unread-requires, parse-object-loop-holds, parse-object-add-e, parse-object-parse-head-requires, parse-object-enum-known-head, parse-object-same-length, parse-object-same-length-2, parse-object-same-length-3, parse-object-same-length-4, parse-object-same-length-5, parse-object-returns, parse-object-enum-known-head-2, parse-object-loop-less, parse-object-loop-again, parse-object-same-length-6, parse-object-same-length-7, parse-object-same-length-8, parse-object-same-length-9, parse-object-same-length-10, parse-object-returns-2, parse-object-same-length-11, parse-object-same-length-12, parse-object-same-length-13, parse-object-same-length-14, parse-object-same-length-15, parse-object-returns-3, parse-object-sub-kept, parse-object-mul-level, parse-object-array-copy-out-level, parse-object-add-start, parse-object-div-put-object, parse-object-put-object-requires, parse-object-same-length-16, parse-object-same-length-17, parse-object-same-length-18, parse-object-same-length-19, parse-object-same-length-20, parse-object-returns-4, parse-object-add-t, parse-object-add-level, parse-object-loop-less-2, parse-object-loop-again-2, parse-object-begins-object-requires, parse-object-mul-levels, parse-object-array-set-from-levels, parse-object-add-kept, parse-object-child-at-requires, parse-object-add-t-2, parse-object-loop-less-3, parse-object-loop-again-3, parse-object-parse-item-requires, parse-object-same-length-21, parse-object-same-length-22, parse-object-same-length-23, parse-object-same-length-24, parse-object-same-length-25, parse-object-returns-5, parse-object-loop-less-4, parse-object-loop-again-4}
 use Rattle.walker.proofs.walk.+parse_head+parse_inner+parse_item+parse_map+parse_object+parse_ref+parse_slot.Proof.Head.{parse-head-word-bytes-requires, parse-head-open-leaf-requires, parse-head-add-t, parse-head-add-t-2, parse-head-mul-t45, parse-head-same-length, parse-head-same-length-2, parse-head-same-length-3, parse-head-same-length-4, parse-head-returns, parse-head-open-object-requires, parse-head-enum-known-m, parse-head-enum-known-words, parse-head-mul-n, parse-head-parse-map-requires, parse-head-enum-known-m-2, parse-head-enum-known-y, parse-head-same-length-5, parse-head-same-length-6, parse-head-same-length-7, parse-head-same-length-8, parse-head-returns-2, parse-head-same-length-9, parse-head-same-length-10, parse-head-same-length-11, parse-head-same-length-12, parse-head-same-length-13, parse-head-returns-3, parse-head-same-length-14, parse-head-same-length-15, parse-head-same-length-16, parse-head-same-length-17, parse-head-same-length-18, parse-head-returns-4}
 use Rattle.walker.proofs.walk.+parse_head+parse_inner+parse_item+parse_map+parse_object+parse_ref+parse_slot.Proof.Item.{parse-item-peek-requires, parse-item-is-tag-requires, parse-item-add-t, parse-item-read-requires, parse-item-returns, parse-item-word-bytes-requires, parse-item-add-start, parse-item-div-x, parse-item-place-leaf-requires, parse-item-add-t-2, parse-item-add-read, parse-item-read-requires-2, parse-item-same-length, parse-item-same-length-2, parse-item-same-length-3, parse-item-same-length-4, parse-item-returns-2, parse-item-parse-slot-requires, parse-item-item-of-requires, parse-item-same-length-5, parse-item-same-length-6, parse-item-same-length-7, parse-item-same-length-8, parse-item-same-length-9, parse-item-returns-3}
 use Rattle.walker.proofs.walk.+parse_head+parse_inner+parse_item+parse_map+parse_object+parse_ref+parse_slot.Proof.Reference.{parse-ref-returns, parse-ref-returns-2, parse-ref-byte-requires, parse-ref-mul-kind, parse-ref-element-copy-out-kind, parse-ref-cast-kind, parse-ref-add-a, parse-ref-mul-a, parse-ref-element-copy-out-a, parse-ref-cast-a, parse-ref-add-t, parse-ref-parse-object-requires, parse-ref-same-length, parse-ref-same-length-2, parse-ref-same-length-3, parse-ref-same-length-4, parse-ref-same-length-5, parse-ref-returns-3, parse-ref-begin-requires, parse-ref-enum-told, parse-ref-simple-ref-requires, parse-ref-enum-known-n, parse-ref-enum-known-held, parse-ref-hold-requires, parse-ref-enum-known-held-2, parse-ref-parse-inner-requires, parse-ref-enum-known-inner, parse-ref-enum-known-inner-2, parse-ref-hold-requires-2, parse-ref-same-length-6, parse-ref-same-length-7, parse-ref-returns-4, parse-ref-returns-5, parse-ref-same-length-8, parse-ref-returns-6, parse-ref-same-length-9, parse-ref-same-length-10, parse-ref-same-length-11, parse-ref-same-length-12, parse-ref-same-length-13, parse-ref-returns-7, parse-ref-same-length-14, parse-ref-same-length-15, parse-ref-same-length-16, parse-ref-same-length-17, parse-ref-same-length-18, parse-ref-returns-8}
@@ -263,14 +263,14 @@ pub +parse-head+parse-inner+parse-item+parse-map+parse-object+parse-ref+parse-sl
     (parse-object-loop-holds t)
     (parse-object-add-e t)
     (parse-object-parse-head-requires t)
-    (parse-object-enum-known-m t)
+    (parse-object-enum-known-head t)
     (parse-object-same-length t)
     (parse-object-same-length-2 t)
     (parse-object-same-length-3 t)
     (parse-object-same-length-4 t)
     (parse-object-same-length-5 t)
     (parse-object-returns t)
-    (parse-object-enum-known-n t)
+    (parse-object-enum-known-head-2 t)
     (parse-object-loop-less t)
     (parse-object-loop-again t)
     (parse-object-same-length-6 t)

@@ -22,7 +22,7 @@ use Rattle.walker.specs.Ready.{lent}
 use Rattle.walker.proofs.walk.+parse_head+parse_inner+parse_item+parse_map+parse_object+parse_ref+parse_slot.Proof.Common.{parse-head-at, parse-map-below}
 use borrow.Fn.PlainCycle.{is}
 
--- src/walk.rt:248:9
+-- src/walk.rt:286:9
 pub parse-head-word-bytes-requires : (t : ℕ) → parse-head-lts.Need-word-bytes-requires (
   word-bytes-reads.Asked,
   word-bytes-reads.Learnt,
@@ -35,7 +35,7 @@ pub parse-head-word-bytes-requires : (t : ℕ) → parse-head-lts.Need-word-byte
 ) (parse-head-at t) parse-head.Post
 parse-head-word-bytes-requires t c κs = tt
 
--- src/walk.rt:249:9
+-- src/walk.rt:287:9
 pub parse-head-open-leaf-requires : (t : ℕ) → parse-head-lts.Need-open-leaf-requires (
   word-bytes-reads.Asked,
   word-bytes-reads.Learnt,
@@ -48,7 +48,7 @@ pub parse-head-open-leaf-requires : (t : ℕ) → parse-head-lts.Need-open-leaf-
 ) (parse-head-at t) parse-head.Post
 parse-head-open-leaf-requires t c κs = let g = c .before .before .before .before .before .before .before .before .before .before .before .before .before .before .before .before .pre .1 in ((g .0 .proper .sheet-usable, g .1 .1, omega (arith, g .0 .sound .objects-fit, c .before .before .before .before .before .before .before .before .before .before .before .before .before .before .before .before .good .1 .1 .1 .1 .0 .0), leaf-asks (g .0) _ (c .before .before .before .before .before .before .before .word-bytes .ensures .0) .1), g .0 .index .linked)
 
--- src/walk.rt:254:21
+-- src/walk.rt:292:21
 pub parse-head-add-t : (t : ℕ) → parse-head-lts.Need-add-t (
   word-bytes-reads.Asked,
   word-bytes-reads.Learnt,
@@ -61,7 +61,7 @@ pub parse-head-add-t : (t : ℕ) → parse-head-lts.Need-add-t (
 ) (parse-head-at t) parse-head.Post
 parse-head-add-t t c = omega (arith, c .before .before .before .before .before .before .before .before .before .before .before .before .before .before .before .before .before .before .before .before .before .before .before .before .before .before .before .before .pre .1 .0 .sound .objects-fit, c .before .before .before .before .before .before .before .before .before .before .before .before .before .before .before .before .before .before .before .before .before .before .before .before .before .before .before .before .good .1 .1 .1 .1 .0 .0)
 
--- src/walk.rt:255:19
+-- src/walk.rt:293:19
 pub parse-head-add-t-2 : (t : ℕ) → parse-head-lts.Need-add-t-2 (
   word-bytes-reads.Asked,
   word-bytes-reads.Learnt,
@@ -74,7 +74,7 @@ pub parse-head-add-t-2 : (t : ℕ) → parse-head-lts.Need-add-t-2 (
 ) (parse-head-at t) parse-head.Post
 parse-head-add-t-2 t c = omega (arith, c .before .before .before .before .before .before .before .before .before .before .before .before .before .before .before .before .before .before .before .before .before .before .before .before .before .before .before .before .before .pre .1 .0 .sound .slots-fit, c .before .before .before .before .before .before .before .before .before .before .before .before .before .before .before .before .before .before .before .before .before .before .before .before .before .before .before .before .before .good .1 .1 .1 .1 .1 .0 .0)
 
--- src/walk.rt:258:26
+-- src/walk.rt:296:26
 pub parse-head-mul-t45 : (t : ℕ) → parse-head-lts.Need-mul-t45 (
   word-bytes-reads.Asked,
   word-bytes-reads.Learnt,
@@ -87,7 +87,7 @@ pub parse-head-mul-t45 : (t : ℕ) → parse-head-lts.Need-mul-t45 (
 ) (parse-head-at t) parse-head.Post
 parse-head-mul-t45 t c = let b = bytes-small _ (c .before .before .before .before .before .before .before .before .before .before .before .before .before .before .before .before .before .before .before .before .before .before .before .before .before .before .before .before .before .before .pre .1 .0 .proper .sheet-usable) (c .before .before .before .before .before .before .before .before .before .before .before .before .before .before .before .before .before .before .before .before .before .word-bytes .ensures .0) (c .before .before .before .before .before .before .before .before .before .before .before .before .before .open-leaf .ensures .1 (c .before .before .if1 .taken) .1 .small) in omega (arith, b)
 
--- src/walk.rt:258:9
+-- src/walk.rt:296:9
 pub parse-head-same-length : (t : ℕ) → parse-head-lts.Need-same-length (
   word-bytes-reads.Asked,
   word-bytes-reads.Learnt,
@@ -100,7 +100,7 @@ pub parse-head-same-length : (t : ℕ) → parse-head-lts.Need-same-length (
 ) (parse-head-at t) parse-head.Post
 parse-head-same-length t c = c .before .before .before .before .before .before .before .before .before .before .before .before .before .open-leaf .kept .1 .1 .1 .1 .0
 
--- src/walk.rt:258:9
+-- src/walk.rt:296:9
 pub parse-head-same-length-2 : (t : ℕ) → parse-head-lts.Need-same-length-2 (
   word-bytes-reads.Asked,
   word-bytes-reads.Learnt,
@@ -113,7 +113,7 @@ pub parse-head-same-length-2 : (t : ℕ) → parse-head-lts.Need-same-length-2 (
 ) (parse-head-at t) parse-head.Post
 parse-head-same-length-2 t c = c .before .before .before .before .before .before .before .before .before .before .before .before .before .open-leaf .kept .1 .1 .1 .1 .1 .0
 
--- src/walk.rt:258:9
+-- src/walk.rt:296:9
 pub parse-head-same-length-3 : (t : ℕ) → parse-head-lts.Need-same-length-3 (
   word-bytes-reads.Asked,
   word-bytes-reads.Learnt,
@@ -126,7 +126,7 @@ pub parse-head-same-length-3 : (t : ℕ) → parse-head-lts.Need-same-length-3 (
 ) (parse-head-at t) parse-head.Post
 parse-head-same-length-3 t c = c .before .before .before .before .before .before .before .before .before .before .before .before .before .open-leaf .kept .1 .1 .1 .1 .1 .1 .0
 
--- src/walk.rt:258:9
+-- src/walk.rt:296:9
 pub parse-head-same-length-4 : (t : ℕ) → parse-head-lts.Need-same-length-4 (
   word-bytes-reads.Asked,
   word-bytes-reads.Learnt,
@@ -139,7 +139,7 @@ pub parse-head-same-length-4 : (t : ℕ) → parse-head-lts.Need-same-length-4 (
 ) (parse-head-at t) parse-head.Post
 parse-head-same-length-4 t c = c .before .before .before .before .before .before .before .before .before .before .before .before .before .open-leaf .kept .1 .1 .1 .1 .1 .1 .1 .1 .1 .1 .0
 
--- src/walk.rt:258:9
+-- src/walk.rt:296:9
 pub parse-head-returns : (t : ℕ) → parse-head-lts.Need-returns (
   word-bytes-reads.Asked,
   word-bytes-reads.Learnt,
@@ -152,7 +152,7 @@ pub parse-head-returns : (t : ℕ) → parse-head-lts.Need-returns (
 ) (parse-head-at t) parse-head.Post
 parse-head-returns t c = let a = c .before .before .before .before .before .before .before .before .before .before .before .before .before .before .before .before .before .before .before .before .before .before .before .before .before .before .before .before .before .before .args in let g = c .before .before .before .before .before .before .before .before .before .before .before .before .before .before .before .before .before .before .before .before .before .before .before .before .before .before .before .before .before .before .pre .1 in let z = c .before .before .before .before .before .before .before .before .before .before .before .before .before .open-leaf .ensures .1 (c .before .before .if1 .taken) in (leaf-headed (a .v .now) (a .p .now) (a .k) (a .tr .now) (a .h .now) (a .sc .now) (a .s) (lent (a .ot .now) (a .st .now) (a .vt .now) (a .dt .now) (a .hr .now) (a .c .now) (a .u .now)) (g .0) (a .d) (z .0) (c .before .before .before .before .before .before .before .before .before .before .before .before .before .open-leaf .result) (c .before .before .if1 .taken) (z .1) (a .a) (a .at) _ _ _ _ _ _ (z .2) (z .3) (c .before .before .before .before .before .before .before .before .before .before .before .before .before .before .before .before .before .before .before .before .before .word-bytes .ensures .0) refl, (opened-index (a .v .now) (a .p .now) (a .k) (a .tr .now) (a .h .now) (a .sc .now) (a .s) (lent (a .ot .now) (a .st .now) (a .vt .now) (a .dt .now) (a .hr .now) (a .c .now) (a .u .now)) (g .0) (a .d) (z .0) (c .before .before .before .before .before .before .before .before .before .before .before .before .before .open-leaf .result) (c .before .before .if1 .taken) (z .1) (a .a) (a .at) _ _ _ _ _ _ (z .2) (z .3), bytes-small _ (g .0 .proper .sheet-usable) (c .before .before .before .before .before .before .before .before .before .before .before .before .before .before .before .before .before .before .before .before .before .word-bytes .ensures .0) (z .1 .small)))
 
--- src/walk.rt:260:11
+-- src/walk.rt:298:11
 pub parse-head-open-object-requires : (t : ℕ) → parse-head-lts.Need-open-object-requires (
   word-bytes-reads.Asked,
   word-bytes-reads.Learnt,
@@ -165,7 +165,7 @@ pub parse-head-open-object-requires : (t : ℕ) → parse-head-lts.Need-open-obj
 ) (parse-head-at t) parse-head.Post
 parse-head-open-object-requires t c κs = c .before .before .before .before .before .before .before .before .before .before .before .before .before .before .before .before .before .before .before .before .before .before .before .before .before .before .before .before .before .pre .1 .0 .proper .sheet-usable
 
--- src/walk.rt:261:24
+-- src/walk.rt:299:24
 pub parse-head-enum-known-m : (t : ℕ) → parse-head-lts.Need-enum-known-m (
   word-bytes-reads.Asked,
   word-bytes-reads.Learnt,
@@ -178,7 +178,7 @@ pub parse-head-enum-known-m : (t : ℕ) → parse-head-lts.Need-enum-known-m (
 ) (parse-head-at t) parse-head.Post
 parse-head-enum-known-m t c = search needs
 
--- src/walk.rt:262:19
+-- src/walk.rt:300:19
 pub parse-head-enum-known-words : (t : ℕ) → parse-head-lts.Need-enum-known-words (
   word-bytes-reads.Asked,
   word-bytes-reads.Learnt,
@@ -191,7 +191,7 @@ pub parse-head-enum-known-words : (t : ℕ) → parse-head-lts.Need-enum-known-w
 ) (parse-head-at t) parse-head.Post
 parse-head-enum-known-words t c = search needs
 
--- src/walk.rt:263:21
+-- src/walk.rt:301:21
 pub parse-head-mul-n : (t : ℕ) → parse-head-lts.Need-mul-n (
   word-bytes-reads.Asked,
   word-bytes-reads.Learnt,
@@ -204,7 +204,7 @@ pub parse-head-mul-n : (t : ℕ) → parse-head-lts.Need-mul-n (
 ) (parse-head-at t) parse-head.Post
 parse-head-mul-n t c = let b = bytes-small _ (c .before .before .before .before .before .before .before .before .before .before .before .before .before .before .before .before .before .before .before .before .before .before .before .before .before .before .before .before .before .before .before .before .before .before .before .pre .1 .0 .proper .sheet-usable) (c .before .before .before .before .before .before .before .before .before .before .before .before .before .before .before .before .before .before .before .before .before .before .before .before .before .before .word-bytes .ensures .0) (count-below (2 ^ 30) (c .before .words .given .1) (c .before .before .before .before .before .open-object .ensures .1)) in omega (arith, b)
 
--- src/walk.rt:264:19
+-- src/walk.rt:302:19
 pub parse-head-parse-map-requires : (t : ℕ) → parse-head-lts.Need-parse-map-requires (
   word-bytes-reads.Asked,
   word-bytes-reads.Learnt,
@@ -217,7 +217,7 @@ pub parse-head-parse-map-requires : (t : ℕ) → parse-head-lts.Need-parse-map-
 ) (parse-head-at t) parse-head.Post
 parse-head-parse-map-requires t c κs = let a = c .before .before .before .before .before .before .before .before .before .before .before .before .before .before .before .before .before .before .before .before .before .before .before .before .before .before .before .before .before .before .before .before .before .before .before .before .before .before .before .before .before .before .before .args in let g = c .before .before .before .before .before .before .before .before .before .before .before .before .before .before .before .before .before .before .before .before .before .before .before .before .before .before .before .before .before .before .before .before .before .before .before .before .before .before .before .before .before .before .before .pre .1 in let e = count-is (lent _ _ _ _ _ _ _) (c .before .before .before .before .before .before .before .before .before .words .given .1) (c .before .before .before .before .before .before .before .before .before .before .before .before .before .open-object .ensures .0 _ _ (lent [] _ _ _ _ _ _)) in let b = bytes-small _ (g .0 .proper .sheet-usable) (c .before .before .before .before .before .before .before .before .before .before .before .before .before .before .before .before .before .before .before .before .before .before .before .before .before .before .before .before .before .before .before .before .before .before .word-bytes .ensures .0) (count-below (2 ^ 30) (c .before .before .before .before .before .before .before .before .before .words .given .1) (c .before .before .before .before .before .before .before .before .before .before .before .before .before .open-object .ensures .1)) in let q = opened-ready (unopened-ready (a .s) (lent (a .ot .now) (a .st .now) (a .vt .now) (a .dt .now) (a .hr .now) (a .c .now) (a .u .now)) (c .before .before .before .before .before .before .before .before .before .before .before .before .before .before .before .before .before .before .before .before .before .before .before .before .before .before .open-leaf .ensures .0 (c .before .before .before .before .before .before .before .before .before .before .before .before .before .before .before .if1 .left)) (g .0)) (a .a) (a .at) e in (omega (arith, c .before .before .before .before .before .before .before .before .before .before .before .before .before .before .before .before .before .before .before .before .before .before .before .before .before .before .before .before .before .before .before .before .before .before .before .before .before .before .before .before .before .before .before .pre .0), (q .0, (g .1 .0, g .1 .1, b, q .1, bytes-whole _ (c .before .before .before .before .before .before .before .before .before .before .before .before .before .before .before .before .before .before .before .before .before .before .before .before .before .before .before .before .before .before .before .before .before .before .word-bytes .ensures .0))))
 
--- src/walk.rt:265:31
+-- src/walk.rt:303:31
 pub parse-head-enum-known-m-2 : (t : ℕ) → parse-head-lts.Need-enum-known-m-2 (
   word-bytes-reads.Asked,
   word-bytes-reads.Learnt,
@@ -230,7 +230,7 @@ pub parse-head-enum-known-m-2 : (t : ℕ) → parse-head-lts.Need-enum-known-m-2
 ) (parse-head-at t) parse-head.Post
 parse-head-enum-known-m-2 t c = search needs
 
--- src/walk.rt:266:26
+-- src/walk.rt:304:26
 pub parse-head-enum-known-y : (t : ℕ) → parse-head-lts.Need-enum-known-y (
   word-bytes-reads.Asked,
   word-bytes-reads.Learnt,
@@ -243,7 +243,7 @@ pub parse-head-enum-known-y : (t : ℕ) → parse-head-lts.Need-enum-known-y (
 ) (parse-head-at t) parse-head.Post
 parse-head-enum-known-y t c = search needs
 
--- src/walk.rt:222:1
+-- src/walk.rt:260:1
 pub parse-head-same-length-5 : (t : ℕ) → parse-head-lts.Need-same-length-5 (
   word-bytes-reads.Asked,
   word-bytes-reads.Learnt,
@@ -256,7 +256,7 @@ pub parse-head-same-length-5 : (t : ℕ) → parse-head-lts.Need-same-length-5 (
 ) (parse-head-at t) parse-head.Post
 parse-head-same-length-5 t c = c .before .before .before .before .before .open-object .kept .1 .1 .0 ∙ c .before .before .before .before .before .before .before .before .before .before .before .before .before .before .before .before .before .before .open-leaf .kept .1 .1 .1 .1 .0
 
--- src/walk.rt:222:1
+-- src/walk.rt:260:1
 pub parse-head-same-length-6 : (t : ℕ) → parse-head-lts.Need-same-length-6 (
   word-bytes-reads.Asked,
   word-bytes-reads.Learnt,
@@ -269,7 +269,7 @@ pub parse-head-same-length-6 : (t : ℕ) → parse-head-lts.Need-same-length-6 (
 ) (parse-head-at t) parse-head.Post
 parse-head-same-length-6 t c = c .before .before .before .before .before .before .before .before .before .before .before .before .before .before .before .before .before .before .open-leaf .kept .1 .1 .1 .1 .1 .0
 
--- src/walk.rt:222:1
+-- src/walk.rt:260:1
 pub parse-head-same-length-7 : (t : ℕ) → parse-head-lts.Need-same-length-7 (
   word-bytes-reads.Asked,
   word-bytes-reads.Learnt,
@@ -282,7 +282,7 @@ pub parse-head-same-length-7 : (t : ℕ) → parse-head-lts.Need-same-length-7 (
 ) (parse-head-at t) parse-head.Post
 parse-head-same-length-7 t c = c .before .before .before .before .before .before .before .before .before .before .before .before .before .before .before .before .before .before .open-leaf .kept .1 .1 .1 .1 .1 .1 .0
 
--- src/walk.rt:222:1
+-- src/walk.rt:260:1
 pub parse-head-same-length-8 : (t : ℕ) → parse-head-lts.Need-same-length-8 (
   word-bytes-reads.Asked,
   word-bytes-reads.Learnt,
@@ -295,7 +295,7 @@ pub parse-head-same-length-8 : (t : ℕ) → parse-head-lts.Need-same-length-8 (
 ) (parse-head-at t) parse-head.Post
 parse-head-same-length-8 t c = c .before .before .before .before .before .before .before .before .before .before .before .before .before .before .before .before .before .before .open-leaf .kept .1 .1 .1 .1 .1 .1 .1 .1 .1 .1 .0
 
--- src/walk.rt:222:1
+-- src/walk.rt:260:1
 pub parse-head-returns-2 : (t : ℕ) → parse-head-lts.Need-returns-2 (
   word-bytes-reads.Asked,
   word-bytes-reads.Learnt,
@@ -308,7 +308,7 @@ pub parse-head-returns-2 : (t : ℕ) → parse-head-lts.Need-returns-2 (
 ) (parse-head-at t) parse-head.Post
 parse-head-returns-2 t c = let a = c .before .before .before .before .before .before .before .before .before .before .before .before .before .before .before .before .before .before .before .before .before .before .before .before .before .before .before .before .before .before .before .before .before .before .before .args in (unopened-headed (a .s) (lent (a .ot .now) (a .st .now) (a .vt .now) (a .dt .now) (a .hr .now) (a .c .now) (a .u .now)) (c .before .before .before .before .before .before .before .before .before .before .before .before .before .before .before .before .before .before .open-leaf .ensures .0 (c .before .before .before .before .before .before .before .if1 .left)) (input (a .v .now) (a .p .now) (a .k) (a .tr .now)) (refAt (input (a .v .now) (a .p .now) (a .k) (a .tr .now)) (64 - a .d)) (a .a) (a .at) (headed-cut _ _ (a .a) (a .at) _ (count-no (lent _ _ _ _ _ _ _) (c .before .m .given .1) (c .before .before .before .before .before .open-object .ensures .0 _ _ (lent [] _ _ _ _ _ _)))), (tt, tt))
 
--- src/walk.rt:222:1
+-- src/walk.rt:260:1
 pub parse-head-same-length-9 : (t : ℕ) → parse-head-lts.Need-same-length-9 (
   word-bytes-reads.Asked,
   word-bytes-reads.Learnt,
@@ -321,7 +321,7 @@ pub parse-head-same-length-9 : (t : ℕ) → parse-head-lts.Need-same-length-9 (
 ) (parse-head-at t) parse-head.Post
 parse-head-same-length-9 t c = c .before .before .before .before .before .before .before .before .before .before .before .before .before .parse-map .kept .1 .1 .1 .1 .0 ∙ c .before .before .before .before .before .before .before .before .before .before .before .before .before .before .before .before .before .before .before .before .before .before .before .before .before .before .before .open-object .kept .1 .1 .0 ∙ c .before .before .before .before .before .before .before .before .before .before .before .before .before .before .before .before .before .before .before .before .before .before .before .before .before .before .before .before .before .before .before .before .before .before .before .before .before .before .before .before .open-leaf .kept .1 .1 .1 .1 .0
 
--- src/walk.rt:222:1
+-- src/walk.rt:260:1
 pub parse-head-same-length-10 : (t : ℕ) → parse-head-lts.Need-same-length-10 (
   word-bytes-reads.Asked,
   word-bytes-reads.Learnt,
@@ -334,7 +334,7 @@ pub parse-head-same-length-10 : (t : ℕ) → parse-head-lts.Need-same-length-10
 ) (parse-head-at t) parse-head.Post
 parse-head-same-length-10 t c = c .before .before .before .before .before .before .before .before .before .before .before .before .before .parse-map .kept .1 .1 .1 .1 .1 .0 ∙ c .before .before .before .before .before .before .before .before .before .before .before .before .before .before .before .before .before .before .before .before .before .before .before .before .before .before .before .before .before .before .before .before .before .before .before .before .before .before .before .before .open-leaf .kept .1 .1 .1 .1 .1 .0
 
--- src/walk.rt:222:1
+-- src/walk.rt:260:1
 pub parse-head-same-length-11 : (t : ℕ) → parse-head-lts.Need-same-length-11 (
   word-bytes-reads.Asked,
   word-bytes-reads.Learnt,
@@ -347,7 +347,7 @@ pub parse-head-same-length-11 : (t : ℕ) → parse-head-lts.Need-same-length-11
 ) (parse-head-at t) parse-head.Post
 parse-head-same-length-11 t c = search needs
 
--- src/walk.rt:222:1
+-- src/walk.rt:260:1
 pub parse-head-same-length-12 : (t : ℕ) → parse-head-lts.Need-same-length-12 (
   word-bytes-reads.Asked,
   word-bytes-reads.Learnt,
@@ -360,7 +360,7 @@ pub parse-head-same-length-12 : (t : ℕ) → parse-head-lts.Need-same-length-12
 ) (parse-head-at t) parse-head.Post
 parse-head-same-length-12 t c = c .before .before .before .before .before .before .before .before .before .before .before .before .before .parse-map .kept .1 .1 .1 .1 .1 .1 .1 .0 ∙ c .before .before .before .before .before .before .before .before .before .before .before .before .before .before .before .before .before .before .before .before .before .before .before .before .before .before .before .before .before .before .before .before .before .before .before .before .before .before .before .before .open-leaf .kept .1 .1 .1 .1 .1 .1 .0
 
--- src/walk.rt:222:1
+-- src/walk.rt:260:1
 pub parse-head-same-length-13 : (t : ℕ) → parse-head-lts.Need-same-length-13 (
   word-bytes-reads.Asked,
   word-bytes-reads.Learnt,
@@ -373,7 +373,7 @@ pub parse-head-same-length-13 : (t : ℕ) → parse-head-lts.Need-same-length-13
 ) (parse-head-at t) parse-head.Post
 parse-head-same-length-13 t c = c .before .before .before .before .before .before .before .before .before .before .before .before .before .parse-map .kept .1 .1 .1 .1 .1 .1 .1 .1 .1 .1 .1 .0 ∙ c .before .before .before .before .before .before .before .before .before .before .before .before .before .before .before .before .before .before .before .before .before .before .before .before .before .before .before .before .before .before .before .before .before .before .before .before .before .before .before .before .open-leaf .kept .1 .1 .1 .1 .1 .1 .1 .1 .1 .1 .0
 
--- src/walk.rt:222:1
+-- src/walk.rt:260:1
 pub parse-head-returns-3 : (t : ℕ) → parse-head-lts.Need-returns-3 (
   word-bytes-reads.Asked,
   word-bytes-reads.Learnt,
@@ -386,7 +386,7 @@ pub parse-head-returns-3 : (t : ℕ) → parse-head-lts.Need-returns-3 (
 ) (parse-head-at t) parse-head.Post
 parse-head-returns-3 t c = let a = c .before .before .before .before .before .before .before .before .before .before .before .before .before .before .before .before .before .before .before .before .before .before .before .before .before .before .before .before .before .before .before .before .before .before .before .before .before .before .before .before .before .before .before .before .before .before .before .before .before .before .before .before .before .before .before .before .before .args in let e = count-is (lent _ _ _ _ _ _ _) (c .before .before .before .before .before .before .before .before .before .before .before .before .before .before .before .before .before .before .before .before .before .before .before .words .given .1) (c .before .before .before .before .before .before .before .before .before .before .before .before .before .before .before .before .before .before .before .before .before .before .before .before .before .before .before .open-object .ensures .0 _ _ (lent [] _ _ _ _ _ _)) in (unopened-headed (a .s) (lent (a .ot .now) (a .st .now) (a .vt .now) (a .dt .now) (a .hr .now) (a .c .now) (a .u .now)) (c .before .before .before .before .before .before .before .before .before .before .before .before .before .before .before .before .before .before .before .before .before .before .before .before .before .before .before .before .before .before .before .before .before .before .before .before .before .before .before .before .open-leaf .ensures .0 (c .before .before .before .before .before .before .before .before .before .before .before .before .before .before .before .before .before .before .before .before .before .before .before .before .before .before .before .before .before .if1 .left)) (input (a .v .now) (a .p .now) (a .k) (a .tr .now)) (refAt (input (a .v .now) (a .p .now) (a .k) (a .tr .now)) (64 - a .d)) (a .a) (a .at) (headed-bad _ _ (a .a) (a .at) _ e (ap (λ (w : ℕ). c .before .before .before .before .before .before .before .before .before .before .before .before .before .before .before .before .before .before .before .before .before .before .before .words .given .0 .0 * w) (c .before .before .before .before .before .before .before .before .before .before .before .before .before .before .before .before .before .before .before .before .before .before .before .before .before .before .before .before .before .before .before .before .before .before .before .before .before .before .before .before .before .before .before .before .before .before .before .before .word-bytes .ensures .0)) (went-no (lent _ _ _ _ _ _ _) (c .before .m2 .given .1) (c .before .before .before .before .before .before .before .before .before .before .before .before .before .parse-map .ensures .0))), (tt, tt))
 
--- src/walk.rt:222:1
+-- src/walk.rt:260:1
 pub parse-head-same-length-14 : (t : ℕ) → parse-head-lts.Need-same-length-14 (
   word-bytes-reads.Asked,
   word-bytes-reads.Learnt,
@@ -399,7 +399,7 @@ pub parse-head-same-length-14 : (t : ℕ) → parse-head-lts.Need-same-length-14
 ) (parse-head-at t) parse-head.Post
 parse-head-same-length-14 t c = c .before .before .before .before .before .before .before .before .before .before .before .before .before .parse-map .kept .1 .1 .1 .1 .0 ∙ c .before .before .before .before .before .before .before .before .before .before .before .before .before .before .before .before .before .before .before .before .before .before .before .before .before .before .before .open-object .kept .1 .1 .0 ∙ c .before .before .before .before .before .before .before .before .before .before .before .before .before .before .before .before .before .before .before .before .before .before .before .before .before .before .before .before .before .before .before .before .before .before .before .before .before .before .before .before .open-leaf .kept .1 .1 .1 .1 .0
 
--- src/walk.rt:222:1
+-- src/walk.rt:260:1
 pub parse-head-same-length-15 : (t : ℕ) → parse-head-lts.Need-same-length-15 (
   word-bytes-reads.Asked,
   word-bytes-reads.Learnt,
@@ -412,7 +412,7 @@ pub parse-head-same-length-15 : (t : ℕ) → parse-head-lts.Need-same-length-15
 ) (parse-head-at t) parse-head.Post
 parse-head-same-length-15 t c = c .before .before .before .before .before .before .before .before .before .before .before .before .before .parse-map .kept .1 .1 .1 .1 .1 .0 ∙ c .before .before .before .before .before .before .before .before .before .before .before .before .before .before .before .before .before .before .before .before .before .before .before .before .before .before .before .before .before .before .before .before .before .before .before .before .before .before .before .before .open-leaf .kept .1 .1 .1 .1 .1 .0
 
--- src/walk.rt:222:1
+-- src/walk.rt:260:1
 pub parse-head-same-length-16 : (t : ℕ) → parse-head-lts.Need-same-length-16 (
   word-bytes-reads.Asked,
   word-bytes-reads.Learnt,
@@ -425,7 +425,7 @@ pub parse-head-same-length-16 : (t : ℕ) → parse-head-lts.Need-same-length-16
 ) (parse-head-at t) parse-head.Post
 parse-head-same-length-16 t c = search needs
 
--- src/walk.rt:222:1
+-- src/walk.rt:260:1
 pub parse-head-same-length-17 : (t : ℕ) → parse-head-lts.Need-same-length-17 (
   word-bytes-reads.Asked,
   word-bytes-reads.Learnt,
@@ -438,7 +438,7 @@ pub parse-head-same-length-17 : (t : ℕ) → parse-head-lts.Need-same-length-17
 ) (parse-head-at t) parse-head.Post
 parse-head-same-length-17 t c = c .before .before .before .before .before .before .before .before .before .before .before .before .before .parse-map .kept .1 .1 .1 .1 .1 .1 .1 .0 ∙ c .before .before .before .before .before .before .before .before .before .before .before .before .before .before .before .before .before .before .before .before .before .before .before .before .before .before .before .before .before .before .before .before .before .before .before .before .before .before .before .before .open-leaf .kept .1 .1 .1 .1 .1 .1 .0
 
--- src/walk.rt:222:1
+-- src/walk.rt:260:1
 pub parse-head-same-length-18 : (t : ℕ) → parse-head-lts.Need-same-length-18 (
   word-bytes-reads.Asked,
   word-bytes-reads.Learnt,
@@ -451,7 +451,7 @@ pub parse-head-same-length-18 : (t : ℕ) → parse-head-lts.Need-same-length-18
 ) (parse-head-at t) parse-head.Post
 parse-head-same-length-18 t c = c .before .before .before .before .before .before .before .before .before .before .before .before .before .parse-map .kept .1 .1 .1 .1 .1 .1 .1 .1 .1 .1 .1 .0 ∙ c .before .before .before .before .before .before .before .before .before .before .before .before .before .before .before .before .before .before .before .before .before .before .before .before .before .before .before .before .before .before .before .before .before .before .before .before .before .before .before .before .open-leaf .kept .1 .1 .1 .1 .1 .1 .1 .1 .1 .1 .0
 
--- src/walk.rt:222:1
+-- src/walk.rt:260:1
 pub parse-head-returns-4 : (t : ℕ) → parse-head-lts.Need-returns-4 (
   word-bytes-reads.Asked,
   word-bytes-reads.Learnt,

@@ -15,7 +15,7 @@ use Rattle.stream.proofs.bytes.byte.Reads as byte-reads
 use Rattle.readers.proofs.ViewLaws.{seen-got, seen-no}
 use Rattle.walker.proofs.ReadyLaws.{out-index, moved-ready}
 use Rattle.walker.proofs.ReferenceLaws.{ref-deep, ref-end, kind-low, chunks-low, simple-fits, found-by, ref-object, space-low, argument-low, other-simple, inner-starts, inner-small, value-small, ref-simple, ref-refused, ref-value, ref-inner-no, ref-inner-got}
-use Rattle.walker.proofs.walk.+parse_head+parse_inner+parse_item+parse_map+parse_object+parse_ref+parse_slot.Proof.Common.{parse-inner-below, parse-item-at, parse-object-below, parse-ref-at, parse-slot-below}
+use Rattle.walker.proofs.walk.+parse_head+parse_inner+parse_item+parse_map+parse_object+parse_ref+parse_slot.Proof.Common.{parse-inner-below, parse-object-below, parse-ref-at}
 
 -- src/walk.rt:72:9
 pub parse-ref-returns : (t : ℕ) → parse-ref-lts.Need-returns (
