@@ -1,6 +1,8 @@
 // The closing section.
 use crate::padding::padding;
 use deferred::entry::entry;
+use leaves::leaf::opens_object;
+use levels::level::child_at;
 use readers::state::State;
 use readers::state::Step;
 use readers::state::Went;
@@ -8,13 +10,15 @@ use sheet::numbers::legacy;
 use sheet::tests::Closing;
 use sheet::tests::closing_entry;
 use stream::bytes::peek;
+use walker::walk::parse_object;
 use walker::walk::parse_ref;
 ghost use mathlib.Core.Path.{_≡_};
 ghost use mathlib.Core.List.{List};
 ghost use Prim.Native.Nat.{ℕ, _+_, _-_};
 ghost use lib.ListN.{length};
 ghost use Rattle.definition.specs.Closing.{endsLegacy, entries as entriesFrom, closing as closingSection};
-ghost use Rattle.readers.specs.Views.{input, mem, seenWent};
+ghost use Rattle.definition.specs.Reference.{refAt};
+ghost use Rattle.readers.specs.Views.{input, mem, seen, seenWent};
 ghost use Rattle.walker.specs.Ready.{lent, OutIndex, Ready};
 ghost use Rattle.graph.specs.Driver.{oneEntry, InLegacy};
 
@@ -23,6 +27,37 @@ fn ends_legacy(sheet: &[u16], n: u64) -> bool
     ensures { λ r. ⌜ ((p tr : List ℕ) (sp : ℕ) → r ≡ endsLegacy (input (now (sheet .entry)) p sp tr) n) ⌝ }
 {
     legacy(sheet) & (n != 3) & (n != 16)
+}
+
+// A reference at depth 0. A new object, the commonest, needs no call of `parse_ref`.
+fn closing_ref(
+    v: &[u16],
+    h: &[u16; 512],
+    tr: &[u8],
+    p: &[u8],
+    ot: &mut [u64],
+    st: &mut [u64],
+    vt: &mut [u64],
+    dt: &mut [u64],
+    hr: &mut [u64; 25],
+    c: &mut [u32; 256],
+    u: &mut [u32; 256],
+    sc: &mut [u64],
+    k: u64,
+    s: State,
+) -> Step
+    requires { ⌜ Ready (input (now v) (now p) k (now tr)) (now h) (mem s (lent (now ot) (now st) (now vt) (now dt) (now hr) (now c) (now u))) (now sc) ⌝ }
+    ensures { λ r. ⌜ seen r (lent (now (ot .exit)) (now (st .exit)) (now (vt .exit)) (now (dt .exit)) (now (hr .exit)) (now (c .exit)) (now (u .exit))) ≡ refAt (input (now (v .entry)) (now (p .entry)) k (now (tr .entry))) 65 (mem s (lent (now (ot .entry)) (now (st .entry)) (now (vt .entry)) (now (dt .entry)) (now (hr .entry)) (now (c .entry)) (now (u .entry)))) ⌝ }
+    ensures index { λ r. ⌜ OutIndex (length (now (p .entry))) (seen r (lent (now (ot .exit)) (now (st .exit)) (now (vt .exit)) (now (dt .exit)) (now (hr .exit)) (now (c .exit)) (now (u .exit)))) (now (sc .exit)) ⌝ }
+{
+    let at = s.at;
+    if !opens_object(h, p, at) {
+        return parse_ref(v, h, tr, p, ot, st, vt, dt, hr, c, u, sc, k, s, 0);
+    }
+    let a = child_at(h, p, at).space;
+    let mut t = s;
+    t.at = at + 1;
+    parse_object(v, h, tr, p, ot, st, vt, dt, hr, c, u, sc, k, t, 0, at, a)
 }
 
 // A reference at depth 0, whose value is dropped, or a deferred entry.
@@ -51,7 +86,7 @@ fn one_entry(
     if let Closing::Deferred(space) = e {
         return entry(v, h, tr, p, ot, st, vt, dt, hr, c, u, sc, k, s, space);
     }
-    match parse_ref(v, h, tr, p, ot, st, vt, dt, hr, c, u, sc, k, s, 0) {
+    match closing_ref(v, h, tr, p, ot, st, vt, dt, hr, c, u, sc, k, s) {
         Step::Refused(n, q, t) => Went::Refused(n, q, t),
         Step::Got(_, t) => Went::On(t),
     }

@@ -15,9 +15,17 @@ use Rattle.tables.specs.Records.{field, slotRow, Put}
 use Rattle.readers.proofs.ViewLaws.{put-full, put-done, put-below}
 use Rattle.levels.specs.Level.{Begins, ObjectPlaced}
 
+-- a new object stands at the cursor
+pub opens : (h p : List ℕ) (at : ℕ) → ltb at (length p) && eqb (getD h (getD p at 0) 0) 1 ≡ true → (at < length p) × (getD h (getD p at 0) 0 ≡ 1)
+opens h p at e =
+    let a : Bool = ltb at (length p) in
+    let b : Bool = eqb (getD h (getD p at 0) 0) 1 in
+    (ltb-true at (length p) (and-left a b e), eqb-true _ 1 (and-right a b e))
+
 pub begins : (v h p : List ℕ) (at d kept : ℕ) → d < 64 → kept < 8 → {b : ℕ} {t : Bool} → b ≡ peekAt p at → t ≡ eqb (number v kDeferred) b → t ≡ false → ltb at (length p) && eqb (getD h (getD p at 0) 0) 1 ≡ true → Begins v h p at d kept
 begins v h p at d kept ld lk eb et e f =
-    record { inside = ltb-true at (length p) (and-left (ltb at (length p)) (eqb (getD h (getD p at 0) 0) 1) f); kind = eqb-true _ 1 (and-right (ltb at (length p)) (eqb (getD h (getD p at 0) 0) 1) f); not-deferred = rw (← eb) (sym et ∙ e); deep = ld; roomy = lk }
+    let z = opens h p at f in
+    record { inside = z .0; kind = z .1; not-deferred = rw (← eb) (sym et ∙ e); deep = ld; roomy = lk }
 
 module _ {n o index child : ℕ} {r : Bool} {objects slots slots′ : List ℕ} (q : Put slots n (slotRow o index (triple 1 child 0) 0) r slots′) where
   pub object-full : r ≡ false → ObjectPlaced n o index child false objects slots objects slots′

@@ -33,8 +33,8 @@ same-length-5 c = search needs
 returns : tie.Need-returns
 returns c = let a = c .before .before .before .before .before .before .before .before .before .before .before .before .before .before .before .before .before .before .before .before .before .before .before .before .before .before .before .before .before .before .args in (one-deferred (input (a .v .now) (a .p .now) (a .k) (a .tr .now)) (mem (a .s) (lent (a .ot .now) (a .st .now) (a .vt .now) (a .dt .now) (a .hr .now) (a .c .now) (a .u .now))) (c .before .before .before .before .before .before .before .before .before .before .before .before .before .before .before .before .before .before .before .before .e .given .1) (c .before .before .before .before .before .before .before .before .before .before .entry .ensures .0), c .before .before .before .before .before .before .before .before .before .before .entry .ensures .1)
 
-parse-ref-requires : tie.Need-parse-ref-requires
-parse-ref-requires c κs = (c .before .before .before .before .before .before .before .before .before .before .before .before .before .before .before .before .before .pre .0, omega arith)
+closing-ref-requires : tie.Need-closing-ref-requires
+closing-ref-requires c κs = c .before .before .before .before .before .before .before .before .before .before .before .before .before .before .before .before .before .pre .0
 
 enum-known-n : tie.Need-enum-known-n
 enum-known-n c = search needs
@@ -58,7 +58,7 @@ same-length-10 : tie.Need-same-length-10
 same-length-10 c = search needs
 
 returns-2 : tie.Need-returns-2
-returns-2 c = let a = c .before .before .before .before .before .before .before .before .before .before .before .before .before .before .before .before .before .before .before .before .before .before .before .before .before .before .before .before .before .before .before .args in (one-no (input (a .v .now) (a .p .now) (a .k) (a .tr .now)) (a .e) (c .before .before .before .before .before .before .before .before .before .before .before .before .before .before .before .before .before .before .before .before .before .before .match .keys2) (mem (a .s) (lent (a .ot .now) (a .st .now) (a .vt .now) (a .dt .now) (a .hr .now) (a .c .now) (a .u .now))) (seen-no _ (c .before .n .given .1) (c .before .before .before .before .before .before .before .before .before .before .before .before .before .parse-ref .ensures .0)), tt)
+returns-2 c = let a = c .before .before .before .before .before .before .before .before .before .before .before .before .before .before .before .before .before .before .before .before .before .before .before .before .before .before .before .before .before .before .before .args in (one-no (input (a .v .now) (a .p .now) (a .k) (a .tr .now)) (a .e) (c .before .before .before .before .before .before .before .before .before .before .before .before .before .before .before .before .before .before .before .before .before .before .match .keys2) (mem (a .s) (lent (a .ot .now) (a .st .now) (a .vt .now) (a .dt .now) (a .hr .now) (a .c .now) (a .u .now))) (seen-no _ (c .before .n .given .1) (c .before .before .before .before .before .before .before .before .before .before .before .before .before .closing-ref .ensures .0)), tt)
 
 same-length-11 : tie.Need-same-length-11
 same-length-11 c = search needs
@@ -76,7 +76,7 @@ same-length-15 : tie.Need-same-length-15
 same-length-15 c = search needs
 
 returns-3 : tie.Need-returns-3
-returns-3 c = let a = c .before .before .before .before .before .before .before .before .before .before .before .before .before .before .before .before .before .before .before .before .before .before .before .before .before .before .before .before .before .before .before .args in (one-dropped (input (a .v .now) (a .p .now) (a .k) (a .tr .now)) (a .e) (c .before .before .before .before .before .before .before .before .before .before .before .before .before .before .before .before .before .before .before .before .before .before .match .keys2) (mem (a .s) (lent (a .ot .now) (a .st .now) (a .vt .now) (a .dt .now) (a .hr .now) (a .c .now) (a .u .now))) _ _ (seen-got _ (c .before .t .given .1) (c .before .before .before .before .before .before .before .before .before .before .before .before .before .parse-ref .ensures .0)), out-index _ (seen-got (lent _ _ _ _ _ _ _) (c .before .t .given .1) refl) (c .before .before .before .before .before .before .before .before .before .before .before .before .before .parse-ref .ensures .1))
+returns-3 c = let a = c .before .before .before .before .before .before .before .before .before .before .before .before .before .before .before .before .before .before .before .before .before .before .before .before .before .before .before .before .before .before .before .args in (one-dropped (input (a .v .now) (a .p .now) (a .k) (a .tr .now)) (a .e) (c .before .before .before .before .before .before .before .before .before .before .before .before .before .before .before .before .before .before .before .before .before .before .match .keys2) (mem (a .s) (lent (a .ot .now) (a .st .now) (a .vt .now) (a .dt .now) (a .hr .now) (a .c .now) (a .u .now))) _ _ (seen-got _ (c .before .t .given .1) (c .before .before .before .before .before .before .before .before .before .before .before .before .before .closing-ref .ensures .0)), out-index _ (seen-got (lent _ _ _ _ _ _ _) (c .before .t .given .1) refl) (c .before .before .before .before .before .before .before .before .before .before .before .before .before .closing-ref .ensures .1))
 
 pub one-entry-spec : {M : Type 1} → statement M
 one-entry-spec =
@@ -90,7 +90,7 @@ one-entry-spec =
     same-length-4
     same-length-5
     returns
-    parse-ref-requires
+    closing-ref-requires
     enum-known-n
     enum-known-t
     same-length-6
