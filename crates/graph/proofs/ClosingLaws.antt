@@ -52,18 +52,18 @@ module _ (x : Input) {e : Closing} (m : Mem) where
   pub one-deferred : {space : ℕ} {out : Out (Unit {0})} → e ≡ Deferred space → out ≡ entry x space m → out ≡ oneEntry x e m
   one-deferred g h = rw g h
 
-drops : (x : Input) (e : Closing) → OneOf (0 ∷ 1 ∷ 3 ∷ []) (tagOf the-type e) → (m : Mem) → dropReference x m ≡ oneEntry x e m
+pub drops : (x : Input) (e : Closing) → OneOf (0 ∷ 1 ∷ 3 ∷ []) (tagOf the-type e) → (m : Mem) → dropReference x m ≡ oneEntry x e m
 drops x Synchronize h m = refl
 drops x (Alignment a) h m = refl
 drops x (Deferred space) h m = absurd (miss (0 ∷ 1 ∷ 3 ∷ []) 2 tt h)
 drops x Reference h m = refl
 
-module _ (x : Input) (e : Closing) (h : OneOf (0 ∷ 1 ∷ 3 ∷ []) (tagOf the-type e)) (m : Mem) where
-  pub one-no : {n q : ℕ} {m1 : Mem} → no n q m1 ≡ refAt x 65 m → no n q m1 ≡ oneEntry x e m
-  one-no g = then-no (λ v. tell (value (fieldsOf v) dropped)) g ∙ drops x e h m
+module _ (x : Input) (m : Mem) where
+  pub drop-no : {n q : ℕ} {m1 : Mem} → no n q m1 ≡ refAt x 65 m → no n q m1 ≡ dropReference x m
+  drop-no g = then-no (λ v. tell (value (fieldsOf v) dropped)) g
 
-  pub one-dropped : {v : SlotValue} (s : State) (l : Lent) → got v (mem s l) ≡ refAt x 65 m → got tt (mem s l) ≡ oneEntry x e m
-  one-dropped s l g = then-got (λ v. tell (value (fieldsOf v) dropped)) g refl ∙ drops x e h m
+  pub drop-got : {v : SlotValue} (s : State) (l : Lent) → got v (mem s l) ≡ refAt x 65 m → got tt (mem s l) ≡ dropReference x m
+  drop-got s l g = then-got (λ v. tell (value (fieldsOf v) dropped)) g refl
 
 -- ---- the entries
 

@@ -16,9 +16,8 @@ ghost use mathlib.Core.Path.{_≡_};
 ghost use mathlib.Core.List.{List};
 ghost use Prim.Native.Nat.{ℕ, _+_, _-_};
 ghost use lib.ListN.{length};
-ghost use Rattle.definition.specs.Closing.{endsLegacy, entries as entriesFrom, closing as closingSection};
-ghost use Rattle.definition.specs.Reference.{refAt};
-ghost use Rattle.readers.specs.Views.{input, mem, seen, seenWent};
+ghost use Rattle.definition.specs.Closing.{dropReference, endsLegacy, entries as entriesFrom, closing as closingSection};
+ghost use Rattle.readers.specs.Views.{input, mem, seenWent};
 ghost use Rattle.walker.specs.Ready.{lent, OutIndex, Ready};
 ghost use Rattle.graph.specs.Driver.{oneEntry, InLegacy};
 
@@ -29,8 +28,8 @@ fn ends_legacy(sheet: &[u16], n: u64) -> bool
     legacy(sheet) & (n != 3) & (n != 16)
 }
 
-// A reference at depth 0. A new object, the commonest, needs no call of `parse_ref`.
-fn closing_ref(
+// A reference at depth 0, whose value is dropped. A new object, the commonest, needs no call of `parse_ref`.
+fn drop_ref(
     v: &[u16],
     h: &[u16; 512],
     tr: &[u8],
@@ -45,22 +44,28 @@ fn closing_ref(
     sc: &mut [u64],
     k: u64,
     s: State,
-) -> Step
+) -> Went
     requires { ⌜ Ready (input (now v) (now p) k (now tr)) (now h) (mem s (lent (now ot) (now st) (now vt) (now dt) (now hr) (now c) (now u))) (now sc) ⌝ }
-    ensures { λ r. ⌜ seen r (lent (now (ot .exit)) (now (st .exit)) (now (vt .exit)) (now (dt .exit)) (now (hr .exit)) (now (c .exit)) (now (u .exit))) ≡ refAt (input (now (v .entry)) (now (p .entry)) k (now (tr .entry))) 65 (mem s (lent (now (ot .entry)) (now (st .entry)) (now (vt .entry)) (now (dt .entry)) (now (hr .entry)) (now (c .entry)) (now (u .entry)))) ⌝ }
-    ensures index { λ r. ⌜ OutIndex (length (now (p .entry))) (seen r (lent (now (ot .exit)) (now (st .exit)) (now (vt .exit)) (now (dt .exit)) (now (hr .exit)) (now (c .exit)) (now (u .exit)))) (now (sc .exit)) ⌝ }
+    ensures { λ r. ⌜ seenWent r (lent (now (ot .exit)) (now (st .exit)) (now (vt .exit)) (now (dt .exit)) (now (hr .exit)) (now (c .exit)) (now (u .exit))) ≡ dropReference (input (now (v .entry)) (now (p .entry)) k (now (tr .entry))) (mem s (lent (now (ot .entry)) (now (st .entry)) (now (vt .entry)) (now (dt .entry)) (now (hr .entry)) (now (c .entry)) (now (u .entry)))) ⌝ }
+    ensures index { λ r. ⌜ OutIndex (length (now (p .entry))) (seenWent r (lent (now (ot .exit)) (now (st .exit)) (now (vt .exit)) (now (dt .exit)) (now (hr .exit)) (now (c .exit)) (now (u .exit)))) (now (sc .exit)) ⌝ }
 {
     let at = s.at;
     if !opens_object(h, p, at) {
-        return parse_ref(v, h, tr, p, ot, st, vt, dt, hr, c, u, sc, k, s, 0);
+        return match parse_ref(v, h, tr, p, ot, st, vt, dt, hr, c, u, sc, k, s, 0) {
+            Step::Refused(n, q, y) => Went::Refused(n, q, y),
+            Step::Got(_, y) => Went::On(y),
+        };
     }
     let a = child_at(h, p, at).space;
     let mut t = s;
     t.at = at + 1;
-    parse_object(v, h, tr, p, ot, st, vt, dt, hr, c, u, sc, k, t, 0, at, a)
+    match parse_object(v, h, tr, p, ot, st, vt, dt, hr, c, u, sc, k, t, 0, at, a) {
+        Step::Refused(n, q, y) => Went::Refused(n, q, y),
+        Step::Got(_, y) => Went::On(y),
+    }
 }
 
-// A reference at depth 0, whose value is dropped, or a deferred entry.
+// Such a reference, or a deferred entry.
 fn one_entry(
     v: &[u16],
     h: &[u16; 512],
@@ -86,10 +91,7 @@ fn one_entry(
     if let Closing::Deferred(space) = e {
         return entry(v, h, tr, p, ot, st, vt, dt, hr, c, u, sc, k, s, space);
     }
-    match closing_ref(v, h, tr, p, ot, st, vt, dt, hr, c, u, sc, k, s) {
-        Step::Refused(n, q, t) => Went::Refused(n, q, t),
-        Step::Got(_, t) => Went::On(t),
-    }
+    drop_ref(v, h, tr, p, ot, st, vt, dt, hr, c, u, sc, k, s)
 }
 
 // Entries until kSynchronize.
