@@ -17,7 +17,7 @@ opened-count t o bytes tag e b = let z = written-same t (objectRow bytes tag) o 
 -- what is known of a map is known with its address too
 pub map-with : (v h tr p hot : List ℕ) (at count ts : ℕ) (r : Opened) (records alignment : ℕ) → MapAt v h tr p hot at count ts r → MapAt v h tr p hot at count ts (record { words = r .words; size = r .size; map = r .map; records = records; alignment = alignment })
 map-with v h tr p hot at count ts r records alignment m =
-    record { no-large-byte = m .no-large-byte; not-first = m .not-first; sized = m .sized; small = m .small; there = m .there; found = m .found; unresolved = m .unresolved; unflagged = m .unflagged }
+    record { no-large-byte = m .no-large-byte; not-first = m .not-first; sized = m .sized; small = m .small; there = m .there; found = m .found; unflagged = m .unflagged }
 
 -- an allocation that is not refused
 pub numbered-zero : (number alignment : ℕ) (c : LegacyAlloc) (t : List ℕ) → number ≡ 0 → {o : Outcome} → outcome number alignment c t ≡ o → outcome 0 alignment c t ≡ o

@@ -29,7 +29,6 @@ pub record MapAt (v h tr p hot : List ℕ) (at count ts : ℕ) (r : Opened) : Ty
   pub small : r .words < 2 ^ 30
   pub there : (at + r .size < length p) × (getD p (at + r .size) 0 < 256)
   pub found : Found p hot count ts (at + r .size + 1) (getD h (getD p (at + r .size) 0) 0) (getD h (256 + getD p (at + r .size) 0) 0) (r .map)
-  pub unresolved : isResolve v (peekAt p (r .map .next)) ≡ false
   pub unflagged : (sh q : List ℕ) (sp : ℕ) → flags (input sh q sp tr) (valueOf (r .map)) ≡ false
 
 -- the records of object o and of its map, slot n, and the ring

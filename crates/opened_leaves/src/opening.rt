@@ -8,13 +8,10 @@ use leaves::leaf::value_of;
 use objects::map::allocate_record;
 use objects::map::is_flagged;
 use readers::state::State;
-use sheet::names::K_RESOLVE_PENDING_FORWARD_REF;
 use sheet::numbers::legacy;
 use sheet::numbers::map_first;
 use sheet::numbers::six_x;
 use sheet::numbers::word_bytes;
-use sheet::tests::is_tag;
-use stream::bytes::peek;
 use stream::putint::Int;
 use stream::putint::putint;
 use tables::records::add_object;
@@ -62,8 +59,8 @@ fn unopened() -> Opened
     }
 }
 
-// The size of an object and its map, where the map is a leaf that is not flagged and no resolve follows it. Where a large object has a byte after
-// its size, and where more than its allocation follows its map, it is left to others. The address is `open_leaf`'s.
+// The size of an object and its map, where the map is a leaf that is not flagged. Where a large object has a byte after its size, and where its
+// map comes first, it is left to others. The address is `open_leaf`'s, and the resolves are the caller's.
 fn map_at(
     v: &[u16],
     h: &[u16; 512],
@@ -87,9 +84,6 @@ fn map_at(
         return unopened();
     };
     let map = leaf_at(h, p, hot, at + size, count, word);
-    if is_tag(v, K_RESOLVE_PENDING_FORWARD_REF, peek(p, map.next)) {
-        return unopened();
-    }
     if is_flagged(tr, value_of(map)) {
         return unopened();
     }

@@ -5,13 +5,16 @@ use mathlib.Core.List.{List}
 use Prim.Native.Nat.{ℕ, zero, suc, _+_, _-_, _*_, _<_}
 use native.Mathlib.Omega.{arith}
 use borrow.Author.Tests.{lt-ltb}
+use lib.Dec.{eqb}
 use lib.ListN.{length, getD, set}
-use Rattle.sheet.specs.Sheet.{isLegacy, isSixX, wordBytes}
+use Rattle.stream.specs.Bytes.{peekAt}
+use Rattle.sheet.specs.Names.{kResolvePendingForwardRef}
+use Rattle.sheet.specs.Sheet.{number, isLegacy, isSixX, wordBytes}
 use Rattle.sheet.specs.Tests.{isResolve}
 use Rattle.tables.specs.declared.values.SlotValue.{SlotValue}
 use Rattle.tables.specs.Values.{triple, fieldsOf}
 use Rattle.tables.specs.Records.{room, field, objectRow, slotRow, written}
-use Rattle.definition.specs.Memory.{Input, word, table, Mem, Out, got, Reader}
+use Rattle.definition.specs.Memory.{Input, word, table, Mem, Out, got, no, Reader}
 use Rattle.definition.specs.Slots.{addSlot}
 use Rattle.definition.specs.Object.{peek, addObject, flags, flagObject, keepMap, resolves}
 use Rattle.definition.specs.Reference.{refAt}
@@ -27,7 +30,11 @@ use Rattle.opened_leaves.specs.declared.opening.Opened.{Opened}
 use Rattle.opened_leaves.specs.Opening.{MapAt, Opens, Addressed, Unopened}
 use Rattle.walker.specs.Ready.{Index, Ready, mapped, headed}
 use Rattle.walker.proofs.LeafLaws.{plain-index, stands, read}
-use Rattle.walker.proofs.ObjectLaws.{opened-ready, mapped-on, headed-on}
+use Rattle.walker.proofs.ObjectLaws.{bytes-whole, kept-ready, opened-ready, mapped-on, headed-bad, headed-on}
+
+-- the code's test of the byte at the cursor
+pub resolve-not : (v p : List ℕ) (at : ℕ) {b : ℕ} {t : Bool} → b ≡ peekAt p at → t ≡ eqb (number v kResolvePendingForwardRef) b → t ≡ false → isResolve v (peekAt p at) ≡ false
+resolve-not v p at eb et e = rw (← eb) (sym et ∙ e)
 
 -- ---- each step
 
@@ -125,13 +132,24 @@ module _ (v p : List ℕ) (sp : ℕ) (tr h sc : List ℕ) (s : State) (l : Lent)
       let es : st ≡ written (l .slots) (s .slots) (slotRow (s .objects) 0 (fieldsOf map-value) 0) = rw (← (q .fields)) (k .slot) in
       subst (λ (hot : List ℕ). got tt (mem (opened-state r s) (objectsIs ot (slotsIs st (addressesIs dt (hotIs hot (countersIs (l .cur) used l)))))) ≡ keepMap x (s .objects) map-value (mem s₃ l₃)) (sym (k .rings)) (map-kept x (s .objects) map-value s₃ l₃ f (k .slot-room) (k .object) es)
 
-  is-mapped : got tt (mem (opened-state r s) l₄) ≡ mapped x (refAt x (64 - d)) space bytes (s .objects) (mem s₁ l₁)
-  is-mapped =
-      mapped-on g₁ d space bytes (s .objects) map-read (by-sheet (isLegacy v) refl) slot-kept
-      (resolves-none x (s .objects) (length p - r .map .next) (mem (opened-state r s) l₄) (a .unresolved))
+  mapped-by : {out : Out (Unit {0})} → out ≡ resolves x (s .objects) (length p - r .map .next) (mem (opened-state r s) l₄) → out ≡ mapped x (refAt x (64 - d)) space bytes (s .objects) (mem s₁ l₁)
+  mapped-by f = mapped-on g₁ d space bytes (s .objects) map-read (by-sheet (isLegacy v) refl) slot-kept f
 
-  pub leaf-headed : {n w : ℕ} → w ≡ wordBytes v → n ≡ r .words * w → got n (mem (opened-state r s) l₄) ≡ headed x (refAt x (64 - d)) space tag (mem s l)
-  leaf-headed ew e = let z = headed-on x (refAt x (64 - d)) space tag (mem s l) is-opened refl is-mapped in rw (e, ew) z
+  -- with the resolves that follow it, or none
+  module _ {n w : ℕ} (ew : w ≡ wordBytes v) (e : n ≡ r .words * w) where
+    pub resolved-headed : {m₃ : Mem} → got tt m₃ ≡ resolves x (s .objects) (length p - r .map .next) (mem (opened-state r s) l₄) → got n m₃ ≡ headed x (refAt x (64 - d)) space tag (mem s l)
+    resolved-headed f = let z = headed-on x (refAt x (64 - d)) space tag (mem s l) is-opened refl (mapped-by f) in rw (e, ew) z
+
+    pub unresolved-headed : {k q : ℕ} {m₃ : Mem} → no k q m₃ ≡ resolves x (s .objects) (length p - r .map .next) (mem (opened-state r s) l₄) → no k q m₃ ≡ headed x (refAt x (64 - d)) space tag (mem s l)
+    unresolved-headed f = headed-bad x (refAt x (64 - d)) space tag (mem s l) is-opened refl (mapped-by f)
+
+    pub leaf-headed : isResolve v (peekAt p (r .map .next)) ≡ false → got n (mem (opened-state r s) l₄) ≡ headed x (refAt x (64 - d)) space tag (mem s l)
+    leaf-headed f = resolved-headed (resolves-none x (s .objects) (length p - r .map .next) (mem (opened-state r s) l₄) f)
+
+  -- what holds before the resolves
+  pub leaf-ready : space < 256 → Ready x h (mem (opened-state r s) l₄) sc′
+  leaf-ready low₁ =
+      kept-ready g₁ d space bytes (s .objects) map-read (by-sheet (isLegacy v) refl) (omega arith) low₁ (bytes-whole (r .words) refl) sc sc′ (record { pending = g .index .pending; linked = g .index .linked }) (y .front) (y .linked) slot-kept
 
   pub opened-index : Index (length p) (table st (s .slots + 1)) (table dt (r .records)) sc′
   opened-index =

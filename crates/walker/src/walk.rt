@@ -27,6 +27,7 @@ use readers::state::State;
 use readers::state::Step;
 use readers::state::Went;
 use sheet::names::K_DEFERRED;
+use sheet::names::K_RESOLVE_PENDING_FORWARD_REF;
 use sheet::numbers::word_bytes;
 use sheet::tests::is_tag;
 use stream::bytes::byte;
@@ -269,13 +270,21 @@ fn parse_head(
     let opened = open_leaf(v, h, tr, p, ot, st, dt, hr, c, u, sc, k, s, d, at, a);
     let map = opened.map;
     if map.kind != 0 {
+        let n = opened.words * word;
+        let next = map.next;
         let mut t = s;
-        t.at = map.next;
+        t.at = next;
         t.objects = o + 1;
         t.slots = s.slots + 1;
         t.addresses = opened.records;
         t.alignment = opened.alignment;
-        return Count::Is(opened.words * word, t);
+        if !is_tag(v, K_RESOLVE_PENDING_FORWARD_REF, peek(p, next)) {
+            return Count::Is(n, t);
+        }
+        return match resolves(v, p, st, sc, t, o as u64) {
+            Went::Refused(m, q, y) => Count::Refused(m, q, y),
+            Went::On(y) => Count::Is(n, y),
+        };
     }
     match open_object(v, p, ot, s, at, a) {
         Count::Refused(m, q, t) => Count::Refused(m, q, t),

@@ -44,11 +44,11 @@ add-leaf-at c = omega (arith, int-end _ _ (c .before .before .before .putint .en
 leaf-at-requires : tie.Need-leaf-at-requires
 leaf-at-requires c κs = search needs
 
-peek-requires : tie.Need-peek-requires
-peek-requires c κs = search needs
+value-of-requires : tie.Need-value-of-requires
+value-of-requires c κs = search needs
 
-is-tag-requires : tie.Need-is-tag-requires
-is-tag-requires c κs = search needs
+is-flagged-requires : tie.Need-is-flagged-requires
+is-flagged-requires c κs = search needs
 
 unopened-requires-4 : tie.Need-unopened-requires-4
 unopened-requires-4 c κs = search needs
@@ -56,23 +56,11 @@ unopened-requires-4 c κs = search needs
 returns-4 : tie.Need-returns-4
 returns-4 c = λ h. absurd (h (c .unopened4 .ensures))
 
-value-of-requires : tie.Need-value-of-requires
-value-of-requires c κs = search needs
-
-is-flagged-requires : tie.Need-is-flagged-requires
-is-flagged-requires c κs = search needs
-
-unopened-requires-5 : tie.Need-unopened-requires-5
-unopened-requires-5 c κs = search needs
+cast-t18 : tie.Need-cast-t18
+cast-t18 c = search needs
 
 returns-5 : tie.Need-returns-5
-returns-5 c = λ h. absurd (h (c .unopened5 .ensures))
-
-cast-t17 : tie.Need-cast-t17
-cast-t17 c = search needs
-
-returns-6 : tie.Need-returns-6
-returns-6 c = λ h. record { no-large-byte = sym (c .before .before .before .before .before .before .before .before .before .before .before .before .before .before .six-x .ensures) ∙ c .before .before .before .before .before .before .before .before .before .before .before .before .before .if1 .left; not-first = sym (c .before .before .before .before .before .before .before .before .before .before .before .before .map-first .ensures) ∙ c .before .before .before .before .before .before .before .before .before .before .before .if2 .left; sized = sym (c .before .before .before .before .before .before .before .before .words .given .1) ∙ c .before .before .before .before .before .before .before .before .before .before .putint .ensures .0; small = rw (c .before .before .before .before .before .before .before .before .words .given .1) at (c .before .before .before .before .before .before .before .before .before .before .putint .ensures .1); there = c .before .before .before .before .before .before .leaf-at .ensures .0 h; found = c .before .before .before .before .before .before .leaf-at .ensures .1; unresolved = rw (← (c .before .before .before .before .before .peek .ensures)) (sym (c .before .before .before .before .is-tag .ensures) ∙ c .before .before .before .if3 .left); unflagged = λ sh q sp. rw (← (c .before .before .value-of .ensures)) (sym (c .before .is-flagged .ensures sh q sp) ∙ c .if4 .left) }
+returns-5 c = λ h. record { no-large-byte = sym (c .before .before .before .before .before .before .before .before .before .before .before .six-x .ensures) ∙ c .before .before .before .before .before .before .before .before .before .before .if1 .left; not-first = sym (c .before .before .before .before .before .before .before .before .before .map-first .ensures) ∙ c .before .before .before .before .before .before .before .before .if2 .left; sized = sym (c .before .before .before .before .before .words .given .1) ∙ c .before .before .before .before .before .before .before .putint .ensures .0; small = rw (c .before .before .before .before .before .words .given .1) at (c .before .before .before .before .before .before .before .putint .ensures .1); there = c .before .before .before .leaf-at .ensures .0 h; found = c .before .before .before .leaf-at .ensures .1; unflagged = λ sh q sp. rw (← (c .before .before .value-of .ensures)) (sym (c .before .is-flagged .ensures sh q sp) ∙ c .if3 .left) }
 
 pub map-at-spec : {M : Type 1} → statement M
 map-at-spec =
@@ -91,13 +79,9 @@ map-at-spec =
     returns-3
     add-leaf-at
     leaf-at-requires
-    peek-requires
-    is-tag-requires
-    unopened-requires-4
-    returns-4
     value-of-requires
     is-flagged-requires
-    unopened-requires-5
-    returns-5
-    cast-t17
-    returns-6)
+    unopened-requires-4
+    returns-4
+    cast-t18
+    returns-5)

@@ -52,7 +52,7 @@ use Rattle.walker.proofs.walk.+parse_head+parse_inner+parse_item+parse_
 use Rattle.walker.proofs.walk.+parse_head+parse_inner+parse_item+parse_map+parse_object+parse_ref+parse_slot.Proof.Inner.{parse-inner-word-bytes-requires, parse-inner-leaf-at-requires, parse-inner-take-leaf-requires, parse-inner-returns, parse-inner-add-parse-ref, parse-inner-parse-ref-requires, parse-inner-same-length, parse-inner-same-length-2, parse-inner-same-length-3, parse-inner-same-length-4, parse-inner-same-length-5, parse-inner-returns-2}
 use Rattle.walker.proofs.walk.+parse_head+parse_inner+parse_item+parse_map+parse_object+parse_ref+parse_slot.Proof.Map.{parse-map-parse-inner-requires, parse-map-enum-known-m, parse-map-enum-known-x, parse-map-after-map-requires, parse-map-enum-known-m-2, parse-map-enum-known-y, parse-map-keep-map-requires, parse-map-enum-known-m-3, parse-map-enum-known-w, parse-map-resolves-requires, parse-map-same-length, parse-map-same-length-2, parse-map-same-length-3, parse-map-same-length-4, parse-map-same-length-5, parse-map-returns, parse-map-same-length-6, parse-map-same-length-7, parse-map-same-length-8, parse-map-same-length-9, parse-map-same-length-10, parse-map-returns-2, parse-map-same-length-11, parse-map-same-length-12, parse-map-same-length-13, parse-map-same-length-14, parse-map-same-length-15, parse-map-returns-3, parse-map-same-length-16, parse-map-same-length-17, parse-map-same-length-18, parse-map-same-length-19, parse-map-same-length-20, parse-map-returns-4}
 use Rattle.walker.proofs.walk.+parse_head+parse_inner+parse_item+parse_map+parse_object+parse_ref+parse_slot.Proof.Object.{parse-object-word-bytes-requires, parse-object-unread-requires, parse-object-loop-holds, parse-object-add-e, parse-object-parse-head-requires, parse-object-enum-known-head, parse-object-same-length, parse-object-same-length-2, parse-object-same-length-3, parse-object-same-length-4, parse-object-same-length-5, parse-object-returns, parse-object-enum-known-head-2, parse-object-loop-less, parse-object-loop-again, parse-object-same-length-6, parse-object-same-length-7, parse-object-same-length-8, parse-object-same-length-9, parse-object-same-length-10, parse-object-returns-2, parse-object-same-length-11, parse-object-same-length-12, parse-object-same-length-13, parse-object-same-length-14, parse-object-same-length-15, parse-object-returns-3, parse-object-sub-kept, parse-object-mul-level, parse-object-array-copy-out-level, parse-object-add-start, parse-object-div-put-object, parse-object-put-object-requires, parse-object-same-length-16, parse-object-same-length-17, parse-object-same-length-18, parse-object-same-length-19, parse-object-same-length-20, parse-object-returns-4, parse-object-add-t, parse-object-add-level, parse-object-loop-less-2, parse-object-loop-again-2, parse-object-begins-object-requires, parse-object-mul-levels, parse-object-array-set-from-levels, parse-object-add-kept, parse-object-child-at-requires, parse-object-add-t-2, parse-object-loop-less-3, parse-object-loop-again-3, parse-object-parse-item-requires, parse-object-same-length-21, parse-object-same-length-22, parse-object-same-length-23, parse-object-same-length-24, parse-object-same-length-25, parse-object-returns-5, parse-object-loop-less-4, parse-object-loop-again-4}
-use Rattle.walker.proofs.walk.+parse_head+parse_inner+parse_item+parse_map+parse_object+parse_ref+parse_slot.Proof.Head.{parse-head-word-bytes-requires, parse-head-open-leaf-requires, parse-head-add-t, parse-head-add-t-2, parse-head-mul-t45, parse-head-same-length, parse-head-same-length-2, parse-head-same-length-3, parse-head-same-length-4, parse-head-returns, parse-head-open-object-requires, parse-head-enum-known-m, parse-head-enum-known-words, parse-head-mul-n, parse-head-parse-map-requires, parse-head-enum-known-m-2, parse-head-enum-known-y, parse-head-same-length-5, parse-head-same-length-6, parse-head-same-length-7, parse-head-same-length-8, parse-head-returns-2, parse-head-same-length-9, parse-head-same-length-10, parse-head-same-length-11, parse-head-same-length-12, parse-head-same-length-13, parse-head-returns-3, parse-head-same-length-14, parse-head-same-length-15, parse-head-same-length-16, parse-head-same-length-17, parse-head-same-length-18, parse-head-returns-4}
+use Rattle.walker.proofs.walk.+parse_head+parse_inner+parse_item+parse_map+parse_object+parse_ref+parse_slot.Proof.Head.{parse-head-word-bytes-requires, parse-head-open-leaf-requires, parse-head-mul-n, parse-head-add-t, parse-head-add-t-2, parse-head-peek-requires, parse-head-is-tag-requires, parse-head-same-length, parse-head-same-length-2, parse-head-same-length-3, parse-head-same-length-4, parse-head-returns, parse-head-resolves-requires, parse-head-enum-known-m, parse-head-enum-known-y, parse-head-same-length-5, parse-head-same-length-6, parse-head-same-length-7, parse-head-same-length-8, parse-head-returns-2, parse-head-same-length-9, parse-head-same-length-10, parse-head-same-length-11, parse-head-same-length-12, parse-head-returns-3, parse-head-open-object-requires, parse-head-enum-known-m-2, parse-head-enum-known-words, parse-head-mul-n-2, parse-head-parse-map-requires, parse-head-enum-known-m-3, parse-head-enum-known-y-2, parse-head-same-length-13, parse-head-same-length-14, parse-head-same-length-15, parse-head-same-length-16, parse-head-returns-4, parse-head-same-length-17, parse-head-same-length-18, parse-head-same-length-19, parse-head-same-length-20, parse-head-same-length-21, parse-head-returns-5, parse-head-same-length-22, parse-head-same-length-23, parse-head-same-length-24, parse-head-same-length-25, parse-head-same-length-26, parse-head-returns-6}
 use Rattle.walker.proofs.walk.+parse_head+parse_inner+parse_item+parse_map+parse_object+parse_ref+parse_slot.Proof.Item.{parse-item-peek-requires, parse-item-is-tag-requires, parse-item-add-t, parse-item-read-requires, parse-item-returns, parse-item-word-bytes-requires, parse-item-add-start, parse-item-div-x, parse-item-place-leaf-requires, parse-item-add-t-2, parse-item-add-read, parse-item-read-requires-2, parse-item-same-length, parse-item-same-length-2, parse-item-same-length-3, parse-item-same-length-4, parse-item-returns-2, parse-item-parse-slot-requires, parse-item-item-of-requires, parse-item-same-length-5, parse-item-same-length-6, parse-item-same-length-7, parse-item-same-length-8, parse-item-same-length-9, parse-item-returns-3}
 use Rattle.walker.proofs.walk.+parse_head+parse_inner+parse_item+parse_map+parse_object+parse_ref+parse_slot.Proof.Reference.{parse-ref-returns, parse-ref-returns-2, parse-ref-byte-requires, parse-ref-mul-kind, parse-ref-element-copy-out-kind, parse-ref-cast-kind, parse-ref-add-a, parse-ref-mul-a, parse-ref-element-copy-out-a, parse-ref-cast-a, parse-ref-add-t, parse-ref-parse-object-requires, parse-ref-same-length, parse-ref-same-length-2, parse-ref-same-length-3, parse-ref-same-length-4, parse-ref-same-length-5, parse-ref-returns-3, parse-ref-begin-requires, parse-ref-enum-told, parse-ref-simple-ref-requires, parse-ref-enum-known-n, parse-ref-enum-known-held, parse-ref-hold-requires, parse-ref-enum-known-held-2, parse-ref-parse-inner-requires, parse-ref-enum-known-inner, parse-ref-enum-known-inner-2, parse-ref-hold-requires-2, parse-ref-same-length-6, parse-ref-same-length-7, parse-ref-returns-4, parse-ref-returns-5, parse-ref-same-length-8, parse-ref-returns-6, parse-ref-same-length-9, parse-ref-same-length-10, parse-ref-same-length-11, parse-ref-same-length-12, parse-ref-same-length-13, parse-ref-returns-7, parse-ref-same-length-14, parse-ref-same-length-15, parse-ref-same-length-16, parse-ref-same-length-17, parse-ref-same-length-18, parse-ref-returns-8}
 use Rattle.walker.proofs.walk.+parse_head+parse_inner+parse_item+parse_map+parse_object+parse_ref+parse_slot.Proof.Slot.{parse-slot-word-bytes-requires, parse-slot-add-start, parse-slot-div-x, parse-slot-place-weak-requires, parse-slot-add-t, parse-slot-add-t-2, parse-slot-add-t40, parse-slot-same-length, parse-slot-same-length-2, parse-slot-same-length-3, parse-slot-returns, parse-slot-add-parse-ref, parse-slot-parse-ref-requires, parse-slot-enum-known-m, parse-slot-enum-known-x, parse-slot-place-item-requires, parse-slot-same-length-4, parse-slot-same-length-5, parse-slot-same-length-6, parse-slot-same-length-7, parse-slot-same-length-8, parse-slot-returns-2, parse-slot-same-length-9, parse-slot-same-length-10, parse-slot-same-length-11, parse-slot-same-length-12, parse-slot-same-length-13, parse-slot-returns-3}
@@ -84,6 +84,12 @@ pub +parse-head+parse-inner+parse-item+parse-map+parse-object+parse-ref+parse-sl
       word-bytes-reads.Learnt,
       open-leaf-reads.Asked,
       open-leaf-reads.Learnt,
+      peek-reads.Asked,
+      peek-reads.Learnt,
+      is-tag-reads.Asked,
+      is-tag-reads.Learnt,
+      resolves-reads.Asked,
+      resolves-reads.Learnt,
       open-object-reads.Asked,
       open-object-reads.Learnt,
       parse-map-below t,
@@ -93,20 +99,18 @@ pub +parse-head+parse-inner+parse-item+parse-map+parse-object+parse-ref+parse-sl
     parse-head.Post
     (parse-head-word-bytes-requires t)
     (parse-head-open-leaf-requires t)
+    (parse-head-mul-n t)
     (parse-head-add-t t)
     (parse-head-add-t-2 t)
-    (parse-head-mul-t45 t)
+    (parse-head-peek-requires t)
+    (parse-head-is-tag-requires t)
     (parse-head-same-length t)
     (parse-head-same-length-2 t)
     (parse-head-same-length-3 t)
     (parse-head-same-length-4 t)
     (parse-head-returns t)
-    (parse-head-open-object-requires t)
+    (parse-head-resolves-requires t)
     (parse-head-enum-known-m t)
-    (parse-head-enum-known-words t)
-    (parse-head-mul-n t)
-    (parse-head-parse-map-requires t)
-    (parse-head-enum-known-m-2 t)
     (parse-head-enum-known-y t)
     (parse-head-same-length-5 t)
     (parse-head-same-length-6 t)
@@ -117,14 +121,31 @@ pub +parse-head+parse-inner+parse-item+parse-map+parse-object+parse-ref+parse-sl
     (parse-head-same-length-10 t)
     (parse-head-same-length-11 t)
     (parse-head-same-length-12 t)
-    (parse-head-same-length-13 t)
     (parse-head-returns-3 t)
+    (parse-head-open-object-requires t)
+    (parse-head-enum-known-m-2 t)
+    (parse-head-enum-known-words t)
+    (parse-head-mul-n-2 t)
+    (parse-head-parse-map-requires t)
+    (parse-head-enum-known-m-3 t)
+    (parse-head-enum-known-y-2 t)
+    (parse-head-same-length-13 t)
     (parse-head-same-length-14 t)
     (parse-head-same-length-15 t)
     (parse-head-same-length-16 t)
+    (parse-head-returns-4 t)
     (parse-head-same-length-17 t)
     (parse-head-same-length-18 t)
-    (parse-head-returns-4 t))
+    (parse-head-same-length-19 t)
+    (parse-head-same-length-20 t)
+    (parse-head-same-length-21 t)
+    (parse-head-returns-5 t)
+    (parse-head-same-length-22 t)
+    (parse-head-same-length-23 t)
+    (parse-head-same-length-24 t)
+    (parse-head-same-length-25 t)
+    (parse-head-same-length-26 t)
+    (parse-head-returns-6 t))
     (λ t. parse-inner-lts.spec (
       word-bytes-reads.Asked,
       word-bytes-reads.Learnt,
