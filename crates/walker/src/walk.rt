@@ -6,6 +6,7 @@ use leaves::leaf::leaf_at;
 use leaves::leaf::place_leaf;
 use leaves::leaf::take_leaf;
 use levels::level::Item;
+use levels::level::Level;
 use levels::level::begins_object;
 use levels::level::child_at;
 use levels::level::item_of;
@@ -208,26 +209,7 @@ pub fn parse_object(
             level = child_at(h, p, next);
             t.at = next + 1;
         } else {
-            let item = parse_item(
-                v,
-                h,
-                tr,
-                p,
-                ot,
-                st,
-                vt,
-                dt,
-                hr,
-                c,
-                u,
-                sc,
-                k,
-                t,
-                e,
-                o,
-                done,
-                size,
-            );
+            let item = parse_item(v, h, tr, p, ot, st, vt, dt, hr, c, u, sc, k, t, e, level);
             let y = item.state;
             if !item.went {
                 return Step::Refused(item.number, item.place, y);
@@ -337,7 +319,7 @@ fn parse_map(
     }
 }
 
-// An item of object o, `done` of whose `size` bytes have been read. The commonest need no call of the cycle.
+// An item of the object that is being read. The commonest need no call of the cycle.
 fn parse_item(
     v: &[u16],
     h: &[u16; 512],
@@ -354,22 +336,22 @@ fn parse_item(
     k: u64,
     s: State,
     d: usize,
-    o: usize,
-    done: u64,
-    size: u64,
+    level: Level,
 ) -> Item
     requires { ⌜ Ready (input (now v) (now p) k (now tr)) (now h) (mem s (lent (now ot) (now st) (now vt) (now dt) (now hr) (now c) (now u))) (now sc) ⌝ }
-    requires { ⌜ (d ≤ 64) × (done < 2 ^ 60) × (o < s .objects) × (0 < s .slots) ⌝ }
-    ensures { λ r. ⌜ seenItem r (lent (now (ot .exit)) (now (st .exit)) (now (vt .exit)) (now (dt .exit)) (now (hr .exit)) (now (c .exit)) (now (u .exit))) ≡ itemIn (input (now (v .entry)) (now (p .entry)) k (now (tr .entry))) (refAt (input (now (v .entry)) (now (p .entry)) k (now (tr .entry))) (64 - d)) o size done (mem s (lent (now (ot .entry)) (now (st .entry)) (now (vt .entry)) (now (dt .entry)) (now (hr .entry)) (now (c .entry)) (now (u .entry)))) ⌝ }
+    requires { ⌜ (d ≤ 64) × (level .done < 2 ^ 60) × (level .object < s .objects) × (0 < s .slots) ⌝ }
+    ensures { λ r. ⌜ seenItem r (lent (now (ot .exit)) (now (st .exit)) (now (vt .exit)) (now (dt .exit)) (now (hr .exit)) (now (c .exit)) (now (u .exit))) ≡ itemIn (input (now (v .entry)) (now (p .entry)) k (now (tr .entry))) (refAt (input (now (v .entry)) (now (p .entry)) k (now (tr .entry))) (64 - d)) (level .object) (level .size) (level .done) (mem s (lent (now (ot .entry)) (now (st .entry)) (now (vt .entry)) (now (dt .entry)) (now (hr .entry)) (now (c .entry)) (now (u .entry)))) ⌝ }
     ensures index { λ r. ⌜ OutIndex (length (now (p .entry))) (seenItem r (lent (now (ot .exit)) (now (st .exit)) (now (vt .exit)) (now (dt .exit)) (now (hr .exit)) (now (c .exit)) (now (u .exit)))) (now (sc .exit)) ⌝ }
 {
     let at = s.at;
     let mut t = s;
     if is_tag(v, K_DEFERRED, peek(p, at)) {
         t.at = at + 1;
-        return read(size, t);
+        return read(level.size, t);
     }
     let word = word_bytes(v);
+    let o = level.object;
+    let done = level.done;
     let b = s.objects;
     let i = s.slots;
     let n = s.addresses;

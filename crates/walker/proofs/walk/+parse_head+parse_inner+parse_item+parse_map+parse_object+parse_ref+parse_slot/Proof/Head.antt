@@ -27,7 +27,7 @@ use Rattle.objects.proofs.pending.resolves.Reads as resolves-reads
 use Rattle.sheet.proofs.tests.is_tag.Reads as is-tag-reads
 use Rattle.stream.proofs.bytes.peek.Reads as peek-reads
 
--- src/walk.rt:269:9
+-- src/walk.rt:251:9
 pub parse-head-word-bytes-requires : (t : ℕ) → parse-head-lts.Need-word-bytes-requires (
   word-bytes-reads.Asked,
   word-bytes-reads.Learnt,
@@ -46,7 +46,7 @@ pub parse-head-word-bytes-requires : (t : ℕ) → parse-head-lts.Need-word-byte
 ) (parse-head-at t) parse-head.Post
 parse-head-word-bytes-requires t c κs = tt
 
--- src/walk.rt:270:9
+-- src/walk.rt:252:9
 pub parse-head-open-leaf-requires : (t : ℕ) → parse-head-lts.Need-open-leaf-requires (
   word-bytes-reads.Asked,
   word-bytes-reads.Learnt,
@@ -65,7 +65,7 @@ pub parse-head-open-leaf-requires : (t : ℕ) → parse-head-lts.Need-open-leaf-
 ) (parse-head-at t) parse-head.Post
 parse-head-open-leaf-requires t c κs = let g = c .before .before .before .before .before .before .before .before .before .before .before .before .before .before .before .before .pre .1 in ((g .0 .proper .sheet-usable, g .1 .1, omega (arith, g .0 .sound .objects-fit, c .before .before .before .before .before .before .before .before .before .before .before .before .before .before .before .before .good .1 .1 .1 .1 .0 .0), leaf-asks (g .0) _ (c .before .before .before .before .before .before .before .word-bytes .ensures .0) .1), g .0 .index .linked)
 
--- src/walk.rt:273:17
+-- src/walk.rt:255:17
 pub parse-head-mul-n : (t : ℕ) → parse-head-lts.Need-mul-n (
   word-bytes-reads.Asked,
   word-bytes-reads.Learnt,
@@ -84,7 +84,7 @@ pub parse-head-mul-n : (t : ℕ) → parse-head-lts.Need-mul-n (
 ) (parse-head-at t) parse-head.Post
 parse-head-mul-n t c = let b = bytes-small _ (c .before .before .before .before .before .before .before .before .before .before .before .before .before .before .before .before .before .before .before .before .before .before .before .before .before .before .before .before .before .pre .1 .0 .proper .sheet-usable) (c .before .before .before .before .before .before .before .before .before .before .before .before .before .before .before .before .before .before .before .before .word-bytes .ensures .0) (c .before .before .before .before .before .before .before .before .before .before .before .before .open-leaf .ensures .1 (c .before .if1 .taken) .1 .small) in omega (arith, b)
 
--- src/walk.rt:277:21
+-- src/walk.rt:259:21
 pub parse-head-add-t : (t : ℕ) → parse-head-lts.Need-add-t (
   word-bytes-reads.Asked,
   word-bytes-reads.Learnt,
@@ -103,7 +103,7 @@ pub parse-head-add-t : (t : ℕ) → parse-head-lts.Need-add-t (
 ) (parse-head-at t) parse-head.Post
 parse-head-add-t t c = omega (arith, c .before .before .before .before .before .before .before .before .before .before .before .before .before .before .before .before .before .before .before .before .before .before .before .before .before .before .before .before .before .pre .1 .0 .sound .objects-fit, c .before .before .before .before .before .before .before .before .before .before .before .before .before .before .before .before .before .before .before .before .before .before .before .before .before .before .before .before .before .good .1 .1 .1 .1 .0 .0)
 
--- src/walk.rt:278:19
+-- src/walk.rt:260:19
 pub parse-head-add-t-2 : (t : ℕ) → parse-head-lts.Need-add-t-2 (
   word-bytes-reads.Asked,
   word-bytes-reads.Learnt,
@@ -122,7 +122,7 @@ pub parse-head-add-t-2 : (t : ℕ) → parse-head-lts.Need-add-t-2 (
 ) (parse-head-at t) parse-head.Post
 parse-head-add-t-2 t c = omega (arith, c .before .before .before .before .before .before .before .before .before .before .before .before .before .before .before .before .before .before .before .before .before .before .before .before .before .before .before .before .before .before .pre .1 .0 .sound .slots-fit, c .before .before .before .before .before .before .before .before .before .before .before .before .before .before .before .before .before .before .before .before .before .before .before .before .before .before .before .before .before .before .good .1 .1 .1 .1 .1 .0 .0)
 
--- src/walk.rt:281:54
+-- src/walk.rt:263:54
 pub parse-head-peek-requires : (t : ℕ) → parse-head-lts.Need-peek-requires (
   word-bytes-reads.Asked,
   word-bytes-reads.Learnt,
@@ -141,7 +141,7 @@ pub parse-head-peek-requires : (t : ℕ) → parse-head-lts.Need-peek-requires (
 ) (parse-head-at t) parse-head.Post
 parse-head-peek-requires t c κs = tt
 
--- src/walk.rt:281:13
+-- src/walk.rt:263:13
 pub parse-head-is-tag-requires : (t : ℕ) → parse-head-lts.Need-is-tag-requires (
   word-bytes-reads.Asked,
   word-bytes-reads.Learnt,
@@ -160,7 +160,7 @@ pub parse-head-is-tag-requires : (t : ℕ) → parse-head-lts.Need-is-tag-requir
 ) (parse-head-at t) parse-head.Post
 parse-head-is-tag-requires t c κs = tt
 
--- src/walk.rt:282:13
+-- src/walk.rt:264:13
 pub parse-head-same-length : (t : ℕ) → parse-head-lts.Need-same-length (
   word-bytes-reads.Asked,
   word-bytes-reads.Learnt,
@@ -179,7 +179,7 @@ pub parse-head-same-length : (t : ℕ) → parse-head-lts.Need-same-length (
 ) (parse-head-at t) parse-head.Post
 parse-head-same-length t c = c .before .before .before .before .before .before .before .before .before .before .before .before .before .before .before .before .open-leaf .kept .1 .1 .1 .1 .0
 
--- src/walk.rt:282:13
+-- src/walk.rt:264:13
 pub parse-head-same-length-2 : (t : ℕ) → parse-head-lts.Need-same-length-2 (
   word-bytes-reads.Asked,
   word-bytes-reads.Learnt,
@@ -198,7 +198,7 @@ pub parse-head-same-length-2 : (t : ℕ) → parse-head-lts.Need-same-length-2 (
 ) (parse-head-at t) parse-head.Post
 parse-head-same-length-2 t c = c .before .before .before .before .before .before .before .before .before .before .before .before .before .before .before .before .open-leaf .kept .1 .1 .1 .1 .1 .0
 
--- src/walk.rt:282:13
+-- src/walk.rt:264:13
 pub parse-head-same-length-3 : (t : ℕ) → parse-head-lts.Need-same-length-3 (
   word-bytes-reads.Asked,
   word-bytes-reads.Learnt,
@@ -217,7 +217,7 @@ pub parse-head-same-length-3 : (t : ℕ) → parse-head-lts.Need-same-length-3 (
 ) (parse-head-at t) parse-head.Post
 parse-head-same-length-3 t c = c .before .before .before .before .before .before .before .before .before .before .before .before .before .before .before .before .open-leaf .kept .1 .1 .1 .1 .1 .1 .0
 
--- src/walk.rt:282:13
+-- src/walk.rt:264:13
 pub parse-head-same-length-4 : (t : ℕ) → parse-head-lts.Need-same-length-4 (
   word-bytes-reads.Asked,
   word-bytes-reads.Learnt,
@@ -236,7 +236,7 @@ pub parse-head-same-length-4 : (t : ℕ) → parse-head-lts.Need-same-length-4 (
 ) (parse-head-at t) parse-head.Post
 parse-head-same-length-4 t c = c .before .before .before .before .before .before .before .before .before .before .before .before .before .before .before .before .open-leaf .kept .1 .1 .1 .1 .1 .1 .1 .1 .1 .1 .0
 
--- src/walk.rt:282:13
+-- src/walk.rt:264:13
 pub parse-head-returns : (t : ℕ) → parse-head-lts.Need-returns (
   word-bytes-reads.Asked,
   word-bytes-reads.Learnt,
@@ -255,7 +255,7 @@ pub parse-head-returns : (t : ℕ) → parse-head-lts.Need-returns (
 ) (parse-head-at t) parse-head.Post
 parse-head-returns t c = let a = c .before .before .before .before .before .before .before .before .before .before .before .before .before .before .before .before .before .before .before .before .before .before .before .before .before .before .before .before .before .before .before .before .before .args in let g = c .before .before .before .before .before .before .before .before .before .before .before .before .before .before .before .before .before .before .before .before .before .before .before .before .before .before .before .before .before .before .before .before .before .pre .1 in let z = c .before .before .before .before .before .before .before .before .before .before .before .before .before .before .before .before .open-leaf .ensures .1 (c .before .before .before .before .before .if1 .taken) in (leaf-headed (a .v .now) (a .p .now) (a .k) (a .tr .now) (a .h .now) (a .sc .now) (a .s) (lent (a .ot .now) (a .st .now) (a .vt .now) (a .dt .now) (a .hr .now) (a .c .now) (a .u .now)) (g .0) (a .d) (z .0) (c .before .before .before .before .before .before .before .before .before .before .before .before .before .before .before .before .open-leaf .result) (c .before .before .before .before .before .if1 .taken) (z .1) (a .a) (a .at) _ _ _ _ _ _ (z .2) (z .3) (c .before .before .before .before .before .before .before .before .before .before .before .before .before .before .before .before .before .before .before .before .before .before .before .before .word-bytes .ensures .0) refl (resolve-not (a .v .now) (a .p .now) _ (c .before .before .peek .ensures) (c .before .is-tag .ensures) (not-true _ (c .if2 .taken))), (opened-index (a .v .now) (a .p .now) (a .k) (a .tr .now) (a .h .now) (a .sc .now) (a .s) (lent (a .ot .now) (a .st .now) (a .vt .now) (a .dt .now) (a .hr .now) (a .c .now) (a .u .now)) (g .0) (a .d) (z .0) (c .before .before .before .before .before .before .before .before .before .before .before .before .before .before .before .before .open-leaf .result) (c .before .before .before .before .before .if1 .taken) (z .1) (a .a) (a .at) _ _ _ _ _ _ (z .2) (z .3), bytes-small _ (g .0 .proper .sheet-usable) (c .before .before .before .before .before .before .before .before .before .before .before .before .before .before .before .before .before .before .before .before .before .before .before .before .word-bytes .ensures .0) (z .1 .small)))
 
--- src/walk.rt:284:22
+-- src/walk.rt:266:22
 pub parse-head-resolves-requires : (t : ℕ) → parse-head-lts.Need-resolves-requires (
   word-bytes-reads.Asked,
   word-bytes-reads.Learnt,
@@ -274,7 +274,7 @@ pub parse-head-resolves-requires : (t : ℕ) → parse-head-lts.Need-resolves-re
 ) (parse-head-at t) parse-head.Post
 parse-head-resolves-requires t c κs = let a = c .before .before .before .before .before .before .before .before .before .before .before .before .before .before .before .before .before .before .before .before .before .before .before .before .before .before .before .before .before .before .before .before .before .before .before .args in let g = c .before .before .before .before .before .before .before .before .before .before .before .before .before .before .before .before .before .before .before .before .before .before .before .before .before .before .before .before .before .before .before .before .before .before .before .pre .1 in let z = c .before .before .before .before .before .before .before .before .before .before .before .before .before .before .before .before .before .before .open-leaf .ensures .1 (c .before .before .before .before .before .before .before .if1 .taken) in resolves-asks (leaf-ready (a .v .now) (a .p .now) (a .k) (a .tr .now) (a .h .now) (a .sc .now) (a .s) (lent (a .ot .now) (a .st .now) (a .vt .now) (a .dt .now) (a .hr .now) (a .c .now) (a .u .now)) (g .0) (a .d) (z .0) (c .before .before .before .before .before .before .before .before .before .before .before .before .before .before .before .before .before .before .open-leaf .result) (c .before .before .before .before .before .before .before .if1 .taken) (z .1) (a .a) (a .at) _ _ _ _ _ _ (z .2) (z .3) (g .1 .1))
 
--- src/walk.rt:285:27
+-- src/walk.rt:267:27
 pub parse-head-enum-known-m : (t : ℕ) → parse-head-lts.Need-enum-known-m (
   word-bytes-reads.Asked,
   word-bytes-reads.Learnt,
@@ -293,7 +293,7 @@ pub parse-head-enum-known-m : (t : ℕ) → parse-head-lts.Need-enum-known-m (
 ) (parse-head-at t) parse-head.Post
 parse-head-enum-known-m t c = search needs
 
--- src/walk.rt:286:22
+-- src/walk.rt:268:22
 pub parse-head-enum-known-y : (t : ℕ) → parse-head-lts.Need-enum-known-y (
   word-bytes-reads.Asked,
   word-bytes-reads.Learnt,
@@ -312,7 +312,7 @@ pub parse-head-enum-known-y : (t : ℕ) → parse-head-lts.Need-enum-known-y (
 ) (parse-head-at t) parse-head.Post
 parse-head-enum-known-y t c = search needs
 
--- src/walk.rt:284:9
+-- src/walk.rt:266:9
 pub parse-head-same-length-5 : (t : ℕ) → parse-head-lts.Need-same-length-5 (
   word-bytes-reads.Asked,
   word-bytes-reads.Learnt,
@@ -331,7 +331,7 @@ pub parse-head-same-length-5 : (t : ℕ) → parse-head-lts.Need-same-length-5 (
 ) (parse-head-at t) parse-head.Post
 parse-head-same-length-5 t c = c .before .before .before .before .before .before .before .before .before .before .before .before .before .before .before .before .before .before .before .before .before .before .before .before .open-leaf .kept .1 .1 .1 .1 .0
 
--- src/walk.rt:284:9
+-- src/walk.rt:266:9
 pub parse-head-same-length-6 : (t : ℕ) → parse-head-lts.Need-same-length-6 (
   word-bytes-reads.Asked,
   word-bytes-reads.Learnt,
@@ -350,7 +350,7 @@ pub parse-head-same-length-6 : (t : ℕ) → parse-head-lts.Need-same-length-6 (
 ) (parse-head-at t) parse-head.Post
 parse-head-same-length-6 t c = c .before .before .before .before .before .resolves .kept .1 .1 .0 ∙ c .before .before .before .before .before .before .before .before .before .before .before .before .before .before .before .before .before .before .before .before .before .before .before .before .open-leaf .kept .1 .1 .1 .1 .1 .0
 
--- src/walk.rt:284:9
+-- src/walk.rt:266:9
 pub parse-head-same-length-7 : (t : ℕ) → parse-head-lts.Need-same-length-7 (
   word-bytes-reads.Asked,
   word-bytes-reads.Learnt,
@@ -369,7 +369,7 @@ pub parse-head-same-length-7 : (t : ℕ) → parse-head-lts.Need-same-length-7 (
 ) (parse-head-at t) parse-head.Post
 parse-head-same-length-7 t c = c .before .before .before .before .before .before .before .before .before .before .before .before .before .before .before .before .before .before .before .before .before .before .before .before .open-leaf .kept .1 .1 .1 .1 .1 .1 .0
 
--- src/walk.rt:284:9
+-- src/walk.rt:266:9
 pub parse-head-same-length-8 : (t : ℕ) → parse-head-lts.Need-same-length-8 (
   word-bytes-reads.Asked,
   word-bytes-reads.Learnt,
@@ -388,7 +388,7 @@ pub parse-head-same-length-8 : (t : ℕ) → parse-head-lts.Need-same-length-8 (
 ) (parse-head-at t) parse-head.Post
 parse-head-same-length-8 t c = c .before .before .before .before .before .before .before .before .before .before .before .before .before .before .before .before .before .before .before .before .before .before .before .before .open-leaf .kept .1 .1 .1 .1 .1 .1 .1 .1 .1 .1 .0
 
--- src/walk.rt:284:9
+-- src/walk.rt:266:9
 pub parse-head-returns-2 : (t : ℕ) → parse-head-lts.Need-returns-2 (
   word-bytes-reads.Asked,
   word-bytes-reads.Learnt,
@@ -407,7 +407,7 @@ pub parse-head-returns-2 : (t : ℕ) → parse-head-lts.Need-returns-2 (
 ) (parse-head-at t) parse-head.Post
 parse-head-returns-2 t c = let a = c .before .before .before .before .before .before .before .before .before .before .before .before .before .before .before .before .before .before .before .before .before .before .before .before .before .before .before .before .before .before .before .before .before .before .before .before .before .before .before .before .before .args in let g = c .before .before .before .before .before .before .before .before .before .before .before .before .before .before .before .before .before .before .before .before .before .before .before .before .before .before .before .before .before .before .before .before .before .before .before .before .before .before .before .before .before .pre .1 in let z = c .before .before .before .before .before .before .before .before .before .before .before .before .before .before .before .before .before .before .before .before .before .before .before .before .open-leaf .ensures .1 (c .before .before .before .before .before .before .before .before .before .before .before .before .before .if1 .taken) in (unresolved-headed (a .v .now) (a .p .now) (a .k) (a .tr .now) (a .h .now) (a .sc .now) (a .s) (lent (a .ot .now) (a .st .now) (a .vt .now) (a .dt .now) (a .hr .now) (a .c .now) (a .u .now)) (g .0) (a .d) (z .0) (c .before .before .before .before .before .before .before .before .before .before .before .before .before .before .before .before .before .before .before .before .before .before .before .before .open-leaf .result) (c .before .before .before .before .before .before .before .before .before .before .before .before .before .if1 .taken) (z .1) (a .a) (a .at) _ _ _ _ _ _ (z .2) (z .3) (c .before .before .before .before .before .before .before .before .before .before .before .before .before .before .before .before .before .before .before .before .before .before .before .before .before .before .before .before .before .before .before .before .word-bytes .ensures .0) refl (went-no (lent _ _ _ _ _ _ _) (c .before .m .given .1) (c .before .before .before .before .before .resolves .ensures .0 (a .tr .now) (a .k) (lent _ [] _ _ _ _ _))), (tt, tt))
 
--- src/walk.rt:284:9
+-- src/walk.rt:266:9
 pub parse-head-same-length-9 : (t : ℕ) → parse-head-lts.Need-same-length-9 (
   word-bytes-reads.Asked,
   word-bytes-reads.Learnt,
@@ -426,7 +426,7 @@ pub parse-head-same-length-9 : (t : ℕ) → parse-head-lts.Need-same-length-9 (
 ) (parse-head-at t) parse-head.Post
 parse-head-same-length-9 t c = c .before .before .before .before .before .before .before .before .before .before .before .before .before .before .before .before .before .before .before .before .before .before .before .before .open-leaf .kept .1 .1 .1 .1 .0
 
--- src/walk.rt:284:9
+-- src/walk.rt:266:9
 pub parse-head-same-length-10 : (t : ℕ) → parse-head-lts.Need-same-length-10 (
   word-bytes-reads.Asked,
   word-bytes-reads.Learnt,
@@ -445,7 +445,7 @@ pub parse-head-same-length-10 : (t : ℕ) → parse-head-lts.Need-same-length-10
 ) (parse-head-at t) parse-head.Post
 parse-head-same-length-10 t c = c .before .before .before .before .before .resolves .kept .1 .1 .0 ∙ c .before .before .before .before .before .before .before .before .before .before .before .before .before .before .before .before .before .before .before .before .before .before .before .before .open-leaf .kept .1 .1 .1 .1 .1 .0
 
--- src/walk.rt:284:9
+-- src/walk.rt:266:9
 pub parse-head-same-length-11 : (t : ℕ) → parse-head-lts.Need-same-length-11 (
   word-bytes-reads.Asked,
   word-bytes-reads.Learnt,
@@ -464,7 +464,7 @@ pub parse-head-same-length-11 : (t : ℕ) → parse-head-lts.Need-same-length-11
 ) (parse-head-at t) parse-head.Post
 parse-head-same-length-11 t c = c .before .before .before .before .before .before .before .before .before .before .before .before .before .before .before .before .before .before .before .before .before .before .before .before .open-leaf .kept .1 .1 .1 .1 .1 .1 .0
 
--- src/walk.rt:284:9
+-- src/walk.rt:266:9
 pub parse-head-same-length-12 : (t : ℕ) → parse-head-lts.Need-same-length-12 (
   word-bytes-reads.Asked,
   word-bytes-reads.Learnt,
@@ -483,7 +483,7 @@ pub parse-head-same-length-12 : (t : ℕ) → parse-head-lts.Need-same-length-12
 ) (parse-head-at t) parse-head.Post
 parse-head-same-length-12 t c = c .before .before .before .before .before .before .before .before .before .before .before .before .before .before .before .before .before .before .before .before .before .before .before .before .open-leaf .kept .1 .1 .1 .1 .1 .1 .1 .1 .1 .1 .0
 
--- src/walk.rt:284:9
+-- src/walk.rt:266:9
 pub parse-head-returns-3 : (t : ℕ) → parse-head-lts.Need-returns-3 (
   word-bytes-reads.Asked,
   word-bytes-reads.Learnt,
@@ -502,7 +502,7 @@ pub parse-head-returns-3 : (t : ℕ) → parse-head-lts.Need-returns-3 (
 ) (parse-head-at t) parse-head.Post
 parse-head-returns-3 t c = let a = c .before .before .before .before .before .before .before .before .before .before .before .before .before .before .before .before .before .before .before .before .before .before .before .before .before .before .before .before .before .before .before .before .before .before .before .before .before .before .before .before .before .args in let g = c .before .before .before .before .before .before .before .before .before .before .before .before .before .before .before .before .before .before .before .before .before .before .before .before .before .before .before .before .before .before .before .before .before .before .before .before .before .before .before .before .before .pre .1 in let z = c .before .before .before .before .before .before .before .before .before .before .before .before .before .before .before .before .before .before .before .before .before .before .before .before .open-leaf .ensures .1 (c .before .before .before .before .before .before .before .before .before .before .before .before .before .if1 .taken) in (resolved-headed (a .v .now) (a .p .now) (a .k) (a .tr .now) (a .h .now) (a .sc .now) (a .s) (lent (a .ot .now) (a .st .now) (a .vt .now) (a .dt .now) (a .hr .now) (a .c .now) (a .u .now)) (g .0) (a .d) (z .0) (c .before .before .before .before .before .before .before .before .before .before .before .before .before .before .before .before .before .before .before .before .before .before .before .before .open-leaf .result) (c .before .before .before .before .before .before .before .before .before .before .before .before .before .if1 .taken) (z .1) (a .a) (a .at) _ _ _ _ _ _ (z .2) (z .3) (c .before .before .before .before .before .before .before .before .before .before .before .before .before .before .before .before .before .before .before .before .before .before .before .before .before .before .before .before .before .before .before .before .word-bytes .ensures .0) refl (went-on (lent _ _ _ _ _ _ _) (c .before .y .given .1) (c .before .before .before .before .before .resolves .ensures .0 (a .tr .now) (a .k) (lent _ [] _ _ _ _ _))), (out-index _ (went-on (lent [] (c .before .before .before .before .before .resolves .last .1 .1 .0) [] (c .before .before .before .before .before .before .before .before .before .before .before .before .before .before .before .before .before .before .before .before .before .before .before .before .open-leaf .last .1 .1 .1 .1 .1 .1 .0) [] [] []) (c .before .y .given .1) refl) (went-index _ _ _ _ refl (leaf-ready (a .v .now) (a .p .now) (a .k) (a .tr .now) (a .h .now) (a .sc .now) (a .s) (lent (a .ot .now) (a .st .now) (a .vt .now) (a .dt .now) (a .hr .now) (a .c .now) (a .u .now)) (g .0) (a .d) (z .0) (c .before .before .before .before .before .before .before .before .before .before .before .before .before .before .before .before .before .before .before .before .before .before .before .before .open-leaf .result) (c .before .before .before .before .before .before .before .before .before .before .before .before .before .if1 .taken) (z .1) (a .a) (a .at) _ _ _ _ _ _ (z .2) (z .3) (g .1 .1) .index .linked) (c .before .before .before .before .before .resolves .result) (lent [] (c .before .before .before .before .before .resolves .last .1 .1 .0) [] (c .before .before .before .before .before .before .before .before .before .before .before .before .before .before .before .before .before .before .before .before .before .before .before .before .open-leaf .last .1 .1 .1 .1 .1 .1 .0) [] [] []) (c .before .before .before .before .before .resolves .ensures .0 (a .tr .now) (a .k) (lent [] [] [] (c .before .before .before .before .before .before .before .before .before .before .before .before .before .before .before .before .before .before .before .before .before .before .before .before .open-leaf .last .1 .1 .1 .1 .1 .1 .0) [] [] [])) (resolves-ground _ _ _ _) (c .before .before .before .before .before .resolves .ensures .1)), bytes-small _ (g .0 .proper .sheet-usable) (c .before .before .before .before .before .before .before .before .before .before .before .before .before .before .before .before .before .before .before .before .before .before .before .before .before .before .before .before .before .before .before .before .word-bytes .ensures .0) (z .1 .small)))
 
--- src/walk.rt:289:11
+-- src/walk.rt:271:11
 pub parse-head-open-object-requires : (t : ℕ) → parse-head-lts.Need-open-object-requires (
   word-bytes-reads.Asked,
   word-bytes-reads.Learnt,
@@ -521,7 +521,7 @@ pub parse-head-open-object-requires : (t : ℕ) → parse-head-lts.Need-open-obj
 ) (parse-head-at t) parse-head.Post
 parse-head-open-object-requires t c κs = c .before .before .before .before .before .before .before .before .before .before .before .before .before .before .before .before .before .before .before .before .before .before .before .before .before .before .before .before .before .pre .1 .0 .proper .sheet-usable
 
--- src/walk.rt:290:24
+-- src/walk.rt:272:24
 pub parse-head-enum-known-m-2 : (t : ℕ) → parse-head-lts.Need-enum-known-m-2 (
   word-bytes-reads.Asked,
   word-bytes-reads.Learnt,
@@ -540,7 +540,7 @@ pub parse-head-enum-known-m-2 : (t : ℕ) → parse-head-lts.Need-enum-known-m-2
 ) (parse-head-at t) parse-head.Post
 parse-head-enum-known-m-2 t c = search needs
 
--- src/walk.rt:291:19
+-- src/walk.rt:273:19
 pub parse-head-enum-known-words : (t : ℕ) → parse-head-lts.Need-enum-known-words (
   word-bytes-reads.Asked,
   word-bytes-reads.Learnt,
@@ -559,7 +559,7 @@ pub parse-head-enum-known-words : (t : ℕ) → parse-head-lts.Need-enum-known-w
 ) (parse-head-at t) parse-head.Post
 parse-head-enum-known-words t c = search needs
 
--- src/walk.rt:292:21
+-- src/walk.rt:274:21
 pub parse-head-mul-n-2 : (t : ℕ) → parse-head-lts.Need-mul-n-2 (
   word-bytes-reads.Asked,
   word-bytes-reads.Learnt,
@@ -578,7 +578,7 @@ pub parse-head-mul-n-2 : (t : ℕ) → parse-head-lts.Need-mul-n-2 (
 ) (parse-head-at t) parse-head.Post
 parse-head-mul-n-2 t c = let b = bytes-small _ (c .before .before .before .before .before .before .before .before .before .before .before .before .before .before .before .before .before .before .before .before .before .before .before .before .before .before .before .before .before .before .before .before .before .before .before .pre .1 .0 .proper .sheet-usable) (c .before .before .before .before .before .before .before .before .before .before .before .before .before .before .before .before .before .before .before .before .before .before .before .before .before .before .word-bytes .ensures .0) (count-below (2 ^ 30) (c .before .words .given .1) (c .before .before .before .before .before .open-object .ensures .1)) in omega (arith, b)
 
--- src/walk.rt:293:19
+-- src/walk.rt:275:19
 pub parse-head-parse-map-requires : (t : ℕ) → parse-head-lts.Need-parse-map-requires (
   word-bytes-reads.Asked,
   word-bytes-reads.Learnt,
@@ -597,7 +597,7 @@ pub parse-head-parse-map-requires : (t : ℕ) → parse-head-lts.Need-parse-map-
 ) (parse-head-at t) parse-head.Post
 parse-head-parse-map-requires t c κs = let a = c .before .before .before .before .before .before .before .before .before .before .before .before .before .before .before .before .before .before .before .before .before .before .before .before .before .before .before .before .before .before .before .before .before .before .before .before .before .before .before .before .before .before .before .args in let g = c .before .before .before .before .before .before .before .before .before .before .before .before .before .before .before .before .before .before .before .before .before .before .before .before .before .before .before .before .before .before .before .before .before .before .before .before .before .before .before .before .before .before .before .pre .1 in let e = count-is (lent _ _ _ _ _ _ _) (c .before .before .before .before .before .before .before .before .before .words .given .1) (c .before .before .before .before .before .before .before .before .before .before .before .before .before .open-object .ensures .0 _ _ (lent [] _ _ _ _ _ _)) in let b = bytes-small _ (g .0 .proper .sheet-usable) (c .before .before .before .before .before .before .before .before .before .before .before .before .before .before .before .before .before .before .before .before .before .before .before .before .before .before .before .before .before .before .before .before .before .before .word-bytes .ensures .0) (count-below (2 ^ 30) (c .before .before .before .before .before .before .before .before .before .words .given .1) (c .before .before .before .before .before .before .before .before .before .before .before .before .before .open-object .ensures .1)) in let q = opened-ready (unopened-ready (a .s) (lent (a .ot .now) (a .st .now) (a .vt .now) (a .dt .now) (a .hr .now) (a .c .now) (a .u .now)) (c .before .before .before .before .before .before .before .before .before .before .before .before .before .before .before .before .before .before .before .before .before .before .before .before .before .before .open-leaf .ensures .0 (c .before .before .before .before .before .before .before .before .before .before .before .before .before .before .before .if1 .left)) (g .0)) (a .a) (a .at) e in (omega (arith, c .before .before .before .before .before .before .before .before .before .before .before .before .before .before .before .before .before .before .before .before .before .before .before .before .before .before .before .before .before .before .before .before .before .before .before .before .before .before .before .before .before .before .before .pre .0), (q .0, (g .1 .0, g .1 .1, b, q .1, bytes-whole _ (c .before .before .before .before .before .before .before .before .before .before .before .before .before .before .before .before .before .before .before .before .before .before .before .before .before .before .before .before .before .before .before .before .before .before .word-bytes .ensures .0))))
 
--- src/walk.rt:294:31
+-- src/walk.rt:276:31
 pub parse-head-enum-known-m-3 : (t : ℕ) → parse-head-lts.Need-enum-known-m-3 (
   word-bytes-reads.Asked,
   word-bytes-reads.Learnt,
@@ -616,7 +616,7 @@ pub parse-head-enum-known-m-3 : (t : ℕ) → parse-head-lts.Need-enum-known-m-3
 ) (parse-head-at t) parse-head.Post
 parse-head-enum-known-m-3 t c = search needs
 
--- src/walk.rt:295:26
+-- src/walk.rt:277:26
 pub parse-head-enum-known-y-2 : (t : ℕ) → parse-head-lts.Need-enum-known-y-2 (
   word-bytes-reads.Asked,
   word-bytes-reads.Learnt,
@@ -635,7 +635,7 @@ pub parse-head-enum-known-y-2 : (t : ℕ) → parse-head-lts.Need-enum-known-y-2
 ) (parse-head-at t) parse-head.Post
 parse-head-enum-known-y-2 t c = search needs
 
--- src/walk.rt:243:1
+-- src/walk.rt:225:1
 pub parse-head-same-length-13 : (t : ℕ) → parse-head-lts.Need-same-length-13 (
   word-bytes-reads.Asked,
   word-bytes-reads.Learnt,
@@ -654,7 +654,7 @@ pub parse-head-same-length-13 : (t : ℕ) → parse-head-lts.Need-same-length-13
 ) (parse-head-at t) parse-head.Post
 parse-head-same-length-13 t c = c .before .before .before .before .before .open-object .kept .1 .1 .0 ∙ c .before .before .before .before .before .before .before .before .before .before .before .before .before .before .before .before .before .before .open-leaf .kept .1 .1 .1 .1 .0
 
--- src/walk.rt:243:1
+-- src/walk.rt:225:1
 pub parse-head-same-length-14 : (t : ℕ) → parse-head-lts.Need-same-length-14 (
   word-bytes-reads.Asked,
   word-bytes-reads.Learnt,
@@ -673,7 +673,7 @@ pub parse-head-same-length-14 : (t : ℕ) → parse-head-lts.Need-same-length-14
 ) (parse-head-at t) parse-head.Post
 parse-head-same-length-14 t c = c .before .before .before .before .before .before .before .before .before .before .before .before .before .before .before .before .before .before .open-leaf .kept .1 .1 .1 .1 .1 .0
 
--- src/walk.rt:243:1
+-- src/walk.rt:225:1
 pub parse-head-same-length-15 : (t : ℕ) → parse-head-lts.Need-same-length-15 (
   word-bytes-reads.Asked,
   word-bytes-reads.Learnt,
@@ -692,7 +692,7 @@ pub parse-head-same-length-15 : (t : ℕ) → parse-head-lts.Need-same-length-15
 ) (parse-head-at t) parse-head.Post
 parse-head-same-length-15 t c = c .before .before .before .before .before .before .before .before .before .before .before .before .before .before .before .before .before .before .open-leaf .kept .1 .1 .1 .1 .1 .1 .0
 
--- src/walk.rt:243:1
+-- src/walk.rt:225:1
 pub parse-head-same-length-16 : (t : ℕ) → parse-head-lts.Need-same-length-16 (
   word-bytes-reads.Asked,
   word-bytes-reads.Learnt,
@@ -711,7 +711,7 @@ pub parse-head-same-length-16 : (t : ℕ) → parse-head-lts.Need-same-length-16
 ) (parse-head-at t) parse-head.Post
 parse-head-same-length-16 t c = c .before .before .before .before .before .before .before .before .before .before .before .before .before .before .before .before .before .before .open-leaf .kept .1 .1 .1 .1 .1 .1 .1 .1 .1 .1 .0
 
--- src/walk.rt:243:1
+-- src/walk.rt:225:1
 pub parse-head-returns-4 : (t : ℕ) → parse-head-lts.Need-returns-4 (
   word-bytes-reads.Asked,
   word-bytes-reads.Learnt,
@@ -730,7 +730,7 @@ pub parse-head-returns-4 : (t : ℕ) → parse-head-lts.Need-returns-4 (
 ) (parse-head-at t) parse-head.Post
 parse-head-returns-4 t c = let a = c .before .before .before .before .before .before .before .before .before .before .before .before .before .before .before .before .before .before .before .before .before .before .before .before .before .before .before .before .before .before .before .before .before .before .before .args in (unopened-headed (a .s) (lent (a .ot .now) (a .st .now) (a .vt .now) (a .dt .now) (a .hr .now) (a .c .now) (a .u .now)) (c .before .before .before .before .before .before .before .before .before .before .before .before .before .before .before .before .before .before .open-leaf .ensures .0 (c .before .before .before .before .before .before .before .if1 .left)) (input (a .v .now) (a .p .now) (a .k) (a .tr .now)) (refAt (input (a .v .now) (a .p .now) (a .k) (a .tr .now)) (64 - a .d)) (a .a) (a .at) (headed-cut _ _ (a .a) (a .at) _ (count-no (lent _ _ _ _ _ _ _) (c .before .m2 .given .1) (c .before .before .before .before .before .open-object .ensures .0 _ _ (lent [] _ _ _ _ _ _)))), (tt, tt))
 
--- src/walk.rt:243:1
+-- src/walk.rt:225:1
 pub parse-head-same-length-17 : (t : ℕ) → parse-head-lts.Need-same-length-17 (
   word-bytes-reads.Asked,
   word-bytes-reads.Learnt,
@@ -749,7 +749,7 @@ pub parse-head-same-length-17 : (t : ℕ) → parse-head-lts.Need-same-length-17
 ) (parse-head-at t) parse-head.Post
 parse-head-same-length-17 t c = c .before .before .before .before .before .before .before .before .before .before .before .before .before .parse-map .kept .1 .1 .1 .1 .0 ∙ c .before .before .before .before .before .before .before .before .before .before .before .before .before .before .before .before .before .before .before .before .before .before .before .before .before .before .before .open-object .kept .1 .1 .0 ∙ c .before .before .before .before .before .before .before .before .before .before .before .before .before .before .before .before .before .before .before .before .before .before .before .before .before .before .before .before .before .before .before .before .before .before .before .before .before .before .before .before .open-leaf .kept .1 .1 .1 .1 .0
 
--- src/walk.rt:243:1
+-- src/walk.rt:225:1
 pub parse-head-same-length-18 : (t : ℕ) → parse-head-lts.Need-same-length-18 (
   word-bytes-reads.Asked,
   word-bytes-reads.Learnt,
@@ -768,7 +768,7 @@ pub parse-head-same-length-18 : (t : ℕ) → parse-head-lts.Need-same-length-18
 ) (parse-head-at t) parse-head.Post
 parse-head-same-length-18 t c = c .before .before .before .before .before .before .before .before .before .before .before .before .before .parse-map .kept .1 .1 .1 .1 .1 .0 ∙ c .before .before .before .before .before .before .before .before .before .before .before .before .before .before .before .before .before .before .before .before .before .before .before .before .before .before .before .before .before .before .before .before .before .before .before .before .before .before .before .before .open-leaf .kept .1 .1 .1 .1 .1 .0
 
--- src/walk.rt:243:1
+-- src/walk.rt:225:1
 pub parse-head-same-length-19 : (t : ℕ) → parse-head-lts.Need-same-length-19 (
   word-bytes-reads.Asked,
   word-bytes-reads.Learnt,
@@ -787,7 +787,7 @@ pub parse-head-same-length-19 : (t : ℕ) → parse-head-lts.Need-same-length-19
 ) (parse-head-at t) parse-head.Post
 parse-head-same-length-19 t c = search needs
 
--- src/walk.rt:243:1
+-- src/walk.rt:225:1
 pub parse-head-same-length-20 : (t : ℕ) → parse-head-lts.Need-same-length-20 (
   word-bytes-reads.Asked,
   word-bytes-reads.Learnt,
@@ -806,7 +806,7 @@ pub parse-head-same-length-20 : (t : ℕ) → parse-head-lts.Need-same-length-20
 ) (parse-head-at t) parse-head.Post
 parse-head-same-length-20 t c = c .before .before .before .before .before .before .before .before .before .before .before .before .before .parse-map .kept .1 .1 .1 .1 .1 .1 .1 .0 ∙ c .before .before .before .before .before .before .before .before .before .before .before .before .before .before .before .before .before .before .before .before .before .before .before .before .before .before .before .before .before .before .before .before .before .before .before .before .before .before .before .before .open-leaf .kept .1 .1 .1 .1 .1 .1 .0
 
--- src/walk.rt:243:1
+-- src/walk.rt:225:1
 pub parse-head-same-length-21 : (t : ℕ) → parse-head-lts.Need-same-length-21 (
   word-bytes-reads.Asked,
   word-bytes-reads.Learnt,
@@ -825,7 +825,7 @@ pub parse-head-same-length-21 : (t : ℕ) → parse-head-lts.Need-same-length-21
 ) (parse-head-at t) parse-head.Post
 parse-head-same-length-21 t c = c .before .before .before .before .before .before .before .before .before .before .before .before .before .parse-map .kept .1 .1 .1 .1 .1 .1 .1 .1 .1 .1 .1 .0 ∙ c .before .before .before .before .before .before .before .before .before .before .before .before .before .before .before .before .before .before .before .before .before .before .before .before .before .before .before .before .before .before .before .before .before .before .before .before .before .before .before .before .open-leaf .kept .1 .1 .1 .1 .1 .1 .1 .1 .1 .1 .0
 
--- src/walk.rt:243:1
+-- src/walk.rt:225:1
 pub parse-head-returns-5 : (t : ℕ) → parse-head-lts.Need-returns-5 (
   word-bytes-reads.Asked,
   word-bytes-reads.Learnt,
@@ -844,7 +844,7 @@ pub parse-head-returns-5 : (t : ℕ) → parse-head-lts.Need-returns-5 (
 ) (parse-head-at t) parse-head.Post
 parse-head-returns-5 t c = let a = c .before .before .before .before .before .before .before .before .before .before .before .before .before .before .before .before .before .before .before .before .before .before .before .before .before .before .before .before .before .before .before .before .before .before .before .before .before .before .before .before .before .before .before .before .before .before .before .before .before .before .before .before .before .before .before .before .before .args in let e = count-is (lent _ _ _ _ _ _ _) (c .before .before .before .before .before .before .before .before .before .before .before .before .before .before .before .before .before .before .before .before .before .before .before .words .given .1) (c .before .before .before .before .before .before .before .before .before .before .before .before .before .before .before .before .before .before .before .before .before .before .before .before .before .before .before .open-object .ensures .0 _ _ (lent [] _ _ _ _ _ _)) in (unopened-headed (a .s) (lent (a .ot .now) (a .st .now) (a .vt .now) (a .dt .now) (a .hr .now) (a .c .now) (a .u .now)) (c .before .before .before .before .before .before .before .before .before .before .before .before .before .before .before .before .before .before .before .before .before .before .before .before .before .before .before .before .before .before .before .before .before .before .before .before .before .before .before .before .open-leaf .ensures .0 (c .before .before .before .before .before .before .before .before .before .before .before .before .before .before .before .before .before .before .before .before .before .before .before .before .before .before .before .before .before .if1 .left)) (input (a .v .now) (a .p .now) (a .k) (a .tr .now)) (refAt (input (a .v .now) (a .p .now) (a .k) (a .tr .now)) (64 - a .d)) (a .a) (a .at) (headed-bad _ _ (a .a) (a .at) _ e (ap (λ (w : ℕ). c .before .before .before .before .before .before .before .before .before .before .before .before .before .before .before .before .before .before .before .before .before .before .before .words .given .0 .0 * w) (c .before .before .before .before .before .before .before .before .before .before .before .before .before .before .before .before .before .before .before .before .before .before .before .before .before .before .before .before .before .before .before .before .before .before .before .before .before .before .before .before .before .before .before .before .before .before .before .before .word-bytes .ensures .0)) (went-no (lent _ _ _ _ _ _ _) (c .before .m3 .given .1) (c .before .before .before .before .before .before .before .before .before .before .before .before .before .parse-map .ensures .0))), (tt, tt))
 
--- src/walk.rt:243:1
+-- src/walk.rt:225:1
 pub parse-head-same-length-22 : (t : ℕ) → parse-head-lts.Need-same-length-22 (
   word-bytes-reads.Asked,
   word-bytes-reads.Learnt,
@@ -863,7 +863,7 @@ pub parse-head-same-length-22 : (t : ℕ) → parse-head-lts.Need-same-length-22
 ) (parse-head-at t) parse-head.Post
 parse-head-same-length-22 t c = c .before .before .before .before .before .before .before .before .before .before .before .before .before .parse-map .kept .1 .1 .1 .1 .0 ∙ c .before .before .before .before .before .before .before .before .before .before .before .before .before .before .before .before .before .before .before .before .before .before .before .before .before .before .before .open-object .kept .1 .1 .0 ∙ c .before .before .before .before .before .before .before .before .before .before .before .before .before .before .before .before .before .before .before .before .before .before .before .before .before .before .before .before .before .before .before .before .before .before .before .before .before .before .before .before .open-leaf .kept .1 .1 .1 .1 .0
 
--- src/walk.rt:243:1
+-- src/walk.rt:225:1
 pub parse-head-same-length-23 : (t : ℕ) → parse-head-lts.Need-same-length-23 (
   word-bytes-reads.Asked,
   word-bytes-reads.Learnt,
@@ -882,7 +882,7 @@ pub parse-head-same-length-23 : (t : ℕ) → parse-head-lts.Need-same-length-23
 ) (parse-head-at t) parse-head.Post
 parse-head-same-length-23 t c = c .before .before .before .before .before .before .before .before .before .before .before .before .before .parse-map .kept .1 .1 .1 .1 .1 .0 ∙ c .before .before .before .before .before .before .before .before .before .before .before .before .before .before .before .before .before .before .before .before .before .before .before .before .before .before .before .before .before .before .before .before .before .before .before .before .before .before .before .before .open-leaf .kept .1 .1 .1 .1 .1 .0
 
--- src/walk.rt:243:1
+-- src/walk.rt:225:1
 pub parse-head-same-length-24 : (t : ℕ) → parse-head-lts.Need-same-length-24 (
   word-bytes-reads.Asked,
   word-bytes-reads.Learnt,
@@ -901,7 +901,7 @@ pub parse-head-same-length-24 : (t : ℕ) → parse-head-lts.Need-same-length-24
 ) (parse-head-at t) parse-head.Post
 parse-head-same-length-24 t c = search needs
 
--- src/walk.rt:243:1
+-- src/walk.rt:225:1
 pub parse-head-same-length-25 : (t : ℕ) → parse-head-lts.Need-same-length-25 (
   word-bytes-reads.Asked,
   word-bytes-reads.Learnt,
@@ -920,7 +920,7 @@ pub parse-head-same-length-25 : (t : ℕ) → parse-head-lts.Need-same-length-25
 ) (parse-head-at t) parse-head.Post
 parse-head-same-length-25 t c = c .before .before .before .before .before .before .before .before .before .before .before .before .before .parse-map .kept .1 .1 .1 .1 .1 .1 .1 .0 ∙ c .before .before .before .before .before .before .before .before .before .before .before .before .before .before .before .before .before .before .before .before .before .before .before .before .before .before .before .before .before .before .before .before .before .before .before .before .before .before .before .before .open-leaf .kept .1 .1 .1 .1 .1 .1 .0
 
--- src/walk.rt:243:1
+-- src/walk.rt:225:1
 pub parse-head-same-length-26 : (t : ℕ) → parse-head-lts.Need-same-length-26 (
   word-bytes-reads.Asked,
   word-bytes-reads.Learnt,
@@ -939,7 +939,7 @@ pub parse-head-same-length-26 : (t : ℕ) → parse-head-lts.Need-same-length-26
 ) (parse-head-at t) parse-head.Post
 parse-head-same-length-26 t c = c .before .before .before .before .before .before .before .before .before .before .before .before .before .parse-map .kept .1 .1 .1 .1 .1 .1 .1 .1 .1 .1 .1 .0 ∙ c .before .before .before .before .before .before .before .before .before .before .before .before .before .before .before .before .before .before .before .before .before .before .before .before .before .before .before .before .before .before .before .before .before .before .before .before .before .before .before .before .open-leaf .kept .1 .1 .1 .1 .1 .1 .1 .1 .1 .1 .0
 
--- src/walk.rt:243:1
+-- src/walk.rt:225:1
 pub parse-head-returns-6 : (t : ℕ) → parse-head-lts.Need-returns-6 (
   word-bytes-reads.Asked,
   word-bytes-reads.Learnt,

@@ -16,7 +16,7 @@ use Rattle.objects.proofs.map.keep_map.Reads as keep-map-reads
 use Rattle.objects.proofs.pending.resolves.Reads as resolves-reads
 use Rattle.walker.proofs.walk.+parse_head+parse_inner+parse_item+parse_map+parse_object+parse_ref+parse_slot.Proof.Common.{parse-inner-below, parse-map-at}
 
--- src/walk.rt:328:11
+-- src/walk.rt:310:11
 pub parse-map-parse-inner-requires : (t : ℕ) → parse-map-lts.Need-parse-inner-requires (
   parse-inner-below t,
   parse-inner.Post,
@@ -29,7 +29,7 @@ pub parse-map-parse-inner-requires : (t : ℕ) → parse-map-lts.Need-parse-inne
 ) (parse-map-at t) parse-map.Post
 parse-map-parse-inner-requires t c κs = (omega (arith, c .before .before .before .before .before .before .before .before .before .before .before .before .before .before .before .before .pre .0, c .before .before .before .before .before .before .before .before .before .before .before .before .before .before .before .before .pre .1 .1 .0), (c .before .before .before .before .before .before .before .before .before .before .before .before .before .before .before .before .pre .1 .0, c .before .before .before .before .before .before .before .before .before .before .before .before .before .before .before .before .pre .1 .1 .0))
 
--- src/walk.rt:329:23
+-- src/walk.rt:311:23
 pub parse-map-enum-known-m : (t : ℕ) → parse-map-lts.Need-enum-known-m (
   parse-inner-below t,
   parse-inner.Post,
@@ -42,7 +42,7 @@ pub parse-map-enum-known-m : (t : ℕ) → parse-map-lts.Need-enum-known-m (
 ) (parse-map-at t) parse-map.Post
 parse-map-enum-known-m t c = search needs
 
--- src/walk.rt:330:19
+-- src/walk.rt:312:19
 pub parse-map-enum-known-x : (t : ℕ) → parse-map-lts.Need-enum-known-x (
   parse-inner-below t,
   parse-inner.Post,
@@ -55,7 +55,7 @@ pub parse-map-enum-known-x : (t : ℕ) → parse-map-lts.Need-enum-known-x (
 ) (parse-map-at t) parse-map.Post
 parse-map-enum-known-x t c = search needs
 
--- src/walk.rt:330:34
+-- src/walk.rt:312:34
 pub parse-map-after-map-requires : (t : ℕ) → parse-map-lts.Need-after-map-requires (
   parse-inner-below t,
   parse-inner.Post,
@@ -72,7 +72,7 @@ parse-map-after-map-requires t c κs =
     let e = seen-got (lent _ _ _ _ _ _ _) (c .before .before .before .before .before .x .given .1) (c .before .before .before .before .before .before .before .before .before .before .before .before .before .before .before .before .before .parse-inner .ensures .0) in
     after-asks (g .0) (a .d) (a .a) (a .n) (a .o) e _ (out-index _ (seen-got (lent _ _ _ _ _ _ _) (c .before .before .before .before .before .x .given .1) refl) (c .before .before .before .before .before .before .before .before .before .before .before .before .before .before .before .before .before .parse-inner .ensures .1)) (g .1 .1) (g .1 .2)
 
--- src/walk.rt:331:27
+-- src/walk.rt:313:27
 pub parse-map-enum-known-m-2 : (t : ℕ) → parse-map-lts.Need-enum-known-m-2 (
   parse-inner-below t,
   parse-inner.Post,
@@ -85,7 +85,7 @@ pub parse-map-enum-known-m-2 : (t : ℕ) → parse-map-lts.Need-enum-known-m-2 (
 ) (parse-map-at t) parse-map.Post
 parse-map-enum-known-m-2 t c = search needs
 
--- src/walk.rt:332:22
+-- src/walk.rt:314:22
 pub parse-map-enum-known-y : (t : ℕ) → parse-map-lts.Need-enum-known-y (
   parse-inner-below t,
   parse-inner.Post,
@@ -98,7 +98,7 @@ pub parse-map-enum-known-y : (t : ℕ) → parse-map-lts.Need-enum-known-y (
 ) (parse-map-at t) parse-map.Post
 parse-map-enum-known-y t c = search needs
 
--- src/walk.rt:332:34
+-- src/walk.rt:314:34
 pub parse-map-keep-map-requires : (t : ℕ) → parse-map-lts.Need-keep-map-requires (
   parse-inner-below t,
   parse-inner.Post,
@@ -116,7 +116,7 @@ parse-map-keep-map-requires t c κs =
     let f = went-on (lent _ _ _ _ _ _ _) (c .before .before .before .y .given .1) (c .before .before .before .before .before .before .before .before .before .after-map .ensures .0 _ (lent _ _ _ [] _ [] [])) in
     keep-asks (g .0) (a .d) (a .a) (a .n) (a .o) e f (g .1 .3) (g .1 .1) (g .1 .4) (omega (arith, c .before .before .before .before .before .before .before .before .before .before .before .before .before .before .before .before .before .before .before .before .before .before .before .before .before .before .before .before .before .before .before .before .before .before .before .before .before .before .before .before .before .before .before .before .good))
 
--- src/walk.rt:333:31
+-- src/walk.rt:315:31
 pub parse-map-enum-known-m-3 : (t : ℕ) → parse-map-lts.Need-enum-known-m-3 (
   parse-inner-below t,
   parse-inner.Post,
@@ -129,7 +129,7 @@ pub parse-map-enum-known-m-3 : (t : ℕ) → parse-map-lts.Need-enum-known-m-3 (
 ) (parse-map-at t) parse-map.Post
 parse-map-enum-known-m-3 t c = search needs
 
--- src/walk.rt:334:26
+-- src/walk.rt:316:26
 pub parse-map-enum-known-w : (t : ℕ) → parse-map-lts.Need-enum-known-w (
   parse-inner-below t,
   parse-inner.Post,
@@ -142,7 +142,7 @@ pub parse-map-enum-known-w : (t : ℕ) → parse-map-lts.Need-enum-known-w (
 ) (parse-map-at t) parse-map.Post
 parse-map-enum-known-w t c = search needs
 
--- src/walk.rt:334:32
+-- src/walk.rt:316:32
 pub parse-map-resolves-requires : (t : ℕ) → parse-map-lts.Need-resolves-requires (
   parse-inner-below t,
   parse-inner.Post,
@@ -161,7 +161,7 @@ parse-map-resolves-requires t c κs =
     let k = went-on (lent _ _ _ _ _ _ _) (c .before .before .before .w .given .1) (c .before .before .before .before .before .before .before .before .before .keep-map .ensures _ _ _ (lent [] [] _ _ _ _ _)) in
     resolves-asks (kept-ready (g .0) (a .d) (a .a) (a .n) (a .o) e f (g .1 .3) (g .1 .1) (g .1 .4) (c .before .before .before .before .before .before .before .before .before .before .before .before .before .before .before .before .before .before .before .before .before .before .before .before .before .before .before .before .before .before .before .before .before .before .before .before .before .parse-inner .last .1 .1 .1 .1 .1 .1 .1 .1 .1 .1 .1 .0) (c .before .before .before .before .before .before .before .before .before .before .before .before .before .before .before .before .before .before .before .after-map .last .1 .1 .1 .0) (out-index _ (seen-got (lent _ _ _ _ _ _ _) (c .before .before .before .before .before .before .before .before .before .before .before .before .before .before .before .before .before .before .before .before .before .before .before .before .before .x .given .1) refl) (c .before .before .before .before .before .before .before .before .before .before .before .before .before .before .before .before .before .before .before .before .before .before .before .before .before .before .before .before .before .before .before .before .before .before .before .before .before .parse-inner .ensures .1)) (c .before .before .before .before .before .before .before .before .before .before .before .before .before .before .before .before .before .before .before .after-map .ensures .1 .1) (went-linked _ _ (c .before .before .before .before .before .before .before .before .before .before .before .before .before .y .given .1) (c .before .before .before .before .before .before .before .before .before .before .before .before .before .before .before .before .before .before .before .after-map .ensures .1 .0)) k)
 
--- src/walk.rt:302:1
+-- src/walk.rt:284:1
 pub parse-map-same-length : (t : ℕ) → parse-map-lts.Need-same-length (
   parse-inner-below t,
   parse-inner.Post,
@@ -174,7 +174,7 @@ pub parse-map-same-length : (t : ℕ) → parse-map-lts.Need-same-length (
 ) (parse-map-at t) parse-map.Post
 parse-map-same-length t c = search needs
 
--- src/walk.rt:302:1
+-- src/walk.rt:284:1
 pub parse-map-same-length-2 : (t : ℕ) → parse-map-lts.Need-same-length-2 (
   parse-inner-below t,
   parse-inner.Post,
@@ -187,7 +187,7 @@ pub parse-map-same-length-2 : (t : ℕ) → parse-map-lts.Need-same-length-2 (
 ) (parse-map-at t) parse-map.Post
 parse-map-same-length-2 t c = search needs
 
--- src/walk.rt:302:1
+-- src/walk.rt:284:1
 pub parse-map-same-length-3 : (t : ℕ) → parse-map-lts.Need-same-length-3 (
   parse-inner-below t,
   parse-inner.Post,
@@ -200,7 +200,7 @@ pub parse-map-same-length-3 : (t : ℕ) → parse-map-lts.Need-same-length-3 (
 ) (parse-map-at t) parse-map.Post
 parse-map-same-length-3 t c = search needs
 
--- src/walk.rt:302:1
+-- src/walk.rt:284:1
 pub parse-map-same-length-4 : (t : ℕ) → parse-map-lts.Need-same-length-4 (
   parse-inner-below t,
   parse-inner.Post,
@@ -213,7 +213,7 @@ pub parse-map-same-length-4 : (t : ℕ) → parse-map-lts.Need-same-length-4 (
 ) (parse-map-at t) parse-map.Post
 parse-map-same-length-4 t c = search needs
 
--- src/walk.rt:302:1
+-- src/walk.rt:284:1
 pub parse-map-same-length-5 : (t : ℕ) → parse-map-lts.Need-same-length-5 (
   parse-inner-below t,
   parse-inner.Post,
@@ -226,7 +226,7 @@ pub parse-map-same-length-5 : (t : ℕ) → parse-map-lts.Need-same-length-5 (
 ) (parse-map-at t) parse-map.Post
 parse-map-same-length-5 t c = search needs
 
--- src/walk.rt:302:1
+-- src/walk.rt:284:1
 pub parse-map-returns : (t : ℕ) → parse-map-lts.Need-returns (
   parse-inner-below t,
   parse-inner.Post,
@@ -242,7 +242,7 @@ parse-map-returns t c =
     let g = c .before .before .before .before .before .before .before .before .before .before .before .before .before .before .before .before .before .before .before .before .before .before .before .before .before .before .before .before .before .before .pre .1 in
     (mapped-no (g .0) (a .d) (a .a) (a .n) (a .o) (seen-no (lent _ _ _ _ _ _ _) (c .before .m .given .1) (c .before .before .before .before .before .before .before .before .before .before .before .before .before .parse-inner .ensures .0)), tt)
 
--- src/walk.rt:302:1
+-- src/walk.rt:284:1
 pub parse-map-same-length-6 : (t : ℕ) → parse-map-lts.Need-same-length-6 (
   parse-inner-below t,
   parse-inner.Post,
@@ -255,7 +255,7 @@ pub parse-map-same-length-6 : (t : ℕ) → parse-map-lts.Need-same-length-6 (
 ) (parse-map-at t) parse-map.Post
 parse-map-same-length-6 t c = c .before .before .before .before .before .before .before .before .before .before .before .before .before .before .before .before .before .before .before .before .before .before .before .before .before .parse-inner .kept .1 .1 .1 .1 .0
 
--- src/walk.rt:302:1
+-- src/walk.rt:284:1
 pub parse-map-same-length-7 : (t : ℕ) → parse-map-lts.Need-same-length-7 (
   parse-inner-below t,
   parse-inner.Post,
@@ -268,7 +268,7 @@ pub parse-map-same-length-7 : (t : ℕ) → parse-map-lts.Need-same-length-7 (
 ) (parse-map-at t) parse-map.Post
 parse-map-same-length-7 t c = c .before .before .before .before .before .before .before .before .before .before .before .before .before .before .before .before .before .before .before .before .before .before .before .before .before .parse-inner .kept .1 .1 .1 .1 .1 .0
 
--- src/walk.rt:302:1
+-- src/walk.rt:284:1
 pub parse-map-same-length-8 : (t : ℕ) → parse-map-lts.Need-same-length-8 (
   parse-inner-below t,
   parse-inner.Post,
@@ -281,7 +281,7 @@ pub parse-map-same-length-8 : (t : ℕ) → parse-map-lts.Need-same-length-8 (
 ) (parse-map-at t) parse-map.Post
 parse-map-same-length-8 t c = c .before .before .before .before .before .before .before .before .before .before .before .before .before .before .before .before .before .before .before .before .before .before .before .before .before .parse-inner .kept .1 .1 .1 .1 .1 .1 .0
 
--- src/walk.rt:302:1
+-- src/walk.rt:284:1
 pub parse-map-same-length-9 : (t : ℕ) → parse-map-lts.Need-same-length-9 (
   parse-inner-below t,
   parse-inner.Post,
@@ -294,7 +294,7 @@ pub parse-map-same-length-9 : (t : ℕ) → parse-map-lts.Need-same-length-9 (
 ) (parse-map-at t) parse-map.Post
 parse-map-same-length-9 t c = search needs
 
--- src/walk.rt:302:1
+-- src/walk.rt:284:1
 pub parse-map-same-length-10 : (t : ℕ) → parse-map-lts.Need-same-length-10 (
   parse-inner-below t,
   parse-inner.Post,
@@ -307,7 +307,7 @@ pub parse-map-same-length-10 : (t : ℕ) → parse-map-lts.Need-same-length-10 (
 ) (parse-map-at t) parse-map.Post
 parse-map-same-length-10 t c = search needs
 
--- src/walk.rt:302:1
+-- src/walk.rt:284:1
 pub parse-map-returns-2 : (t : ℕ) → parse-map-lts.Need-returns-2 (
   parse-inner-below t,
   parse-inner.Post,
@@ -324,7 +324,7 @@ parse-map-returns-2 t c =
     let e = seen-got (lent _ _ _ _ _ _ _) (c .before .before .before .before .before .before .before .before .before .before .before .before .before .x .given .1) (c .before .before .before .before .before .before .before .before .before .before .before .before .before .before .before .before .before .before .before .before .before .before .before .before .before .parse-inner .ensures .0) in
     (mapped-bad (g .0) (a .d) (a .a) (a .n) (a .o) e (went-no (lent _ _ _ _ _ _ _) (c .before .m2 .given .1) (c .before .before .before .before .before .before .before .after-map .ensures .0 _ (lent _ _ _ [] _ [] []))), tt)
 
--- src/walk.rt:302:1
+-- src/walk.rt:284:1
 pub parse-map-same-length-11 : (t : ℕ) → parse-map-lts.Need-same-length-11 (
   parse-inner-below t,
   parse-inner.Post,
@@ -337,7 +337,7 @@ pub parse-map-same-length-11 : (t : ℕ) → parse-map-lts.Need-same-length-11 (
 ) (parse-map-at t) parse-map.Post
 parse-map-same-length-11 t c = c .before .before .before .before .before .before .before .keep-map .kept .1 .0 ∙ c .before .before .before .before .before .before .before .before .before .before .before .before .before .before .before .before .before .before .before .before .before .before .before .before .before .before .before .before .before .before .before .before .before .before .before .parse-inner .kept .1 .1 .1 .1 .0
 
--- src/walk.rt:302:1
+-- src/walk.rt:284:1
 pub parse-map-same-length-12 : (t : ℕ) → parse-map-lts.Need-same-length-12 (
   parse-inner-below t,
   parse-inner.Post,
@@ -350,7 +350,7 @@ pub parse-map-same-length-12 : (t : ℕ) → parse-map-lts.Need-same-length-12 (
 ) (parse-map-at t) parse-map.Post
 parse-map-same-length-12 t c = c .before .before .before .before .before .before .before .keep-map .kept .1 .1 .0 ∙ c .before .before .before .before .before .before .before .before .before .before .before .before .before .before .before .before .before .before .before .before .before .before .before .before .before .before .before .before .before .before .before .before .before .before .before .parse-inner .kept .1 .1 .1 .1 .1 .0
 
--- src/walk.rt:302:1
+-- src/walk.rt:284:1
 pub parse-map-same-length-13 : (t : ℕ) → parse-map-lts.Need-same-length-13 (
   parse-inner-below t,
   parse-inner.Post,
@@ -363,7 +363,7 @@ pub parse-map-same-length-13 : (t : ℕ) → parse-map-lts.Need-same-length-13 (
 ) (parse-map-at t) parse-map.Post
 parse-map-same-length-13 t c = c .before .before .before .before .before .before .before .before .before .before .before .before .before .before .before .before .before .before .before .before .before .before .before .before .before .before .before .before .before .before .before .before .before .before .before .parse-inner .kept .1 .1 .1 .1 .1 .1 .0
 
--- src/walk.rt:302:1
+-- src/walk.rt:284:1
 pub parse-map-same-length-14 : (t : ℕ) → parse-map-lts.Need-same-length-14 (
   parse-inner-below t,
   parse-inner.Post,
@@ -376,7 +376,7 @@ pub parse-map-same-length-14 : (t : ℕ) → parse-map-lts.Need-same-length-14 (
 ) (parse-map-at t) parse-map.Post
 parse-map-same-length-14 t c = c .before .before .before .before .before .before .before .before .before .before .before .before .before .before .before .before .before .after-map .kept .1 .1 .0 ∙ c .before .before .before .before .before .before .before .before .before .before .before .before .before .before .before .before .before .before .before .before .before .before .before .before .before .before .before .before .before .before .before .before .before .before .before .parse-inner .kept .1 .1 .1 .1 .1 .1 .1 .0
 
--- src/walk.rt:302:1
+-- src/walk.rt:284:1
 pub parse-map-same-length-15 : (t : ℕ) → parse-map-lts.Need-same-length-15 (
   parse-inner-below t,
   parse-inner.Post,
@@ -389,7 +389,7 @@ pub parse-map-same-length-15 : (t : ℕ) → parse-map-lts.Need-same-length-15 (
 ) (parse-map-at t) parse-map.Post
 parse-map-same-length-15 t c = c .before .before .before .before .before .before .before .before .before .before .before .before .before .before .before .before .before .after-map .kept .1 .1 .1 .0 ∙ c .before .before .before .before .before .before .before .before .before .before .before .before .before .before .before .before .before .before .before .before .before .before .before .before .before .before .before .before .before .before .before .before .before .before .before .parse-inner .kept .1 .1 .1 .1 .1 .1 .1 .1 .1 .1 .1 .0
 
--- src/walk.rt:302:1
+-- src/walk.rt:284:1
 pub parse-map-returns-3 : (t : ℕ) → parse-map-lts.Need-returns-3 (
   parse-inner-below t,
   parse-inner.Post,
@@ -407,7 +407,7 @@ parse-map-returns-3 t c =
     let f = went-on (lent _ _ _ _ _ _ _) (c .before .before .before .before .before .before .before .before .before .before .before .y .given .1) (c .before .before .before .before .before .before .before .before .before .before .before .before .before .before .before .before .before .after-map .ensures .0 _ (lent _ _ _ [] _ [] [])) in
     (mapped-full (g .0) (a .d) (a .a) (a .n) (a .o) e f (went-no (lent _ _ _ _ _ _ _) (c .before .m3 .given .1) (c .before .before .before .before .before .before .before .keep-map .ensures _ _ _ (lent [] [] _ _ _ _ _))), tt)
 
--- src/walk.rt:302:1
+-- src/walk.rt:284:1
 pub parse-map-same-length-16 : (t : ℕ) → parse-map-lts.Need-same-length-16 (
   parse-inner-below t,
   parse-inner.Post,
@@ -420,7 +420,7 @@ pub parse-map-same-length-16 : (t : ℕ) → parse-map-lts.Need-same-length-16 (
 ) (parse-map-at t) parse-map.Post
 parse-map-same-length-16 t c = c .before .before .before .before .before .before .before .before .before .before .before .before .keep-map .kept .1 .0 ∙ c .before .before .before .before .before .before .before .before .before .before .before .before .before .before .before .before .before .before .before .before .before .before .before .before .before .before .before .before .before .before .before .before .before .before .before .before .before .before .before .before .parse-inner .kept .1 .1 .1 .1 .0
 
--- src/walk.rt:302:1
+-- src/walk.rt:284:1
 pub parse-map-same-length-17 : (t : ℕ) → parse-map-lts.Need-same-length-17 (
   parse-inner-below t,
   parse-inner.Post,
@@ -433,7 +433,7 @@ pub parse-map-same-length-17 : (t : ℕ) → parse-map-lts.Need-same-length-17 (
 ) (parse-map-at t) parse-map.Post
 parse-map-same-length-17 t c = c .before .before .resolves .kept .1 .1 .0 ∙ c .before .before .before .before .before .before .before .before .before .before .before .before .keep-map .kept .1 .1 .0 ∙ c .before .before .before .before .before .before .before .before .before .before .before .before .before .before .before .before .before .before .before .before .before .before .before .before .before .before .before .before .before .before .before .before .before .before .before .before .before .before .before .before .parse-inner .kept .1 .1 .1 .1 .1 .0
 
--- src/walk.rt:302:1
+-- src/walk.rt:284:1
 pub parse-map-same-length-18 : (t : ℕ) → parse-map-lts.Need-same-length-18 (
   parse-inner-below t,
   parse-inner.Post,
@@ -446,7 +446,7 @@ pub parse-map-same-length-18 : (t : ℕ) → parse-map-lts.Need-same-length-18 (
 ) (parse-map-at t) parse-map.Post
 parse-map-same-length-18 t c = c .before .before .before .before .before .before .before .before .before .before .before .before .before .before .before .before .before .before .before .before .before .before .before .before .before .before .before .before .before .before .before .before .before .before .before .before .before .before .before .before .parse-inner .kept .1 .1 .1 .1 .1 .1 .0
 
--- src/walk.rt:302:1
+-- src/walk.rt:284:1
 pub parse-map-same-length-19 : (t : ℕ) → parse-map-lts.Need-same-length-19 (
   parse-inner-below t,
   parse-inner.Post,
@@ -459,7 +459,7 @@ pub parse-map-same-length-19 : (t : ℕ) → parse-map-lts.Need-same-length-19 (
 ) (parse-map-at t) parse-map.Post
 parse-map-same-length-19 t c = c .before .before .before .before .before .before .before .before .before .before .before .before .before .before .before .before .before .before .before .before .before .before .after-map .kept .1 .1 .0 ∙ c .before .before .before .before .before .before .before .before .before .before .before .before .before .before .before .before .before .before .before .before .before .before .before .before .before .before .before .before .before .before .before .before .before .before .before .before .before .before .before .before .parse-inner .kept .1 .1 .1 .1 .1 .1 .1 .0
 
--- src/walk.rt:302:1
+-- src/walk.rt:284:1
 pub parse-map-same-length-20 : (t : ℕ) → parse-map-lts.Need-same-length-20 (
   parse-inner-below t,
   parse-inner.Post,
@@ -472,7 +472,7 @@ pub parse-map-same-length-20 : (t : ℕ) → parse-map-lts.Need-same-length-20 (
 ) (parse-map-at t) parse-map.Post
 parse-map-same-length-20 t c = c .before .before .before .before .before .before .before .before .before .before .before .before .before .before .before .before .before .before .before .before .before .before .after-map .kept .1 .1 .1 .0 ∙ c .before .before .before .before .before .before .before .before .before .before .before .before .before .before .before .before .before .before .before .before .before .before .before .before .before .before .before .before .before .before .before .before .before .before .before .before .before .before .before .before .parse-inner .kept .1 .1 .1 .1 .1 .1 .1 .1 .1 .1 .1 .0
 
--- src/walk.rt:302:1
+-- src/walk.rt:284:1
 pub parse-map-returns-4 : (t : ℕ) → parse-map-lts.Need-returns-4 (
   parse-inner-below t,
   parse-inner.Post,
