@@ -28,6 +28,10 @@ const ROOT: u8 = 0x40;
 const RAW: u8 = 0x60;
 const REPEAT: u8 = 0x80;
 const HOT: u8 = 0x90;
+/// In legacy, a space goes on in its next chunk.
+const NEXT_CHUNK: u8 = 0x15;
+/// In legacy, an object ends before its declared size.
+const DEFERRED: u8 = 0x16;
 /// In legacy, the space of objects that are referred to by their number.
 const MAP_SPACE: u8 = 4;
 
@@ -38,7 +42,7 @@ const TARGETS: usize = 1000;
 /// Repeats after each root in the row of 6.x repeats.
 const CHAIN: usize = 4;
 
-pub const ROWS: [Row; 20] = [
+pub const ROWS: [Row; 21] = [
     modern("objects of one word", 20.0, one_word),
     modern("objects of three words", 20.0, three_words),
     modern("objects of one word, closing section", 20.0, closing),
@@ -58,6 +62,7 @@ pub const ROWS: [Row; 20] = [
     old("legacy back-references, to the oldest", 10.0, to_oldest),
     old("legacy back-references, misses", 10.0, misses),
     old("legacy back-references by number", 10.0, by_number),
+    old("legacy back-references, hints that collide", 10.0, colliding),
     six("6.x repeats, chains of 4", 10.0, chains),
 ];
 
@@ -252,6 +257,37 @@ fn by_number(size: usize) -> Items {
         items.bytes.extend(integer(random.below(count)));
     }
     items.words += count;
+    items
+}
+
+/// Two objects in each chunk, the second at an address whose hint shares its place with those of all the others, and scattered references to
+/// these: the worst case of the search. The place is computed as crates/address_index/src/hints.rt does.
+fn colliding(size: usize) -> Items {
+    let longest = 12 + 1 + integer(size).len() + 4;
+    let count = size / longest;
+    let places = 2 * (2 * count + 1);
+    let words = |chunk: usize| {
+        let base = chunk * 65537 % (1 << 32);
+        (places - base % places).min((1 << 32) - base)
+    };
+    let mut items = Items { bytes: Vec::new(), words: 0, closing: Vec::new() };
+    for chunk in 0..count {
+        if 0 < chunk {
+            items.bytes.extend([NEXT_CHUNK, 0]);
+        }
+        items.bytes.push(NEW);
+        items.bytes.extend(integer(words(chunk)));
+        items.bytes.extend([ROOT + 5, DEFERRED]);
+        items.bytes.extend(ONE_WORD);
+    }
+    let mut random = Random(5);
+    for _ in 0..count {
+        let chunk = random.below(count);
+        items.bytes.push(BACK);
+        items.bytes.extend(integer(chunk));
+        items.bytes.extend(integer(8 * words(chunk)));
+    }
+    items.words = 3 * count;
     items
 }
 
