@@ -5,10 +5,8 @@ use mathlib.Core.List.{List}
 use Prim.Native.Nat.{ℕ, _+_, _*_, _^_, _<_}
 use lib.ListN.{length, getD, set, take, drop}
 use Rattle.stream.specs.declared.putint.Int.the-variants.{Is}
-use Rattle.stream.specs.Bytes.{peekAt}
 use Rattle.stream.specs.PutInt.{intAt}
 use Rattle.sheet.specs.Sheet.{isLegacy, isSixX, isMapFirst}
-use Rattle.sheet.specs.Tests.{isResolve}
 use Rattle.tables.specs.Values.{triple}
 use Rattle.tables.specs.Records.{room, field, objectRow, slotRow, written}
 use Rattle.alloc.specs.declared.legacy_alloc.Request.{Request}

@@ -1,6 +1,6 @@
 -- Objects within objects, as the loop of `parse_object` reads them: what is left to read at each level, and what holds at the head of the loop.
 -- Assumes nothing.
-use mathlib.Core.Path.{_≡_, refl, sym, ap, subst, _∙_}
+use mathlib.Core.Path.{_≡_, refl, sym, ap, _∙_}
 use mathlib.Core.Bool.{Bool, true, false}
 use mathlib.Core.List.{List}
 use Prim.Native.Nat.{ℕ, zero, suc, _+_, _-_, _/_, _^_, _<_, _≤_}
@@ -21,7 +21,7 @@ use Rattle.definition.specs.Reference.{refAt}
 use Rattle.laws.specs.Sound.{Onward}
 use Rattle.readers.specs.declared.state.State.{State}
 use Rattle.readers.specs.Views.{Lent, mem, objectsIs, slotsIs}
-use Rattle.readers.proofs.ViewLaws.{then-got, then-no}
+use Rattle.readers.proofs.ViewLaws.{then-no}
 use Rattle.leaves.specs.declared.leaf.Leaf.{Leaf}
 use Rattle.levels.specs.declared.level.Level.{Level}
 use Rattle.levels.specs.Level.{unreadAt, Begins, ObjectPlaced}

@@ -277,7 +277,10 @@ fn colliding(size: usize) -> Items {
         }
         items.bytes.push(NEW);
         items.bytes.extend(integer(words(chunk)));
-        items.bytes.extend([ROOT + 5, DEFERRED]);
+        items.bytes.push(ROOT + 5);
+        if 1 < words(chunk) {
+            items.bytes.push(DEFERRED);
+        }
         items.bytes.extend(ONE_WORD);
     }
     let mut random = Random(5);

@@ -1,5 +1,5 @@
 -- The needs of `parse_head`: the laws are in ObjectLaws and OpeningLaws. Assumes nothing.
-use Prim.Native.Nat.{ℕ, _+_, _-_, _*_, _^_}
+use Prim.Native.Nat.{ℕ, _-_, _*_, _^_}
 use Rattle.readers.proofs.ViewLaws.{count-is, count-no, count-below, went-on, went-no}
 use mathlib.Core.List.{[]}
 use Rattle.readers.specs.Views.{input}
@@ -13,7 +13,7 @@ use Rattle.walker.proofs.LeafLaws.{leaf-asks}
 use Rattle.walker.proofs.OpeningLaws.{resolve-not, resolved-headed, unresolved-headed, leaf-headed, leaf-ready, opened-index, unopened-ready, unopened-headed}
 use borrow.Author.Needs.{needs}
 use native.Mathlib.Omega.{arith}
-use mathlib.Core.Path.{_≡_, refl, sym, ap, subst, _∙_}
+use mathlib.Core.Path.{refl, ap, _∙_}
 use Rattle.walker.proofs.walk.parse_head.Reads as parse-head
 use Rattle.walker.proofs.walk.parse_map.Reads as parse-map
 use Rattle.walker.proofs.walk.+parse_head+parse_inner+parse_item+parse_map+parse_object+parse_ref+parse_slot.Lts-parse_head as parse-head-lts
@@ -22,7 +22,6 @@ use Rattle.objects.proofs.head.open_object.Reads as open-object-reads
 use Rattle.sheet.proofs.numbers.word_bytes.Reads as word-bytes-reads
 use Rattle.walker.specs.Ready.{lent}
 use Rattle.walker.proofs.walk.+parse_head+parse_inner+parse_item+parse_map+parse_object+parse_ref+parse_slot.Proof.Common.{parse-head-at, parse-map-below}
-use borrow.Fn.PlainCycle.{is}
 use Rattle.objects.proofs.pending.resolves.Reads as resolves-reads
 use Rattle.sheet.proofs.tests.is_tag.Reads as is-tag-reads
 use Rattle.stream.proofs.bytes.peek.Reads as peek-reads

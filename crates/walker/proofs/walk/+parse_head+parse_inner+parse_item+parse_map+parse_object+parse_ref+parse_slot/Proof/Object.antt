@@ -16,7 +16,6 @@ use Rattle.walker.proofs.ReadyLaws.{out-index}
 use Rattle.walker.proofs.walk.parse_object.Reads as parse-object
 use Rattle.walker.proofs.walk.+parse_head+parse_inner+parse_item+parse_map+parse_object+parse_ref+parse_slot.Lts-parse_object as parse-object-lts
 use Rattle.walker.proofs.walk.+parse_head+parse_inner+parse_item+parse_map+parse_object+parse_ref+parse_slot.Proof.Common.{parse-head-below, parse-item-below, parse-object-at, parse-object-Inv-loop, parse-object-μ-loop}
-use borrow.Fn.PlainCycle.{is}
 use Rattle.walker.proofs.walk.parse_head.Reads as parse-head
 use Rattle.walker.proofs.walk.parse_item.Reads as parse-item
 use Rattle.levels.proofs.level.begins_object.Reads as begins-object-reads
