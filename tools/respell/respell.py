@@ -17,6 +17,8 @@ import sys
 WORD = re.compile(r'[^\s(){}.;,@"«»`]+')
 HEAD = re.compile(r'^(?:(?:pub|abbrev|unfoldable|record|data|mutual|ruleset)\s+)*([^\s(){}.;,@"«»:]+)\s*(?:\(|\{|:|=)')
 FIELD = re.compile(r'^  (?:pub )?([^\s(){}.;,@"«»:]+)\s*:\s')
+INNER = re.compile(r'^\s+(?:(?:pub|abbrev|unfoldable|record|data|let|in)\s+)*([^\s(){}.;,@"«»:]+)\s*:\s')
+IMPORT = re.compile(r"^(?:pub )?use (?:mathlib|native|lib|borrow|denote|Prim|Rattle\.(?:std|core))\.[^\n]*", re.M)
 # Words of the library that a name may be joined to by a dash.
 LIBRARY = {"length", "take", "drop", "append", "set", "zero", "suc", "get_or"}
 
@@ -61,6 +63,9 @@ def declared():
             m = FIELD.match(line)
             if m:
                 fields.add(m[1])
+            m = INNER.match(line)
+            if m and re.search("-|[a-zℕℤ][A-Zℕℤ]", m[1]):
+                lemmas.add(m[1])
     return definitions, fields, lemmas
 
 
@@ -146,6 +151,9 @@ def comment(text, rows):
 
 
 def antt(text, rows):
+    # What a file imports from the library keeps its name there.
+    library = {w for m in IMPORT.finditer(text) for w in WORD.findall(m[0])}
+    rows = {k: v for k, v in rows.items() if k not in library} if type(rows) is dict else rows
     out = []
     for line in text.split("\n"):
         m = re.search(r"(?:^|(?<=\s))--(?:\s|$)", line)

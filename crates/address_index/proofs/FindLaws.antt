@@ -203,18 +203,18 @@ module _ {t : List ℕ} {n space chunk offset : ℕ} (i : ℕ) (h : Seeks t n sp
     one : suc (i - 1) ≡ i
     one = omega (arith, p)
 
-    pub seeks-found : {r : Bool} → r ≡ is_address t (space_of t (i - 1)) chunk offset (i - 1) → r ≡ true → Object (field 5 t (i - 1) 3) ≡ addressed t space chunk offset n
-    seeks-found e y = addressed_found t space chunk offset (i - 1) (subst (λ (s : ℕ). is_address t s chunk offset (i - 1) ≡ true) (h.of_space p) (sym e ∙ y)) ∙ ap (addressed t space chunk offset) one ∙ sym h.same
+    pub seeks_found : {r : Bool} → r ≡ is_address t (space_of t (i - 1)) chunk offset (i - 1) → r ≡ true → Object (field 5 t (i - 1) 3) ≡ addressed t space chunk offset n
+    seeks_found e y = addressed_found t space chunk offset (i - 1) (subst (λ (s : ℕ). is_address t s chunk offset (i - 1) ≡ true) (h.of_space p) (sym e ∙ y)) ∙ ap (addressed t space chunk offset) one ∙ sym h.same
 
     module _ {r : Bool} (e : r ≡ is_address t (space_of t (i - 1)) chunk offset (i - 1)) (y : r ≡ false) where
-      pub seeks-nothing : {ix : List ℕ} → Links t n ix → Sorted t n → {a : Bool} → a ≡ is_after t (i - 1) chunk offset → a ≡ false → Nothing ≡ addressed t space chunk offset n
-      seeks-nothing w s ea ya =
+      pub seeks_nothing : {ix : List ℕ} → Links t n ix → Sorted t n → {a : Bool} → a ≡ is_after t (i - 1) chunk offset → a ≡ false → Nothing ≡ addressed t space chunk offset n
+      seeks_nothing w s ea ya =
           let l : i - 1 < n = omega (arith, p, h.within) in
           let f : (k : ℕ) → k < suc (i - 1) → is_address t space chunk offset k ≡ false = subst (λ (s : ℕ). (k : ℕ) → k < suc (i - 1) → is_address t s chunk offset k ≡ false) (h.of_space p) (none_older w s (i - 1) chunk offset l (sym e ∙ y) (sym ea ∙ ya)) in
           addressed_none t space chunk offset ∙ sym (h.same ∙ addressed_skip t space chunk offset 0 i (omega arith) (λ k a b. f k (omega (arith, b, p))))
 
-      pub seeks-next : (r' : ℕ) → Passes t (i - 1) chunk offset r' → Seeks t n space chunk offset r'
-      seeks-next r' q =
+      pub seeks_next : (r' : ℕ) → Passes t (i - 1) chunk offset r' → Seeks t n space chunk offset r'
+      seeks_next r' q =
           record {
             within = omega (arith, q.before, h.within);
             of_space = λ b. q.of_space b ∙ h.of_space p;

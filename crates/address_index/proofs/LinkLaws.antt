@@ -116,54 +116,54 @@ far_jump t n p near far a b c d f = let z = a (omega (arith, b)) in (omega (arit
 -- ---- the four numbers that are written
 
 module _ (ix : List ℕ) (n space p j o : ℕ) where
-  abbrev with-older : List ℕ
-  with-older = set ix (256 + n * 3) p
+  abbrev with_older : List ℕ
+  with_older = set ix (256 + n * 3) p
 
-  abbrev with-jump : List ℕ
-  with-jump = set with-older (256 + n * 3 + 1) j
+  abbrev with_jump : List ℕ
+  with_jump = set with_older (256 + n * 3 + 1) j
 
-  abbrev with-ordinal : List ℕ
-  with-ordinal = set with-jump (256 + n * 3 + 2) o
+  abbrev with_ordinal : List ℕ
+  with_ordinal = set with_jump (256 + n * 3 + 2) o
 
   abbrev pub entered : List ℕ
-  entered = set with-ordinal space (n + 1)
+  entered = set with_ordinal space (n + 1)
 
   module _ (small : space < 256) where
     -- what lies elsewhere stays
-    pub entered-else : (x : ℕ) → x ≢ space → x ≢ 256 + n * 3 → x ≢ 256 + n * 3 + 1 → x ≢ 256 + n * 3 + 2 → get_or entered x 0 ≡ get_or ix x 0
-    entered-else x a b c d =
-        get_or-set_other with-ordinal space x (n + 1) 0 a ∙ get_or-set_other with-jump (256 + n * 3 + 2) x o 0 d ∙ get_or-set_other with-older (256 + n * 3 + 1) x j 0 c ∙ get_or-set_other ix (256 + n * 3) x p 0 b
+    pub entered_else : (x : ℕ) → x ≢ space → x ≢ 256 + n * 3 → x ≢ 256 + n * 3 + 1 → x ≢ 256 + n * 3 + 2 → get_or entered x 0 ≡ get_or ix x 0
+    entered_else x a b c d =
+        get_or-set_other with_ordinal space x (n + 1) 0 a ∙ get_or-set_other with_jump (256 + n * 3 + 2) x o 0 d ∙ get_or-set_other with_older (256 + n * 3 + 1) x j 0 c ∙ get_or-set_other ix (256 + n * 3) x p 0 b
 
     module _ (fits : 256 + n * 3 + 3 ≤ length ix) where
-      long-older : length with-older ≡ length ix
-      long-older = length-set ix (256 + n * 3) p
+      long_older : length with_older ≡ length ix
+      long_older = length-set ix (256 + n * 3) p
 
-      long-jump : length with-jump ≡ length ix
-      long-jump = length-set with-older (256 + n * 3 + 1) j ∙ long-older
+      long_jump : length with_jump ≡ length ix
+      long_jump = length-set with_older (256 + n * 3 + 1) j ∙ long_older
 
-      long-ordinal : length with-ordinal ≡ length ix
-      long-ordinal = length-set with-jump (256 + n * 3 + 2) o ∙ long-jump
+      long_ordinal : length with_ordinal ≡ length ix
+      long_ordinal = length-set with_jump (256 + n * 3 + 2) o ∙ long_jump
 
       pub entered-head : get_or entered space 0 ≡ n + 1
-      entered-head = get_or-set_same with-ordinal space (n + 1) 0 (omega (arith, long-ordinal))
+      entered-head = get_or-set_same with_ordinal space (n + 1) 0 (omega (arith, long_ordinal))
 
-      pub entered-older : get_or entered (256 + n * 3) 0 ≡ p
-      entered-older =
-          get_or-set_other with-ordinal space (256 + n * 3) (n + 1) 0 (λ e. omega (arith, e))
-          ∙ get_or-set_other with-jump (256 + n * 3 + 2) (256 + n * 3) o 0 (λ e. omega (arith, e))
-          ∙ get_or-set_other with-older (256 + n * 3 + 1) (256 + n * 3) j 0 (λ e. omega (arith, e))
+      pub entered_older : get_or entered (256 + n * 3) 0 ≡ p
+      entered_older =
+          get_or-set_other with_ordinal space (256 + n * 3) (n + 1) 0 (λ e. omega (arith, e))
+          ∙ get_or-set_other with_jump (256 + n * 3 + 2) (256 + n * 3) o 0 (λ e. omega (arith, e))
+          ∙ get_or-set_other with_older (256 + n * 3 + 1) (256 + n * 3) j 0 (λ e. omega (arith, e))
           ∙ get_or-set_same ix (256 + n * 3) p 0 (omega arith)
 
-      pub entered-jump : get_or entered (256 + n * 3 + 1) 0 ≡ j
-      entered-jump =
-          get_or-set_other with-ordinal space (256 + n * 3 + 1) (n + 1) 0 (λ e. omega (arith, e))
-          ∙ get_or-set_other with-jump (256 + n * 3 + 2) (256 + n * 3 + 1) o 0 (λ e. omega (arith, e))
-          ∙ get_or-set_same with-older (256 + n * 3 + 1) j 0 (omega (arith, long-older))
+      pub entered_jump : get_or entered (256 + n * 3 + 1) 0 ≡ j
+      entered_jump =
+          get_or-set_other with_ordinal space (256 + n * 3 + 1) (n + 1) 0 (λ e. omega (arith, e))
+          ∙ get_or-set_other with_jump (256 + n * 3 + 2) (256 + n * 3 + 1) o 0 (λ e. omega (arith, e))
+          ∙ get_or-set_same with_older (256 + n * 3 + 1) j 0 (omega (arith, long_older))
 
-      pub entered-ordinal : get_or entered (256 + n * 3 + 2) 0 ≡ o
-      entered-ordinal =
-          get_or-set_other with-ordinal space (256 + n * 3 + 2) (n + 1) 0 (λ e. omega (arith, e))
-          ∙ get_or-set_same with-jump (256 + n * 3 + 2) o 0 (omega (arith, long-jump))
+      pub entered_ordinal : get_or entered (256 + n * 3 + 2) 0 ≡ o
+      entered_ordinal =
+          get_or-set_other with_ordinal space (256 + n * 3 + 2) (n + 1) 0 (λ e. omega (arith, e))
+          ∙ get_or-set_same with_jump (256 + n * 3 + 2) o 0 (omega (arith, long_jump))
 
 -- the index is right with record n
 module _ (t ix : List ℕ) (n p j o : ℕ) (small : space_of t n < 256) (fits : 256 + n * 3 + 3 ≤ length ix) (w : Links t n ix) (ep : p ≡ newest t (space_of t n) n) (ej : JumpOf t n j) (eo : o ≡ count_in t (space_of t n) n) where
@@ -174,7 +174,7 @@ module _ (t ix : List ℕ) (n p j o : ℕ) (small : space_of t n < 256) (fits : 
   head_right s b =
       ⊎_elim
       (λ e. subst (λ (u : ℕ). get_or after u 0 ≡ newest t u (n + 1)) e (entered-head ix n (space_of t n) p j o small fits ∙ rw (add-one n) (sym (newest_on t (space_of t n) n refl))))
-      (λ e. entered-else ix n (space_of t n) p j o small s (λ q. e (omega (arith, q))) (λ q. omega (arith, q)) (λ q. omega (arith, q)) (λ q. omega (arith, q)) ∙ w.heads s b ∙ rw (add-one n) (sym (newest_off t s n e)))
+      (λ e. entered_else ix n (space_of t n) p j o small s (λ q. e (omega (arith, q))) (λ q. omega (arith, q)) (λ q. omega (arith, q)) (λ q. omega (arith, q)) ∙ w.heads s b ∙ rw (add-one n) (sym (newest_off t s n e)))
       (on_or_off t s n)
 
   -- record i is an old one, or the new one
@@ -186,18 +186,18 @@ module _ (t ix : List ℕ) (n p j o : ℕ) (small : space_of t n < 256) (fits : 
       go false e = let z = eqb-false i n e in f (omega (arith, z, l))
 
   kept_older : (i : ℕ) → i < n → get_or after (256 + i * 3) 0 ≡ get_or ix (256 + i * 3) 0
-  kept_older i l = entered-else ix n (space_of t n) p j o small (256 + i * 3) (λ q. omega (arith, q)) (λ q. omega (arith, q)) (λ q. omega (arith, q)) (λ q. omega (arith, q))
+  kept_older i l = entered_else ix n (space_of t n) p j o small (256 + i * 3) (λ q. omega (arith, q)) (λ q. omega (arith, q)) (λ q. omega (arith, q)) (λ q. omega (arith, q))
 
   kept : (i k : ℕ) → i < n → k < 3 → get_or after (256 + i * 3 + k) 0 ≡ get_or ix (256 + i * 3 + k) 0
-  kept i k l b = entered-else ix n (space_of t n) p j o small (256 + i * 3 + k) (λ q. omega (arith, q)) (λ q. omega (arith, q)) (λ q. omega (arith, q)) (λ q. omega (arith, q))
+  kept i k l b = entered_else ix n (space_of t n) p j o small (256 + i * 3 + k) (λ q. omega (arith, q)) (λ q. omega (arith, q)) (λ q. omega (arith, q)) (λ q. omega (arith, q))
 
   pub enters : Links t (n + 1) after
   enters =
       record {
         heads = head_right;
-        olders = λ i l. either (λ i. get_or after (256 + i * 3) 0 ≡ newest t (space_of t i) i) i l (λ b. kept_older i b ∙ w.olders i b) (entered-older ix n (space_of t n) p j o small fits ∙ ep);
-        jumps = λ i l. either (λ i. JumpOf t i (get_or after (256 + i * 3 + 1) 0)) i l (λ b. subst (JumpOf t i) (sym (kept i 1 b (omega arith))) (w.jumps i b)) (subst (JumpOf t n) (sym (entered-jump ix n (space_of t n) p j o small fits)) ej);
-        ordinals = λ i l. either (λ i. get_or after (256 + i * 3 + 2) 0 ≡ count_in t (space_of t i) i) i l (λ b. kept i 2 b (omega arith) ∙ w.ordinals i b) (entered-ordinal ix n (space_of t n) p j o small fits ∙ eo);
+        olders = λ i l. either (λ i. get_or after (256 + i * 3) 0 ≡ newest t (space_of t i) i) i l (λ b. kept_older i b ∙ w.olders i b) (entered_older ix n (space_of t n) p j o small fits ∙ ep);
+        jumps = λ i l. either (λ i. JumpOf t i (get_or after (256 + i * 3 + 1) 0)) i l (λ b. subst (JumpOf t i) (sym (kept i 1 b (omega arith))) (w.jumps i b)) (subst (JumpOf t n) (sym (entered_jump ix n (space_of t n) p j o small fits)) ej);
+        ordinals = λ i l. either (λ i. get_or after (256 + i * 3 + 2) 0 ≡ count_in t (space_of t i) i) i l (λ b. kept i 2 b (omega arith) ∙ w.ordinals i b) (entered_ordinal ix n (space_of t n) p j o small fits ∙ eo);
       }
 
 -- ---- the spaces of the first n records alone matter

@@ -57,19 +57,19 @@ module _ (t : List ℕ) (s : ℕ) where
   ordinal_found zero k number j a b e c = absurd (omega (arith, a, b))
   ordinal_found (suc n) k number j a b e c =
       ⊎_elim
-      (λ q. found-on n k number j a b e c q (eqb number 0) refl (λ l d. ordinal_found n (k + 1) (number - 1) j (omega (arith, l)) (omega (arith, b)) e d))
+      (λ q. found_on n k number j a b e c q (eqb number 0) refl (λ l d. ordinal_found n (k + 1) (number - 1) j (omega (arith, l)) (omega (arith, b)) e d))
       (λ q. let z : k ≢ j = (λ y. q (subst (λ (i : ℕ). space_of t i ≡ s) (sym y) e)) in step_off number k n q ∙ ordinal_found n (k + 1) number j (omega (arith, a, z)) (omega (arith, b)) e (c ∙ ap (λ (m : ℕ). m + number) (sym (next_off k q))))
       (on_or_off t s k)
     where
-      found-on : (n k number j : ℕ) → k ≤ j → j < k + suc n → space_of t j ≡ s → count_in t s j ≡ count_in t s k + number → space_of t k ≡ s → (d : Bool) → eqb number 0 ≡ d → (k < j → count_in t s j ≡ count_in t s (k + 1) + (number - 1) → ordinal_from t s (number - 1) (k + 1) n ≡ Object (field 5 t j 3)) → ordinal_from t s number k (suc n) ≡ Object (field 5 t j 3)
-      found-on n k number j a b e c q true z f =
+      found_on : (n k number j : ℕ) → k ≤ j → j < k + suc n → space_of t j ≡ s → count_in t s j ≡ count_in t s k + number → space_of t k ≡ s → (d : Bool) → eqb number 0 ≡ d → (k < j → count_in t s j ≡ count_in t s (k + 1) + (number - 1) → ordinal_from t s (number - 1) (k + 1) n ≡ Object (field 5 t j 3)) → ordinal_from t s number k (suc n) ≡ Object (field 5 t j 3)
+      found_on n k number j a b e c q true z f =
           let y : number ≡ 0 = eqb-true number 0 z in
           rw y (step_first k n q ∙ ap (λ (i : ℕ). Object (field 5 t i 3)) (first (eqb k j) refl y))
         where
           first : (d : Bool) → eqb k j ≡ d → number ≡ 0 → k ≡ j
           first true w y = eqb-true k j w
           first false w y = let v = eqb-false k j w in absurd (let u = count_after k j q (omega (arith, a, v)) in omega (arith, u, c, y))
-      found-on n k number j a b e c q false z f =
+      found_on n k number j a b e c q false z f =
           let y : number ≡ 0 → ⊥ = eqb-false number 0 z in
           let m = next_on k q in
           step_on number k n q y ∙ f (later (eqb k j) refl y) (omega (arith, c, m, y))
@@ -157,19 +157,19 @@ module _ {t : List ℕ} {n space number : ℕ} (i : ℕ) (h : SeeksOrdinal t n s
     number_is : o ≡ count_in t space (i - 1)
     number_is = e ∙ w.ordinals (i - 1) (omega (arith, p, h.within)) ∙ ap (λ (s : ℕ). count_in t s (i - 1)) (h.of_space p)
 
-    pub seeks-found : o ≡ number → Object (field 5 t (i - 1) 3) ≡ ordinal_from t space number 0 n
+    pub seeks_found : o ≡ number → Object (field 5 t (i - 1) 3) ≡ ordinal_from t space number 0 n
     unfolding count_in
-    seeks-found q = let m = number_is in sym (ordinal_found t space n 0 number (i - 1) (omega arith) (omega (arith, p, h.within)) (h.of_space p) (omega (arith, m, q)))
+    seeks_found q = let m = number_is in sym (ordinal_found t space n 0 number (i - 1) (omega arith) (omega (arith, p, h.within)) (h.of_space p) (omega (arith, m, q)))
 
-    pub seeks-nothing : o < number → Nothing ≡ ordinal_from t space number 0 n
-    seeks-nothing q =
+    pub seeks_nothing : o < number → Nothing ≡ ordinal_from t space number 0 n
+    seeks_nothing q =
         let m = number_is in
         let u : count_in t space (i - 1 + 1) ≡ count_in t space (i - 1) + 1 = next_on t space (i - 1) (h.of_space p) in
         let z : i - 1 + 1 ≡ i = omega (arith, p) in
         nothing_at (rw z at (let y : count_in t space (i - 1 + 1) ≤ number = omega (arith, u, m, q) in y))
 
-    pub seeks-next : (o ≡ number → ⊥) → (r : ℕ) → PassesOrdinals t (i - 1) number r → SeeksOrdinal t n space number r
-    seeks-next q r g =
+    pub seeks_next : (o ≡ number → ⊥) → (r : ℕ) → PassesOrdinals t (i - 1) number r → SeeksOrdinal t n space number r
+    seeks_next q r g =
         record {
           within = omega (arith, g.before, h.within);
           of_space = λ b. g.of_space b ∙ h.of_space p;

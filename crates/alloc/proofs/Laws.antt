@@ -87,11 +87,11 @@ module _ (l : List ℕ) (i n : ℕ) (e : n + spaces_of (drop i l) ≡ spaces_of 
     unfolding spaces_of
     entry = rw (add-one i, drop-cons l i 0 h)
 
-    pub spaces-more : 2147483648 ≤ get_or l i 0 → {m : ℕ} → m ≡ n + 1 → m + spaces_of (drop (i + 1) l) ≡ spaces_of l + 1
-    spaces-more b s = omega (arith, rw (le-leb 2147483648 (get_or l i 0) b) at entry)
+    pub spaces_more : 2147483648 ≤ get_or l i 0 → {m : ℕ} → m ≡ n + 1 → m + spaces_of (drop (i + 1) l) ≡ spaces_of l + 1
+    spaces_more b s = omega (arith, rw (le-leb 2147483648 (get_or l i 0) b) at entry)
 
-    pub spaces-same : get_or l i 0 < 2147483648 → {m : ℕ} → m ≡ n → m + spaces_of (drop (i + 1) l) ≡ spaces_of l + 1
-    spaces-same b s = omega (arith, rw (lt-leb 2147483648 (get_or l i 0) b) at entry)
+    pub spaces_same : get_or l i 0 < 2147483648 → {m : ℕ} → m ≡ n → m + spaces_of (drop (i + 1) l) ≡ spaces_of l + 1
+    spaces_same b s = omega (arith, rw (lt-leb 2147483648 (get_or l i 0) b) at entry)
 
   pub spaces_all : i ≤ length l → length l ≤ i → n ≡ spaces_of l
   unfolding spaces_of
@@ -123,41 +123,41 @@ module _ (t : List ℕ) (n spaces : ℕ) (want : Request) (used chunk : ℕ) whe
   no_room h = stays (λ c u. rw (le-leb (room 5 t) n h))
 
   module _ (h : n < room 5 t) where
-    pub size-over : 4294967295 < want.size → Places t n spaces want used chunk (record { number = 16; alignment = want.alignment; free = used }) t
+    pub size_over : 4294967295 < want.size → Places t n spaces want used chunk (record { number = 16; alignment = want.alignment; free = used }) t
     unfolding allocate_of
-    size-over l = stays (λ c u. rw (lt-leb (room 5 t) n h, lt-ltb 4294967295 want.size l))
+    size_over l = stays (λ c u. rw (lt-leb (room 5 t) n h, lt-ltb 4294967295 want.size l))
 
     -- there is room, so the record is put
-    put-roomy : {space chunk offset object placed : ℕ} {r : Bool} {after : List ℕ} → Put t n (address_row space chunk offset object placed) r after
+    put_roomy : {space chunk offset object placed : ℕ} {r : Bool} {after : List ℕ} → Put t n (address_row space chunk offset object placed) r after
         → after ≡ written t n (address_row space chunk offset object placed)
-    put-roomy p = rw (lt-ltb n (room 5 t) h) at p.table
+    put_roomy p = rw (lt-ltb n (room 5 t) h) at p.table
 
     module _ (l : want.size ≤ 4294967295) where
-      pub not-placed : spaces ≤ want.space → {r : Bool} {after : List ℕ} → Put t n (address_row want.space 0 0 want.object 0) r after
+      pub not_placed : spaces ≤ want.space → {r : Bool} {after : List ℕ} → Put t n (address_row want.space 0 0 want.object 0) r after
           → Places t n spaces want used chunk (record { number = 0; alignment = want.alignment; free = used }) after
       unfolding allocate_of
-      not-placed g p =
-          stays (λ c u. rw (put-roomy p, lt-leb (room 5 t) n h, le-ltb 4294967295 want.size l, le-leb spaces want.space g))
+      not_placed g p =
+          stays (λ c u. rw (put_roomy p, lt-leb (room 5 t) n h, le-ltb 4294967295 want.size l, le-leb spaces want.space g))
 
       module _ (g : want.space < spaces) {fill advance : ℕ} (f : fill ≡ fill_to_align used want.alignment want.word)
           (a : advance ≡ advance_of want.size want.alignment want.word) where
-        in-counters : (c : LegacyAlloc) → get_or c.used want.space 0 ≡ used → placed t n want c used ≡ allocate_of t n spaces want c
+        in_counters : (c : LegacyAlloc) → get_or c.used want.space 0 ≡ used → placed t n want c used ≡ allocate_of t n spaces want c
         unfolding allocate_of
-        in-counters c u = rw (lt-leb (room 5 t) n h, le-ltb 4294967295 want.size l, lt-leb spaces want.space g, u)
+        in_counters c u = rw (lt-leb (room 5 t) n h, le-ltb 4294967295 want.size l, lt-leb spaces want.space g, u)
 
-        pub address-over : 4294967295 < used + fill → Places t n spaces want used chunk (record { number = 16; alignment = want.alignment; free = used }) t
-        address-over p = stays (λ c u. rw (← in-counters c u, ← f, lt-ltb 4294967295 (used + fill) p))
+        pub address_over : 4294967295 < used + fill → Places t n spaces want used chunk (record { number = 16; alignment = want.alignment; free = used }) t
+        address_over p = stays (λ c u. rw (← in_counters c u, ← f, lt-ltb 4294967295 (used + fill) p))
 
         module _ (p : used + fill ≤ 4294967295) where
-          pub free-over : ltb 4294967295 (used + advance) ≡ true → Places t n spaces want used chunk (record { number = 16; alignment = want.alignment; free = used }) t
-          free-over q = stays (λ c u. rw (← in-counters c u, ← f, ← a, le-ltb 4294967295 (used + fill) p, q))
+          pub free_over : ltb 4294967295 (used + advance) ≡ true → Places t n spaces want used chunk (record { number = 16; alignment = want.alignment; free = used }) t
+          free_over q = stays (λ c u. rw (← in_counters c u, ← f, ← a, le-ltb 4294967295 (used + fill) p, q))
 
-          pub is-placed : ltb 4294967295 (used + advance) ≡ false → {r : Bool} {after : List ℕ}
+          pub is_placed : ltb 4294967295 (used + advance) ≡ false → {r : Bool} {after : List ℕ}
               → Put t n (address_row want.space chunk (used + fill) want.object 1) r after
               → Places t n spaces want used chunk (record { number = 0; alignment = 0; free = used + advance }) after
-          is-placed q w =
+          is_placed q w =
               record {
-                stored = λ c u k. rw (← in-counters c u, put-roomy w, k, ← f, ← a, le-ltb 4294967295 (used + fill) p, q);
+                stored = λ c u k. rw (← in_counters c u, put_roomy w, k, ← f, ← a, le-ltb 4294967295 (used + fill) p, q);
               }
 
 -- ---- back-references
@@ -197,17 +197,17 @@ module _ (t : List ℕ) (space chunk offset : ℕ) where
 
   -- the records from i on are not at the address
   module _ (n i : ℕ) (e : addressed t space chunk offset n ≡ addressed t space chunk offset i) where
-    pub address-here : 0 < i → {b : Bool} → b ≡ is_address t space chunk offset (i - 1) → b ≡ true
+    pub address_here : 0 < i → {b : Bool} → b ≡ is_address t space chunk offset (i - 1) → b ≡ true
         → Object (field 5 t (i - 1) 3) ≡ addressed t space chunk offset n
-    address-here h p q = rw (e, last_record i h, ← p, q)
+    address_here h p q = rw (e, last_record i h, ← p, q)
 
-    pub address-older : 0 < i → {b : Bool} → b ≡ is_address t space chunk offset (i - 1) → b ≡ false
+    pub address_older : 0 < i → {b : Bool} → b ≡ is_address t space chunk offset (i - 1) → b ≡ false
         → addressed t space chunk offset n ≡ addressed t space chunk offset (i - 1)
-    address-older h p q = rw (e, last_record i h, ← p, q)
+    address_older h p q = rw (e, last_record i h, ← p, q)
 
-    pub address-none : i ≡ 0 → Nothing ≡ addressed t space chunk offset n
+    pub address_none : i ≡ 0 → Nothing ≡ addressed t space chunk offset n
     unfolding addressed
-    address-none z = sym (rw z at e)
+    address_none z = sym (rw z at e)
 
 module _ (t : List ℕ) (n space chunk offset alignment word : ℕ) {found : Found} (e : found ≡ addressed t space chunk offset n) where
   pub exact : {o : ℕ} → found ≡ Object o → found ≡ resolve_of t n space chunk offset alignment word
@@ -215,14 +215,14 @@ module _ (t : List ℕ) (n space chunk offset alignment word : ℕ) {found : Fou
   exact h = rw (← e, h)
 
   module _ (none : found ≡ Nothing) {pad : ℕ} (f : pad ≡ fill_to_align offset alignment word) where
-    pub no-filler : pad ≡ 0 → Nothing ≡ resolve_of t n space chunk offset alignment word
+    pub no_filler : pad ≡ 0 → Nothing ≡ resolve_of t n space chunk offset alignment word
     unfolding resolve_of
-    no-filler h = rw (← e, none, ← f, h)
+    no_filler h = rw (← e, none, ← f, h)
 
-    pub after-filler : (pad ≡ 0 → ⊥) → {other : Found} → other ≡ addressed t space chunk (offset + pad) n
+    pub after_filler : (pad ≡ 0 → ⊥) → {other : Found} → other ≡ addressed t space chunk (offset + pad) n
         → other ≡ resolve_of t n space chunk offset alignment word
     unfolding resolve_of
-    after-filler h p = rw (← e, none, ← f, ne_eqb pad 0 h, p)
+    after_filler h p = rw (← e, none, ← f, ne_eqb pad 0 h, p)
 
 pub ordinal_start : (t : List ℕ) (n space index : ℕ) → ordinal_from t space index 0 n ≡ ordinal_from t space index 0 (n - 0)
 ordinal_start t n space index = let m : n - 0 ≡ n = omega arith in rw m
@@ -230,21 +230,21 @@ ordinal_start t n space index = let m : n - 0 ≡ n = omega arith in rw m
 -- the records before i are passed, and `left` more of the space are to come before the one that is meant
 module _ (t : List ℕ) (n space index left i : ℕ) (e : ordinal_from t space index 0 n ≡ ordinal_from t space left i (n - i)) where
   module _ (h : i < n) where
-    next-record : ordinal_from t space left i (n - i)
+    next_record : ordinal_from t space left i (n - i)
         ≡ pick_found (eqb (get_or t (i * 5) 0) space)
         (pick_found (eqb left 0) (Object (field 5 t i 3)) (ordinal_from t space (left - 1) (i + 1) (n - (i + 1))))
         (ordinal_from t space left (i + 1) (n - (i + 1)))
     unfolding ordinal_from
-    next-record = let m : n - i ≡ suc (n - (i + 1)) = omega arith in rw (m, first_test t i space)
+    next_record = let m : n - i ≡ suc (n - (i + 1)) = omega arith in rw (m, first_test t i space)
 
-    pub ordinal-here : get_or t (i * 5) 0 ≡ space → left ≡ 0 → Object (field 5 t i 3) ≡ ordinal_from t space index 0 n
-    ordinal-here s z = rw (e, next-record, eq-eqb (get_or t (i * 5) 0) space s, eq-eqb left 0 z)
+    pub ordinal_here : get_or t (i * 5) 0 ≡ space → left ≡ 0 → Object (field 5 t i 3) ≡ ordinal_from t space index 0 n
+    ordinal_here s z = rw (e, next_record, eq-eqb (get_or t (i * 5) 0) space s, eq-eqb left 0 z)
 
-    pub ordinal-less : get_or t (i * 5) 0 ≡ space → (left ≡ 0 → ⊥) → ordinal_from t space index 0 n ≡ ordinal_from t space (left - 1) (i + 1) (n - (i + 1))
-    ordinal-less s z = rw (e, next-record, eq-eqb (get_or t (i * 5) 0) space s, ne_eqb left 0 z)
+    pub ordinal_less : get_or t (i * 5) 0 ≡ space → (left ≡ 0 → ⊥) → ordinal_from t space index 0 n ≡ ordinal_from t space (left - 1) (i + 1) (n - (i + 1))
+    ordinal_less s z = rw (e, next_record, eq-eqb (get_or t (i * 5) 0) space s, ne_eqb left 0 z)
 
-    pub ordinal-other : (get_or t (i * 5) 0 ≡ space → ⊥) → ordinal_from t space index 0 n ≡ ordinal_from t space left (i + 1) (n - (i + 1))
-    ordinal-other s = rw (e, next-record, ne_eqb (get_or t (i * 5) 0) space s)
+    pub ordinal_other : (get_or t (i * 5) 0 ≡ space → ⊥) → ordinal_from t space index 0 n ≡ ordinal_from t space left (i + 1) (n - (i + 1))
+    ordinal_other s = rw (e, next_record, ne_eqb (get_or t (i * 5) 0) space s)
 
   pub ordinal_none : n ≤ i → Nothing ≡ ordinal_from t space index 0 n
   unfolding ordinal_from

@@ -124,16 +124,16 @@ module _ (x : Input) (modern : is_legacy x.sheet ≡ false) where
           stop_fuel = (λ m n' i f. absurd (omega arith));
         }
 
-    other-same : (m : Mem) → φ prefixes m ≡ m
-    other-same m = simp append-nil
+    other_same : (m : Mem) → φ prefixes m ≡ m
+    other_same m = simp append-nil
 
     pub reaches : (rooms : Rooms) (m : Mem) → lo ≡ rooms.objects → walk x (start rooms (told [])) ≡ got tt m → Reaches x p' L (start rooms (told [])) m
     reaches rooms m s e =
-        go (ended x m₀) (rw (other-same m₀) at (ended_law prefixes m₀ (start_fits prefixes rooms (told []) ([], refl) s))) (sym (walk-ended x m₀) ∙ e)
+        go (ended x m₀) (rw (other_same m₀) at (ended_law prefixes m₀ (start_fits prefixes rooms (told []) ([], refl) s))) (sym (walk-ended x m₀) ∙ e)
       where
         m₀ : Mem
         m₀ = start rooms (told [])
 
         go : (o : Out (Unit {0})) → Ends prefixes m₀ o (ended (over x p') m₀) → and_then o (λ _ m. padding x (length x.payload - m.at) m) ≡ got tt m → Reaches x p' L m₀ m
-        go (got a m₁) w e = record { end = m₁; ended_there = w.seen.2; then_padding = e; second = (λ v. (w.seen.1 v).1 ∙ ap (got tt) (other-same m₁)) }
+        go (got a m₁) w e = record { end = m₁; ended_there = w.seen.2; then_padding = e; second = (λ v. (w.seen.1 v).1 ∙ ap (got tt) (other_same m₁)) }
         go (no n q m₁) w e = absurd (let z : ◌≡◌ {A = ℕ} 0 1 = cc in omega arith)

@@ -7,7 +7,7 @@ use Rattle.definition.specs.Memory.{Input, word, Table, table, Mem, added}
 use Rattle.definition.specs.Call.{Rooms, Call, input_of, empty}
 use Rattle.assurance.specs.Words.{Accepted}
 use Rattle.assurance.specs.Records.{ZeroRest}
-use Rattle.assurance.specs.Induct.{graph-has}
+use Rattle.assurance.specs.Induct.{graph_has}
 use Rattle.assurance.specs.EventRules.{EventRules, tables_have}
 use Rattle.assurance.specs.Whole.{Any, steady}
 
@@ -69,5 +69,5 @@ clean c rooms m a =
       objects_rest = by_index 4 m.objects (omega arith) h.0;
       slots_rest = by_index 6 m.slots (omega arith) h.1;
       values_rest = by_index 3 m.values (omega arith) h.2;
-      no_addresses = (graph-has c rooms m a _ Any (steady (input_of c) 0 (empty rooms.addresses)) (omega arith, refl)).1;
+      no_addresses = (graph_has c rooms m a _ Any (steady (input_of c) 0 (empty rooms.addresses)) (omega arith, refl)).1;
     }

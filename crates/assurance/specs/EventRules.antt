@@ -15,7 +15,7 @@ use Rattle.definition.specs.Call.{Rooms, Call, input_of, empty, told_of}
 use Rattle.assurance.specs.Words.{Accepted, width_of_value}
 use Rattle.assurance.specs.Steps.{Frame, frame, OpensAt, Base, Rules, resolve_case}
 use Rattle.assurance.specs.Whole.{Any}
-use Rattle.assurance.specs.Induct.{graph-has}
+use Rattle.assurance.specs.Induct.{graph_has}
 use Rattle.assurance.specs.On.{On, on_note, on_note_two, on_map, on_told}
 
 -- slot k of n is the newest that waits under a number
@@ -107,4 +107,4 @@ module _ (x : Input) (P : List Frame → Table → Table → Table → List Even
 
 -- THE THEOREM: a property that those rules keep holds of what an accepted payload leaves
 pub tables_have : (c : Call) (rooms : Rooms) (m : Mem) → Accepted c rooms m → (P : List Frame → Table → Table → Table → List Event → Type 0) → EventRules (input_of c) P → P [] (empty rooms.objects) (empty rooms.slots) (empty rooms.values) [] → P [] m.objects m.slots m.values (told_of m.log)
-tables_have c rooms m a P rules i = on_told (P [] m.objects m.slots m.values) m.log (graph-has c rooms m a (Inv (input_of c) P rules) Any (rules_of (input_of c) P rules) i)
+tables_have c rooms m a P rules i = on_told (P [] m.objects m.slots m.values) m.log (graph_has c rooms m a (Inv (input_of c) P rules) Any (rules_of (input_of c) P rules) i)

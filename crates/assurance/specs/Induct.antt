@@ -10,7 +10,7 @@ use Rattle.assurance.specs.PlainSheet.{PlainSheet, plain-gives}
 use Rattle.assurance.specs.Words.{Accepted}
 use Rattle.assurance.specs.Gives.{Gives, given, refused, gives-choose}
 use Rattle.assurance.specs.Steps.{Frame, Base, Rules}
-use Rattle.assurance.specs.Whole.{End, walk-has}
+use Rattle.assurance.specs.Whole.{End, walk_has}
 
 module _ (c : Call) (rooms : Rooms) (m : Mem) (a : Accepted c rooms m) where
   abbrev pub plainly : PlainSheet c.sheet
@@ -29,15 +29,15 @@ module _ (c : Call) (rooms : Rooms) (m : Mem) (a : Accepted c rooms m) where
         let Q : Unit {0} → Mem → Type 0 = λ u. Ended in
         gives-choose Q (usable c.sheet) _ _ (start rooms (told []))
         (λ t. gives-choose Q (too_long c) _ _ (start rooms (told [])) (λ t. refused Q _ _ _)
-        (λ t. walk-has (input_of c) a.bytes plainly I W rules (start rooms (told [])) refl (begin, i)))
+        (λ t. walk_has (input_of c) a.bytes plainly I W rules (start rooms (told [])) refl (begin, i)))
         (λ t. refused Q _ _ _)
 
     -- where the closing section's kSynchronize stands
-    pub graph-end : Ended m
-    graph-end = given (λ u. Ended) tt m (subst (Gives (λ u. Ended)) a.accepted graph-gives)
+    pub graph_end : Ended m
+    graph_end = given (λ u. Ended) tt m (subst (Gives (λ u. Ended)) a.accepted graph-gives)
 
-    pub graph-has : I [] m
-    graph-has =
-        let e = graph-end in
+    pub graph_has : I [] m
+    graph_has =
+        let e = graph_end in
         let s : Mem = noted (synchronize e.before.at) e.before in
         subst (I []) (sym e.after) (rules.on_move [] s e.next (rules.on_synchronize e.before e.holds.1) e.later e.ends)

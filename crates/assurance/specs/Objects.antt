@@ -49,31 +49,31 @@ module _ (x : Input) (bytes : Bytes x.payload) (plainly : PlainSheet x.sheet) wh
     abbrev pub Had : List Frame → Unit {0} → Mem → Type 0
     Had S u m = Good S m
 
-    pub good-move : (S : List Frame) (m : Mem) (at : ℕ) → Good S m → m.at < at → at ≤ length x.payload → Good S (moved at m)
-    good-move S m at g l h = (base_same x S m g.0 (moved at m) h refl refl refl, rules.on_move S m at g.1 l h)
+    pub good_move : (S : List Frame) (m : Mem) (at : ℕ) → Good S m → m.at < at → at ≤ length x.payload → Good S (moved at m)
+    good_move S m at g l h = (base_same x S m g.0 (moved at m) h refl refl refl, rules.on_move S m at g.1 l h)
 
-    pub byte-has : (S : List Frame) (m : Mem) → Good S m → Gives (λ b. Good S) (byte x m)
-    byte-has S m g = byte_gives x (λ b. Good S) m (λ l. good-move S m (m.at + 1) g (omega arith) (omega arith))
+    pub byte_has : (S : List Frame) (m : Mem) → Good S m → Gives (λ b. Good S) (byte x m)
+    byte_has S m g = byte_gives x (λ b. Good S) m (λ l. good_move S m (m.at + 1) g (omega arith) (omega arith))
 
-    pub int-has : (S : List Frame) (m : Mem) → Good S m → Gives (λ n. Good S) (int x m)
-    int-has S m g = int_gives x bytes (λ n. Good S) m (λ v at l h. good-move S m at g l h)
+    pub int_has : (S : List Frame) (m : Mem) → Good S m → Gives (λ n. Good S) (int x m)
+    int_has S m g = int_gives x bytes (λ n. Good S) m (λ v at l h. good_move S m at g l h)
 
     -- ---- an object's head, and its map
 
-    large-has : (S : List Frame) (space : ℕ) (m : Mem) → Good S m → Gives (Had S) (large_byte x space m)
-    large-has S space m g =
+    large_has : (S : List Frame) (space : ℕ) (m : Mem) → Good S m → Gives (Had S) (large_byte x space m)
+    large_has S space m g =
         gives-choose (Had S) (is_six_x x.sheet && eqb space (lo_space x.sheet)) _ _ m
         (λ t. absurd (not_six_x_lem x.sheet plainly (and_left _ _ t))) (λ t. gives (Had S) _ _ g)
 
-    open-has : (S : List Frame) (tag words : ℕ) (m : Mem) → OpensAt x tag → Good S m → Gives (λ o. Good (frame o (words * word x) 0 ∷ S)) (add_object x tag words m)
+    open_has : (S : List Frame) (tag words : ℕ) (m : Mem) → OpensAt x tag → Good S m → Gives (λ o. Good (frame o (words * word x) 0 ∷ S)) (add_object x tag words m)
     unfolding add_object
-    open-has S tag words m q g =
+    open_has S tag words m q g =
         gives-choose (λ o. Good (frame o (words * word x) 0 ∷ S)) (has_room 4 m.objects) _ _ m
         (λ t. let l = ltb-true _ _ t in gives (λ o. Good (frame o (words * word x) 0 ∷ S)) _ _ (base_open x S m g.0 tag words l, rules.on_open S m tag words q g.1 l)) (λ t. refused (λ o. Good (frame o (words * word x) 0 ∷ S)) _ _ _)
 
-    flag-has : (S : List Frame) (o : ℕ) (v : SlotValue) (m : Mem) → o < m.objects.count → Good S m → W m v → Gives (λ u m. (Good S m) × (W m v)) (flag_object x o v m)
+    flag_has : (S : List Frame) (o : ℕ) (v : SlotValue) (m : Mem) → o < m.objects.count → Good S m → W m v → Gives (λ u m. (Good S m) × (W m v)) (flag_object x o v m)
     unfolding flag_object
-    flag-has S o v m l g w =
+    flag_has S o v m l g w =
         gives-choose (λ u m. (Good S m) × (W m v)) (flags x v) _ _ m
         (λ t. let z = rules.on_flag S m o v l g.1 w in gives (λ u m. (Good S m) × (W m v)) _ _ ((base_flag x S m g.0 o, z.0), z.1)) (λ t. gives (λ u m. (Good S m) × (W m v)) _ _ (g, w))
 
@@ -82,37 +82,37 @@ module _ (x : Input) (bytes : Bytes x.payload) (plainly : PlainSheet x.sheet) wh
     slot_has T S k o index start width v waits m h =
         gives-choose (λ n m. Good T (noted (item o start width n) m)) (has_room 6 m.slots) _ _ m (λ t. gives (λ n m. Good T (noted (item o start width n) m)) _ _ (h (ltb-true _ _ t))) (λ t. refused (λ n m. Good T (noted (item o start width n) m)) _ _ _)
 
-    map-has : (S : List Frame) (o size : ℕ) (v : SlotValue) (m : Mem) → Good (frame o size 0 ∷ S) m → W m v → Gives (Had (frame o size (word x) ∷ S)) (keep_map x o v m)
+    map_has : (S : List Frame) (o size : ℕ) (v : SlotValue) (m : Mem) → Good (frame o size 0 ∷ S) m → W m v → Gives (Had (frame o size (word x) ∷ S)) (keep_map x o v m)
     unfolding keep_map
-    map-has S o size v m g w =
+    map_has S o size v m g w =
         let F : List Frame = frame o size 0 ∷ S in
         let T : List Frame = frame o size (word x) ∷ S in
         gives_then (λ n m. Good T (noted (item o 0 (word x) n) m)) (Had T) ((flag_object x o v >> add_slot o 0 (fields_of v) 0 in_map) m) _
-        (gives_then (λ u m. (Good F m) × (W m v)) (λ n m. Good T (noted (item o 0 (word x) n) m)) (flag_object x o v m) _ (flag-has F o v m g.0.open_below.0 g w)
+        (gives_then (λ u m. (Good F m) × (W m v)) (λ n m. Good T (noted (item o 0 (word x) n) m)) (flag_object x o v m) _ (flag_has F o v m g.0.open_below.0 g w)
         (λ u m h. slot_has T S in_map o 0 0 (word x) (fields_of v) 0 m
         (λ l. (base_keep x F m h.0.0 T h.0.0.open_below in_map o 0 0 (word x) (fields_of v) 0 l, rules.on_map S m o size v h.0.0 h.0.1 h.1 l))))
         (λ n m h. gives (Had T) _ _ h)
 
     -- ---- resolves
 
-    resolves-have : (S : List Frame) (o size done n : ℕ) (m : Mem) → Good (frame o size done ∷ S) m → Gives (Had (frame o size done ∷ S)) (resolves x o n m)
+    resolves_have : (S : List Frame) (o size done n : ℕ) (m : Mem) → Good (frame o size done ∷ S) m → Gives (Had (frame o size done ∷ S)) (resolves x o n m)
     unfolding resolves
-    resolves-have S o size done zero m g = gives (Had (frame o size done ∷ S)) _ _ g
-    resolves-have S o size done (suc n) m g =
+    resolves_have S o size done zero m g = gives (Had (frame o size done ∷ S)) _ _ g
+    resolves_have S o size done (suc n) m g =
         let F : List Frame = frame o size done ∷ S in
         gives-choose (Had F) (is_resolve x.sheet (peek x m)) _ _ m
         (λ t. gives_then (Had F) (Had F) ((byte x >> int x >>= (λ number. change (resolved number o))) m) _
         (gives_then (λ n. Good F) (Had F) ((byte x >> int x) m) _
-        (gives_then (λ n. Good F) (λ n. Good F) (byte x m) _ (byte-has F m g) (λ b m h. int-has F m h))
+        (gives_then (λ n. Good F) (λ n. Good F) (byte x m) _ (byte_has F m g) (λ b m h. int_has F m h))
         (λ number m h. gives (Had F) _ _ (base_resolve x F m h.0 number o, rules.on_resolve S m o size done number h.0 h.1)))
-        (λ u m h. resolves-have S o size done n m h))
+        (λ u m h. resolves_have S o size done n m h))
         (λ t. gives (Had F) _ _ g)
 
     -- ---- items
 
-    item-has : (S : List Frame) (o size done : ℕ) (v : SlotValue) (m : Mem) → 1 ≤ done → done < size → Good (frame o size done ∷ S) m → W m v → Gives (Read S o size) (keep_item x o done v m)
+    item_has : (S : List Frame) (o size done : ℕ) (v : SlotValue) (m : Mem) → 1 ≤ done → done < size → Good (frame o size done ∷ S) m → W m v → Gives (Read S o size) (keep_item x o done v m)
     unfolding keep_item
-    item-has S o size done v m p l g w =
+    item_has S o size done v m p l g w =
         let F : List Frame = frame o size done ∷ S in
         let T : List Frame = frame o size (done + width_of (word x) v) ∷ S in
         let e : done + m.skip ≡ done = omega (arith, g.0.no_skip) in
@@ -127,44 +127,44 @@ module _ (x : Input) (bytes : Bytes x.payload) (plainly : PlainSheet x.sheet) wh
         (λ u m h. gives (Had T) _ _ (subst (λ (s : ℕ). Good T (with_skip s m)) h.0.no_skip h)))
         (λ u m h. gives (Read S o size) _ _ (h, omega arith)))
 
-    place-has : (S : List Frame) (o size done : ℕ) (v : SlotValue) (m : Mem) → 1 ≤ done → done < size → Has (frame o size done ∷ S) v m → Gives (Read S o size) (place_item x o done v m)
+    place_has : (S : List Frame) (o size done : ℕ) (v : SlotValue) (m : Mem) → 1 ≤ done → done < size → Has (frame o size done ∷ S) v m → Gives (Read S o size) (place_item x o done v m)
     unfolding place_item
-    place-has S o size done (Skip n) m p l h = absurd h.2
-    place-has S o size done (StreamBytes n) m p l h = absurd h.2
-    place-has S o size done (RepeatPrev n) m p l h = absurd h.2
-    place-has S o size done (IsRef r) m p l h = item-has S o size done (IsRef r) m p l h.0 h.1
-    place-has S o size done (Repeat n k) m p l h = item-has S o size done (Repeat n k) m p l h.0 h.1
-    place-has S o size done (IsRaw r) m p l h = item-has S o size done (IsRaw r) m p l h.0 h.1
-    place-has S o size done ClearedWeak m p l h = item-has S o size done ClearedWeak m p l h.0 h.1
-    place-has S o size done (WeakRef k) m p l h = item-has S o size done (WeakRef k) m p l h.0 h.1
-    place-has S o size done (PendingRef n) m p l h = item-has S o size done (PendingRef n) m p l h.0 h.1
+    place_has S o size done (Skip n) m p l h = absurd h.2
+    place_has S o size done (StreamBytes n) m p l h = absurd h.2
+    place_has S o size done (RepeatPrev n) m p l h = absurd h.2
+    place_has S o size done (IsRef r) m p l h = item_has S o size done (IsRef r) m p l h.0 h.1
+    place_has S o size done (Repeat n k) m p l h = item_has S o size done (Repeat n k) m p l h.0 h.1
+    place_has S o size done (IsRaw r) m p l h = item_has S o size done (IsRaw r) m p l h.0 h.1
+    place_has S o size done ClearedWeak m p l h = item_has S o size done ClearedWeak m p l h.0 h.1
+    place_has S o size done (WeakRef k) m p l h = item_has S o size done (WeakRef k) m p l h.0 h.1
+    place_has S o size done (PendingRef n) m p l h = item_has S o size done (PendingRef n) m p l h.0 h.1
 
     -- ---- an object, whose references r reads
 
-    closed-has : (S : List Frame) (o tag size done : ℕ) (m : Mem) → Good (frame o size done ∷ S) m → Gives (Has S) (closed o tag size done m)
-    closed-has S o tag size done m g =
+    closed_has : (S : List Frame) (o tag size done : ℕ) (m : Mem) → Good (frame o size done ∷ S) m → Gives (Has S) (closed o tag size done m)
+    closed_has S o tag size done m g =
         gives-choose (Has S) (eqb done size) _ _ m
         (λ t. let i : I S m = rules.on_close S m o size g.0.open_below.0 (subst (λ (d : ℕ). I (frame o size d ∷ S) m) (eqb-true _ _ t) g.1) in
         gives (Has S) _ _ ((base_close x S o size done m g.0, i), rules.on_object S m o i g.0.open_below.0, tt))
         (λ t. refused (Has S) _ _ _)
 
     module _ (r : Reader SlotValue) (has : (S : List Frame) (m : Mem) → Good S m → Gives (Has S) (r m)) where
-      read-map-has : (S : List Frame) (space size o : ℕ) (m : Mem) → Good S m → Gives (Has S) (read_map x r space size o m)
-      read-map-has S space size o m g =
+      read_map_has : (S : List Frame) (space size o : ℕ) (m : Mem) → Good S m → Gives (Has S) (read_map x r space size o m)
+      read_map_has S space size o m g =
           gives-choose (Has S) (is_map_first x.sheet) _ _ m (λ t. absurd (not_map_first x.sheet plainly t))
           (λ t. gives-choose (Has S) (is_legacy x.sheet) _ _ m (λ t. absurd (not_legacy x.sheet plainly t)) (λ t. has S m g))
 
-      items-have : (S : List Frame) (o size n done : ℕ) (m : Mem) → Read S o size done m → Gives (Read S o size) (items x r o size n done m)
+      items_have : (S : List Frame) (o size n done : ℕ) (m : Mem) → Read S o size done m → Gives (Read S o size) (items x r o size n done m)
       unfolding items
-      items-have S o size zero done m g = gives (Read S o size) _ _ g
-      items-have S o size (suc n) done m g =
+      items_have S o size zero done m g = gives (Read S o size) _ _ g
+      items_have S o size (suc n) done m g =
           let F : List Frame = frame o size done ∷ S in
           let Q : ℕ → Mem → Type 0 = Read S o size in
           gives-choose Q (leb size done) _ _ m (λ t. gives Q _ _ g)
           (λ t. gives-choose Q (is_deferred x.sheet (peek x m)) _ _ m (λ t. absurd (not_deferred x bytes plainly m t))
           (λ u. gives_then Q Q ((r >>= place_item x o done) m) _
-          (gives_then (Has F) Q (r m) _ (has F m g.0) (λ v m h. place-has S o size done v m g.1 (leb-false _ _ t) h))
-          (λ d m h. items-have S o size n d m h)))
+          (gives_then (Has F) Q (r m) _ (has F m g.0) (λ v m h. place_has S o size done v m g.1 (leb-false _ _ t) h))
+          (λ d m h. items_have S o size n d m h)))
 
       body_has : (S : List Frame) (space tag words o : ℕ) (m : Mem) → Good (frame o (words * word x) 0 ∷ S) m → Gives (Has S) (body x r space tag words o m)
       unfolding body
@@ -176,16 +176,16 @@ module _ (x : Input) (bytes : Bytes x.payload) (plainly : PlainSheet x.sheet) wh
           gives_then Q (Has S) ((read_map x r space size o >>= keep_map x o >> (λ m. resolves x o (length x.payload - m.at) m) >> (λ m. items x r o size (length x.payload - m.at + 1) (word x) m)) m) _
           (gives_then (Had T) Q ((read_map x r space size o >>= keep_map x o >> (λ m. resolves x o (length x.payload - m.at) m)) m) _
           (gives_then (Had T) (Had T) ((read_map x r space size o >>= keep_map x o) m) _
-          (gives_then (Has F) (Had T) (read_map x r space size o m) _ (read-map-has F space size o m g) (λ v m h. map-has S o size v m h.0 h.1))
-          (λ u m h. resolves-have S o size (word x) (length x.payload - m.at) m h))
-          (λ u m h. items-have S o size (length x.payload - m.at + 1) (word x) m (h, word_pos x.sheet plainly)))
-          (λ d m h. closed-has S o tag size d m h.0)
+          (gives_then (Has F) (Had T) (read_map x r space size o m) _ (read_map_has F space size o m g) (λ v m h. map_has S o size v m h.0 h.1))
+          (λ u m h. resolves_have S o size (word x) (length x.payload - m.at) m h))
+          (λ u m h. items_have S o size (length x.payload - m.at + 1) (word x) m (h, word_pos x.sheet plainly)))
+          (λ d m h. closed_has S o tag size d m h.0)
 
-      pub object-has : (S : List Frame) (space tag : ℕ) (m : Mem) → OpensAt x tag → Good S m → Gives (Has S) (object x r space tag m)
+      pub object_has : (S : List Frame) (space tag : ℕ) (m : Mem) → OpensAt x tag → Good S m → Gives (Has S) (object x r space tag m)
       unfolding object
-      object-has S space tag m q g =
-          gives_then (λ n. Good S) (Has S) (int x m) _ (int-has S m g)
+      object_has S space tag m q g =
+          gives_then (λ n. Good S) (Has S) (int x m) _ (int_has S m g)
           (λ words m h. let Q : ℕ → Mem → Type 0 = λ o. Good (frame o (words * word x) 0 ∷ S) in
           gives_then Q (Has S) ((large_byte x space >> add_object x tag words) m) _
-          (gives_then (Had S) Q (large_byte x space m) _ (large-has S space m h) (λ u m h. open-has S tag words m q h))
+          (gives_then (Had S) Q (large_byte x space m) _ (large_has S space m h) (λ u m h. open_has S tag words m q h))
           (λ o m h. body_has S space tag words o m h))

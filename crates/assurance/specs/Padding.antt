@@ -42,18 +42,18 @@ module _ (x : Input) where
 
   -- something else: it is refused
   module _ (modern : is_legacy x.sheet ≡ false) where
-    padding-else : (n : ℕ) (m m₂ : Mem) → m.at < length x.payload → padding x (suc n) m ≡ got tt m₂ → get_or x.payload m.at 0 ≡ number x.sheet k_nop
+    padding_else : (n : ℕ) (m m₂ : Mem) → m.at < length x.payload → padding x (suc n) m ≡ got tt m₂ → get_or x.payload m.at 0 ≡ number x.sheet k_nop
     unfolding padding
-    padding-else n m m₂ l e = go (byte x >> padding x n) (eqb (number x.sheet k_nop) (get_or x.payload m.at 0)) refl (rw (lt-leb (length x.payload) m.at l, nop_peek m l, modern) at e)
+    padding_else n m m₂ l e = go (byte x >> padding x n) (eqb (number x.sheet k_nop) (get_or x.payload m.at 0)) refl (rw (lt-leb (length x.payload) m.at l, nop_peek m l, modern) at e)
       where
         go : (f : Reader (Unit {0})) (t : Bool) → eqb (number x.sheet k_nop) (get_or x.payload m.at 0) ≡ t → choose t f (λ m. no 14 m.at m) m ≡ got tt m₂ → get_or x.payload m.at 0 ≡ number x.sheet k_nop
         go f true t e = sym (eqb-true _ _ t)
         go f false t e = absurd (let z : ◌≡◌ {A = ℕ} 0 1 = cc in omega arith)
 
-    pub padding-only : (n : ℕ) (m m₂ : Mem) → length x.payload ≡ m.at + n → padding x n m ≡ got tt m₂ → Padded x.sheet x.payload m.at
-    padding-only zero m m₂ s e i l b = absurd (omega arith)
-    padding-only (suc n) m m₂ s e i l b =
-        let nop : get_or x.payload m.at 0 ≡ number x.sheet k_nop = padding-else n m m₂ (omega arith) e in
+    pub padding_only : (n : ℕ) (m m₂ : Mem) → length x.payload ≡ m.at + n → padding x n m ≡ got tt m₂ → Padded x.sheet x.payload m.at
+    padding_only zero m m₂ s e i l b = absurd (omega arith)
+    padding_only (suc n) m m₂ s e i l b =
+        let nop : get_or x.payload m.at 0 ≡ number x.sheet k_nop = padding_else n m m₂ (omega arith) e in
         ⊎_elim (λ z. subst (λ (i : ℕ). get_or x.payload i 0 ≡ number x.sheet k_nop) z nop)
-        (λ z. padding-only n (moved (m.at + 1) m) m₂ (omega arith) (sym (padding_nop n m (omega arith) nop) ∙ e) i (omega arith) b)
+        (λ z. padding_only n (moved (m.at + 1) m) m₂ (omega arith) (sym (padding_nop n m (omega arith) nop) ∙ e) i (omega arith) b)
         (eq-or-lt_of_le l)

@@ -65,9 +65,9 @@ module _ (v : List ℕ) (plainly : PlainSheet v) where
     pick_case true a b y n = y refl
     pick_case false a b y n = n
 
-    pub closing-case : (b : ℕ) → (eqb (number v k_synchronize) b ≡ true → P Synchronize) → ((a : ℕ) → P (Alignment a)) → P Reference → P (closing_of v b)
+    pub closing_case : (b : ℕ) → (eqb (number v k_synchronize) b ≡ true → P Synchronize) → ((a : ℕ) → P (Alignment a)) → P Reference → P (closing_of v b)
     unfolding closing_of
-    closing-case b s a r =
+    closing_case b s a r =
         pick_case (eqb (number v k_synchronize) b) _ _ s
         (pick_case (in_span v k_alignment_prefix 3 b) (Alignment (b - number v k_alignment_prefix + 1)) _ (λ t. a (b - number v k_alignment_prefix + 1))
         (pick_case (is_entry v b) (Deferred (b - number v k_new_object)) _ (λ t. absurd (not_legacy (and_left _ _ (and_left _ _ t)))) r))

@@ -11,7 +11,7 @@ use Rattle.assurance.specs.SimulateClosing.{walk-ended}
 use Rattle.assurance.specs.Words.{Accepted, events, EndsAt}
 use Rattle.assurance.specs.PlainSheet.{plain-gives}
 use Rattle.assurance.specs.Agree.{BeginsAs, Reaches, reaches}
-use Rattle.assurance.specs.Padding.{Padded, padding_all, padding-only}
+use Rattle.assurance.specs.Padding.{Padded, padding_all, padding_only}
 
 -- ---- calls
 
@@ -58,18 +58,18 @@ module _ (c : Call) (rooms : Rooms) (modern : is_legacy c.sheet ≡ false) (m : 
     known = reaches (input_of c) modern p' L rooms.objects ag rooms m refl passes.walks
 
     -- what follows the section only moves the cursor
-    last-move : m ≡ moved (length c.payload) known.end
-    last-move =
+    last_move : m ≡ moved (length c.payload) known.end
+    last_move =
         let z : length c.payload ≡ known.end.at + (length c.payload - known.end.at) = omega (arith, known.ended_there.within) in
-        let o : got tt m ≡ got tt (moved (length c.payload) known.end) = sym known.then_padding ∙ padding_all (input_of c) _ known.end z (padding-only (input_of c) modern _ known.end m z known.then_padding) in
+        let o : got tt m ≡ got tt (moved (length c.payload) known.end) = sym known.then_padding ∙ padding_all (input_of c) _ known.end z (padding_only (input_of c) modern _ known.end m z known.then_padding) in
         cc
 
-    told-end : m.log ≡ told (synchronize (known.end.at - 1) ∷ known.ended_there.before)
-    told-end = ap (λ m. m.log) last-move ∙ known.ended_there.told_last
+    told_end : m.log ≡ told (synchronize (known.end.at - 1) ∷ known.ended_there.before)
+    told_end = ap (λ m. m.log) last_move ∙ known.ended_there.told_last
 
     -- that is where the events say that it ends
     only_end : (q : ℕ) → EndsAt q (events c rooms) → q ≡ known.end.at - 1
-    only_end q t = let z : events c rooms ≡ synchronize (known.end.at - 1) ∷ known.ended_there.before = ap events_of e ∙ ap told_of told-end in subst (EndsAt q) z t
+    only_end q t = let z : events c rooms ≡ synchronize (known.end.at - 1) ∷ known.ended_there.before = ap events_of e ∙ ap told_of told_end in subst (EndsAt q) z t
 
   end_inside : (q : ℕ) → EndsAt q (events c rooms) → q < length c.payload
   end_inside q t =
@@ -89,9 +89,9 @@ module _ (c : Call) (rooms : Rooms) (modern : is_legacy c.sheet ≡ false) (m : 
     unfolding end
     end_is = omega (arith, only_end p' (q + 1) agree q at, (known p' (q + 1) agree).ended_there.behind)
 
-    second-graph : graph (with_payload p' c) rooms ≡ padding (input_of (with_payload p' c)) (length p' - end.at) end
+    second_graph : graph (with_payload p' c) rooms ≡ padding (input_of (with_payload p' c)) (length p' - end.at) end
     unfolding graph end
-    second-graph =
+    second_graph =
         called_in (with_payload p' c) (start rooms (told [])) passes.is_usable short passes.few
         ∙ walk-ended (input_of (with_payload p' c)) (start rooms (told []))
         ∙ ap (λ o. and_then o (λ _ m. padding (input_of (with_payload p' c)) (length p' - m.at) m)) ((known p' (q + 1) agree).second (omega (arith, end_is)))
@@ -100,16 +100,16 @@ module _ (c : Call) (rooms : Rooms) (modern : is_legacy c.sheet ≡ false) (m : 
     rest = omega (arith, end_is, agree.long')
 
     -- only kNop follows, if it is accepted
-    pub only-padding : (m' : Mem) → graph (with_payload p' c) rooms ≡ got tt m' → Padded c.sheet p' (q + 1)
-    only-padding m' f = rw end_is at (padding-only (input_of (with_payload p' c)) modern _ end m' rest (sym second-graph ∙ f))
+    pub only_padding : (m' : Mem) → graph (with_payload p' c) rooms ≡ got tt m' → Padded c.sheet p' (q + 1)
+    only_padding m' f = rw end_is at (padding_only (input_of (with_payload p' c)) modern _ end m' rest (sym second_graph ∙ f))
 
     -- and if only kNop follows, it is accepted, with all the same but the cursor at the finish: counts, tables, events
     pub same_graph : Padded c.sheet p' (q + 1) → graph (with_payload p' c) rooms ≡ got tt (moved (length p') m)
     unfolding end
     same_graph pad =
-        second-graph
+        second_graph
         ∙ padding_all (input_of (with_payload p' c)) _ end rest (rw end_is pad)
-        ∙ ap (λ m. got tt (moved (length p') m)) (sym (last-move p' (q + 1) agree))
+        ∙ ap (λ m. got tt (moved (length p') m)) (sym (last_move p' (q + 1) agree))
 
 -- ---- demand 3's last sentence, in its words
 
@@ -122,4 +122,4 @@ pub record Second (c : Call) (rooms : Rooms) (m : Mem) (q : ℕ) (p' : List ℕ)
 pub second_payload : (c : Call) (rooms : Rooms) (m : Mem) → Accepted c rooms m → (q : ℕ) → EndsAt q (events c rooms) → (p' : List ℕ) → length p' ≤ 16777216 → take (q + 1) p' ≡ take (q + 1) c.payload → Second c rooms m q p'
 second_payload c rooms m a q at p' short same =
     let modern : is_legacy c.sheet ≡ false = (plain-gives c.sheet a.plain_sheet).no_legacy in
-    record { only_if = only-padding c rooms modern m a.accepted q at p' short same; if_so = same_graph c rooms modern m a.accepted q at p' short same }
+    record { only_if = only_padding c rooms modern m a.accepted q at p' short same; if_so = same_graph c rooms modern m a.accepted q at p' short same }

@@ -10,7 +10,7 @@ use Rattle.definition.specs.Call.{Rooms, Call, input_of, told_of}
 use Rattle.assurance.specs.Steps.{Frame, frame, Rules, resolve_case}
 use Rattle.assurance.specs.PlainSheet.{PlainSheet}
 use Rattle.assurance.specs.Whole.{Any, End}
-use Rattle.assurance.specs.Induct.{plainly, graph-end}
+use Rattle.assurance.specs.Induct.{plainly, graph_end}
 use Rattle.assurance.specs.On.{On, on_note, on_note_two, on_map, on_told}
 use Rattle.assurance.specs.Words.{Accepted, RangesBelow, EndsAt}
 
@@ -87,4 +87,4 @@ ranges_of c bytes p m z =
 -- THE THEOREM
 pub ranges : (c : Call) (rooms : Rooms) (m : Mem) → Accepted c rooms m → Ranges c m
 unfolding RangesBelow
-ranges c rooms m a = ranges_of c a.bytes (plainly c rooms m a) m (graph-end c rooms m a Inv Any (rules (input_of c)) tt)
+ranges c rooms m a = ranges_of c a.bytes (plainly c rooms m a) m (graph_end c rooms m a Inv Any (rules (input_of c)) tt)

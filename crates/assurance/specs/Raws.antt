@@ -11,7 +11,7 @@ use Rattle.definition.specs.Memory.{Input, word, Kept, in_map, in_slot, in_value
 use Rattle.definition.specs.Call.{Rooms, Call, input_of, told_of}
 use Rattle.assurance.specs.Words.{Accepted, Told}
 use Rattle.assurance.specs.Steps.{Frame, frame, Rules, resolve_case}
-use Rattle.assurance.specs.Induct.{graph-has}
+use Rattle.assurance.specs.Induct.{graph_has}
 use Rattle.assurance.specs.On.{On, on_note, on_note_two, on_map, on_both, on_told, All, all_map, all_told}
 
 -- a value of kind 5 or 6
@@ -107,4 +107,4 @@ rules x =
 -- THE THEOREM
 pub raw_ranged : (c : Call) (rooms : Rooms) (m : Mem) → Accepted c rooms m → (v : Fields) (t : Kept) → Told (told_of m.log) (value v t) → IsRange v → Told (told_of m.log) (passed v.a v.b)
 unfolding All
-raw_ranged c rooms m a v t i = all_told (Ranged (told_of m.log)) (told_of m.log) (value v t) (on_told P m.log (graph-has c rooms m a Inv W (rules (input_of c)) tt)) i
+raw_ranged c rooms m a v t i = all_told (Ranged (told_of m.log)) (told_of m.log) (value v t) (on_told P m.log (graph_has c rooms m a Inv W (rules (input_of c)) tt)) i

@@ -30,7 +30,7 @@ use Rattle.assurance.specs.PlainHeads.{PlainHead, head_plain}
 use Rattle.assurance.specs.ByKind.{by_kind}
 use Rattle.assurance.specs.Gives.{Gives, gives, refused, gives_then, gives-choose, byte_gives}
 use Rattle.assurance.specs.Steps.{Frame, OpensAt, Rules, entering, numbering, passing, valuing, base_same}
-use Rattle.assurance.specs.Objects.{Good, Has, good-move, byte-has, int-has, object-has}
+use Rattle.assurance.specs.Objects.{Good, Has, good_move, byte_has, int_has, object_has}
 
 module _ (x : Input) (bytes : Bytes x.payload) (plainly : PlainSheet x.sheet) (I : List Frame → Mem → Type 0) (W : Mem → SlotValue → Type 0) (rules : Rules x I W) where
   abbrev G : List Frame → Mem → Type 0
@@ -42,37 +42,37 @@ module _ (x : Input) (bytes : Bytes x.payload) (plainly : PlainSheet x.sheet) (I
   -- ---- references without others in them
 
   module _ (S : List Frame) where
-    number-has : (m : Mem) → G S m → Gives (λ n. G S) (int x m)
-    number-has = int-has x bytes plainly I W rules S
+    number_has : (m : Mem) → G S m → Gives (λ n. G S) (int x m)
+    number_has = int_has x bytes plainly I W rules S
 
-    enter-has : (r : Ref) (m : Mem) → G S m → W m (IsRef r) → Gives (H S) (refers_hot r m)
-    enter-has r m g w =
+    enter_has : (r : Ref) (m : Mem) → G S m → W m (IsRef r) → Gives (H S) (refers_hot r m)
+    enter_has r m g w =
         let z = rules.on_enter S m r g.1 w in
         gives (H S) _ _ ((base_same x S m g.0 (entering r m) g.0.within refl refl refl, z.0), z.1, tt)
 
-    back-has : (i : ℕ) (m : Mem) → G S m → Gives (H S) (backref_to i m)
+    back_has : (i : ℕ) (m : Mem) → G S m → Gives (H S) (backref_to i m)
     unfolding backref_to
-    back-has i m g =
+    back_has i m g =
         gives-choose (H S) (ltb i m.objects.count) _ _ m
-        (λ t. enter-has (Object i) m g (rules.on_object S m i g.1 (ltb-true _ _ t))) (λ t. refused (H S) _ _ _)
+        (λ t. enter_has (Object i) m g (rules.on_object S m i g.1 (ltb-true _ _ t))) (λ t. refused (H S) _ _ _)
 
-    hot-has : (i : ℕ) (m : Mem) → i < 8 → G S m → Gives (H S) (hot_place i m)
-    hot-has i m l g = at (hot_at m.hot i) refl
+    hot_has : (i : ℕ) (m : Mem) → i < 8 → G S m → Gives (H S) (hot_place i m)
+    hot_has i m l g = at (hot_at m.hot i) refl
       where
         at : (h : Hot) → hot_at m.hot i ≡ h → Gives (H S) (of_hot h m)
         at (Is r) e = gives (H S) _ _ (g, rules.on_hot S m i r g.1 l e, tt)
         at Empty e = refused (H S) _ _ _
 
-    outside-has : (k : ℕ) (m : Mem) → G S m → Gives (H S) (outside x k m)
-    outside-has k m g = gives_then (λ n. G S) (H S) (int x m) _ (number-has m g) (λ i m h. gives (H S) _ _ (h, rules.on_read_only S m (2 ^ 32 - k) i h.1, tt))
+    outside_has : (k : ℕ) (m : Mem) → G S m → Gives (H S) (outside x k m)
+    outside_has k m g = gives_then (λ n. G S) (H S) (int x m) _ (number_has m g) (λ i m h. gives (H S) _ _ (h, rules.on_read_only S m (2 ^ 32 - k) i h.1, tt))
 
-    pending-has : (m : Mem) → G S m → Gives (H S) (pending_reference m)
+    pending_has : (m : Mem) → G S m → Gives (H S) (pending_reference m)
     unfolding pending_reference
-    pending-has m g = let z = rules.on_pending S m g.1 in gives (H S) _ _ ((base_same x S m g.0 (numbering m) g.0.within refl refl refl, z.0), z.1, tt)
+    pending_has m g = let z = rules.on_pending S m g.1 in gives (H S) _ _ ((base_same x S m g.0 (numbering m) g.0.within refl refl refl, z.0), z.1, tt)
 
-    raw-has : (n : ℕ) (advances : Bool) (m : Mem) → 1 ≤ n → G S m → Gives (H S) (raw_data x n advances m)
+    raw_has : (n : ℕ) (advances : Bool) (m : Mem) → 1 ≤ n → G S m → Gives (H S) (raw_data x n advances m)
     unfolding raw_data
-    raw-has n advances m l g = at (raw_at x.payload m.at n) (raw_ends x.payload m.at n)
+    raw_has n advances m l g = at (raw_at x.payload m.at n) (raw_ends x.payload m.at n)
       where
         at : (r : Range) → RawEnds x.payload m.at n r → Gives (H S) (after_raw n advances r m)
         at (RangeTo end) e =
@@ -83,22 +83,22 @@ module _ (x : Input) (bytes : Bytes x.payload) (plainly : PlainSheet x.sheet) (I
 
     -- ---- values
 
-    value-has : (v : SlotValue) (m : Mem) → G S m → W m v → Gives (λ k m. (G S m) × (W m (WeakRef k)) × ((n : ℕ) → W m (Repeat n k))) (add_value (fields_of v) m)
+    value_has : (v : SlotValue) (m : Mem) → G S m → W m v → Gives (λ k m. (G S m) × (W m (WeakRef k)) × ((n : ℕ) → W m (Repeat n k))) (add_value (fields_of v) m)
     unfolding add_value
-    value-has v m g w =
+    value_has v m g w =
         let Q : ℕ → Mem → Type 0 = λ k m. (G S m) × (W m (WeakRef k)) × ((n : ℕ) → W m (Repeat n k)) in
         gives-choose Q (has_room 3 m.values) _ _ m
         (λ t. let z = rules.on_value S m v g.1 w (ltb-true _ _ t) in gives Q _ _ ((base_same x S m g.0 (valuing (fields_of v) m) g.0.within refl refl refl, z.0), z.1, z.2))
         (λ t. refused Q _ _ _)
 
-    weak-has : (v : SlotValue) (m : Mem) → G S m → W m v → Gives (H S) (weak_of v m)
-    weak-has v m g w = gives_then (λ k m. (G S m) × (W m (WeakRef k)) × ((n : ℕ) → W m (Repeat n k))) (H S) (add_value (fields_of v) m) _ (value-has v m g w) (λ k m h. gives (H S) _ _ (h.0, h.1, tt))
+    weak_has : (v : SlotValue) (m : Mem) → G S m → W m v → Gives (H S) (weak_of v m)
+    weak_has v m g w = gives_then (λ k m. (G S m) × (W m (WeakRef k)) × ((n : ℕ) → W m (Repeat n k))) (H S) (add_value (fields_of v) m) _ (value_has v m g w) (λ k m h. gives (H S) _ _ (h.0, h.1, tt))
 
-    repeat-has : (n : ℕ) (v : SlotValue) (m : Mem) → G S m → W m v → Gives (H S) (repeat_of n v m)
-    repeat-has n v m g w = gives_then (λ k m. (G S m) × (W m (WeakRef k)) × ((n : ℕ) → W m (Repeat n k))) (H S) (add_value (fields_of v) m) _ (value-has v m g w) (λ k m h. gives (H S) _ _ (h.0, h.2 n, tt))
+    repeat_has : (n : ℕ) (v : SlotValue) (m : Mem) → G S m → W m v → Gives (H S) (repeat_of n v m)
+    repeat_has n v m g w = gives_then (λ k m. (G S m) × (W m (WeakRef k)) × ((n : ℕ) → W m (Repeat n k))) (H S) (add_value (fields_of v) m) _ (value_has v m g w) (λ k m h. gives (H S) _ _ (h.0, h.2 n, tt))
 
-    repeat-root-has : (n : ℕ) (m : Mem) → G S m → Gives (H S) (repeat_root x n m)
-    repeat-root-has n m g = gives_then (λ b. G S) (H S) (byte x m) _ (byte-has x bytes plainly I W rules S m g) (λ i m h. repeat-has n (IsRef (Root i)) m h (rules.on_root S m i h.1))
+    repeat_root_has : (n : ℕ) (m : Mem) → G S m → Gives (H S) (repeat_root x n m)
+    repeat_root_has n m g = gives_then (λ b. G S) (H S) (byte x m) _ (byte_has x bytes plainly I W rules S m g) (λ i m h. repeat_has n (IsRef (Root i)) m h (rules.on_root S m i h.1))
 
   -- ---- by the head's kind
 
@@ -108,46 +108,46 @@ module _ (x : Input) (bytes : Bytes x.payload) (plainly : PlainSheet x.sheet) (I
     Reads f = (m : Mem) → G S m → Gives (H S) (f m)
 
     with_number : (f : ℕ → Reader SlotValue) → ((n : ℕ) → Reads (f n)) → Reads (int x >>= f)
-    with_number f k m g = gives_then (λ n. G S) (H S) (int x m) f (number-has S m g) (λ n m h. k n m h)
+    with_number f k m g = gives_then (λ n. G S) (H S) (int x m) f (number_has S m g) (λ n m h. k n m h)
 
-    with-reference : (f : SlotValue → Reader SlotValue) → ((v : SlotValue) (m : Mem) → G S m → W m v → Gives (H S) (f v m)) → Reads (r >>= f)
-    with-reference f k m g = gives_then (H S) (H S) (r m) f (has S m g) (λ v m h. k v m h.0 h.1)
+    with_reference : (f : SlotValue → Reader SlotValue) → ((v : SlotValue) (m : Mem) → G S m → W m v → Gives (H S) (f v m)) → Reads (r >>= f)
+    with_reference f k m g = gives_then (H S) (H S) (r m) f (has S m g) (λ v m h. k v m h.0 h.1)
 
-    head-has : (b tag kind a : ℕ) → PlainHead x.sheet b (head kind a) → (opens x.sheet b ≡ true → OpensAt x tag) → Reads (by_head x r tag kind a)
-    head-has b tag kind a p o =
+    head_has : (b tag kind a : ℕ) → PlainHead x.sheet b (head kind a) → (opens x.sheet b ≡ true → OpensAt x tag) → Reads (by_head x r tag kind a)
+    head_has b tag kind a p o =
         by_kind x r tag kind a Reads p.kind
         (record {
-          new_object_lem = (λ e m g. object-has x bytes plainly I W rules r has S a tag m (o (p.new_object_lem e)) g);
-          back_reference = with_number _ (back-has S);
-          hot_place_lem = (λ e m g. hot-has S a m (p.place e) g);
-          root_array_lem = with_number _ (λ i m h. enter-has S (Root i) m h (rules.on_root S m i h.1));
+          new_object_lem = (λ e m g. object_has x bytes plainly I W rules r has S a tag m (o (p.new_object_lem e)) g);
+          back_reference = with_number _ (back_has S);
+          hot_place_lem = (λ e m g. hot_has S a m (p.place e) g);
+          root_array_lem = with_number _ (λ i m h. enter_has S (Root i) m h (rules.on_root S m i h.1));
           root_constant_lem = (λ m g. gives (H S) _ _ (g, rules.on_root S m a g.1, tt));
           read_only_heap = with_number _ (λ c. with_number _ (λ o m h. gives (H S) _ _ (h, rules.on_read_only S m c o h.1, tt)));
           attached_reference = with_number _ (λ i m h. gives (H S) _ _ (h, rules.on_attached S m i h.1, tt));
-          object_cache = outside-has S 1;
-          pending = pending-has S;
+          object_cache = outside_has S 1;
+          pending = pending_has S;
           cleared = (λ m g. gives (H S) _ _ (g, rules.on_cleared S m g.1, tt));
-          weak = with-reference _ (weak-has S);
+          weak = with_reference _ (weak_has S);
           pointer = has S;
           dispatch = with_number _ (λ i m h. gives (H S) _ _ (h, rules.on_cleared S m h.1, tt));
-          fixed_raw_lem = (λ e m g. raw-has S (a * word x) true m (words_pos x.sheet plainly a (p.raw e)) g);
-          variable_raw_lem = with_number _ (λ n m h. raw-has S (raw_bytes x n) (raw_advances x.sheet) m (omega arith) h);
-          fixed_repeat_lem = with-reference _ (repeat-has S a);
-          fixed_repeat_root_lem = repeat-root-has S a;
-          variable_repeat_lem = with_number _ (λ n. with-reference _ (repeat-has S (n + 18)));
-          variable_repeat_root_lem = with_number _ (λ n. repeat-root-has S (n + 18));
+          fixed_raw_lem = (λ e m g. raw_has S (a * word x) true m (words_pos x.sheet plainly a (p.raw e)) g);
+          variable_raw_lem = with_number _ (λ n m h. raw_has S (raw_bytes x n) (raw_advances x.sheet) m (omega arith) h);
+          fixed_repeat_lem = with_reference _ (repeat_has S a);
+          fixed_repeat_root_lem = repeat_root_has S a;
+          variable_repeat_lem = with_number _ (λ n. with_reference _ (repeat_has S (n + 18)));
+          variable_repeat_root_lem = with_number _ (λ n. repeat_root_has S (n + 18));
           refusal = (λ n m g. refused (H S) _ _ _);
         })
 
-    pub reference-has : (m : Mem) → (m.at < length x.payload → G S (moved (m.at + 1) m)) → Gives (H S) (reference x r m)
+    pub reference_has : (m : Mem) → (m.at < length x.payload → G S (moved (m.at + 1) m)) → Gives (H S) (reference x r m)
     unfolding reference
-    reference-has m g =
+    reference_has m g =
         let Q : ℕ → Mem → Type 0 = λ b m'. (G S m') × (opens x.sheet b ≡ true → OpensAt x m.at) in
         gives_then Q (H S) (byte x m) _ (byte_gives x Q m (λ l. (g l, λ e. (l, e))))
-        (λ b m' h. head-has b m.at (head_of x.sheet b).kind (head_of x.sheet b).argument (head_plain x.sheet plainly b) h.1 m' h.0)
+        (λ b m' h. head_has b m.at (head_of x.sheet b).kind (head_of x.sheet b).argument (head_plain x.sheet plainly b) h.1 m' h.0)
 
   -- THE THEOREM
   pub ref_has : (k : ℕ) (S : List Frame) (m : Mem) → G S m → Gives (H S) (ref_at x k m)
   unfolding ref_at
   ref_has zero S m g = refused (H S) _ _ _
-  ref_has (suc k) S m g = reference-has (ref_at x k) (ref_has k) S m (λ l. good-move x bytes plainly I W rules S m (m.at + 1) g (omega arith) (omega arith))
+  ref_has (suc k) S m g = reference_has (ref_at x k) (ref_has k) S m (λ l. good_move x bytes plainly I W rules S m (m.at + 1) g (omega arith) (omega arith))

@@ -11,7 +11,7 @@ use Rattle.definition.specs.Memory.{Input, word, in_map, in_slot, in_value, drop
 use Rattle.definition.specs.Slots.{resolved, waits_of}
 use Rattle.definition.specs.Call.{Rooms, Call, input_of, told_of}
 use Rattle.assurance.specs.Steps.{Frame, frame, Base, Rules, keeping_map, keeping_item, resolve_case}
-use Rattle.assurance.specs.Induct.{graph-has}
+use Rattle.assurance.specs.Induct.{graph_has}
 use Rattle.assurance.specs.On.{On, on_note, on_note_two, on_told, All}
 use Rattle.assurance.specs.EventRules.{waiter_is}
 use Rattle.assurance.specs.Waiting.{Waits, Fresh, waits_in, renumber, slot_waits, fill_waits, found}
@@ -154,5 +154,5 @@ pub referred : (c : Call) (rooms : Rooms) (m : Mem) → Accepted c rooms m → S
 unfolding All LeftPending FilledBy waits_in
 referred c rooms m a =
     on_told (Standing m.objects.count m.slots m.values) m.log
-    (graph-has c rooms m a Inv W (rules (input_of c))
+    (graph_has c rooms m a Inv W (rules (input_of c))
     (record { right = tt; left = (λ k n i. absurd i); resolved = (λ k n o i. absurd i) }, ring-start, record { numbered = (λ k l w. absurd (omega arith)); distinct = (λ j k l g w v e. absurd (omega arith)); counted = refl })).0

@@ -174,23 +174,23 @@ module _ (x : Input) where
 
   -- r reads references, one level deeper
   module _ (r : Reader SlotValue) (h : R r) where
-    map-known : (space bytes o : ℕ) → R (read_map x r space bytes o)
+    map_known : (space bytes o : ℕ) → R (read_map x r space bytes o)
     unfolding map_first
-    map-known space bytes o m =
+    map_known space bytes o m =
         let back : Reader (Unit {0}) = change (aligned m.alignment) in
         let chunks : Reader (Unit {0}) = λ m. chunk_changes x space (length x.payload - m.at) m in
         pick (is_map_first x.sheet) _ _ m
         (λ _. seq r (λ v. back >> alignment_byte x >> chunks >> allocate x space bytes o >> give v) h
         (λ v. next (back >> alignment_byte x >> chunks >> allocate x space bytes o) (give v)
-        (next (back >> alignment_byte x >> chunks) (allocate x space bytes o) (next (back >> alignment_byte x) chunks (next back (alignment_byte x) (λ m. tt) align-known) (λ m. chunks_known space (length x.payload - m.at) m)) (allocate_known space bytes o)) (λ m. tt)) m)
+        (next (back >> alignment_byte x >> chunks) (allocate x space bytes o) (next (back >> alignment_byte x) chunks (next back (alignment_byte x) (λ m. tt) align_known) (λ m. chunks_known space (length x.payload - m.at) m)) (allocate_known space bytes o)) (λ m. tt)) m)
         (λ _. pick (is_legacy x.sheet) _ _ m (λ _. seq r _ h (λ v. next (allocate x space bytes o) _ (allocate_known space bytes o) (λ m. tt)) m) (λ _. h m))
       where
-        align-known : R (alignment_byte x)
-        align-known m = pick (eqb (alignment_of x.sheet (peek x m)) 0) _ _ m (λ _. tt) (λ _. tt)
+        align_known : R (alignment_byte x)
+        align_known m = pick (eqb (alignment_of x.sheet (peek x m)) 0) _ _ m (λ _. tt) (λ _. tt)
 
-    keepMap-known : (o : ℕ) (v : SlotValue) → R (keep_map x o v)
+    keep_map_known : (o : ℕ) (v : SlotValue) → R (keep_map x o v)
     unfolding keep_map flag_object
-    keepMap-known o v =
+    keep_map_known o v =
         seq (flag_object x o v >> add_slot o 0 (fields_of v) 0 in_map) _
         (next (flag_object x o v) _ (λ m. pick (flags x v) _ _ m (λ _. tt) (λ _. tt)) (slot_known o 0 (fields_of v) 0 in_map)) (λ k m. tt)
 
@@ -202,49 +202,49 @@ module _ (x : Input) where
         next (add >>= told >> change (with_skip 0)) (give (done + m.skip + width_of (word x) v))
         (next (add >>= told) (change (with_skip 0)) (seq add told (slot_known o ((done + m.skip) / word x) (fields_of v) (waits_of v) in_slot) (λ k m. tt)) (λ m. tt)) (λ m. tt) m
 
-    place-known : (o done : ℕ) (v : SlotValue) → R (place_item x o done v)
+    place_known : (o done : ℕ) (v : SlotValue) → R (place_item x o done v)
     unfolding place_item
-    place-known o done (Skip n) m = tt
-    place-known o done (StreamBytes n) m = tt
-    place-known o done (RepeatPrev n) m = then_known (add_value (previous m.slots) m) (λ k. keep_item x o done (Repeat n k)) (value_known (previous m.slots) m) (λ k. keep_known o done (Repeat n k))
-    place-known o done (IsRef q) m = keep_known o done (IsRef q) m
-    place-known o done (Repeat n k) m = keep_known o done (Repeat n k) m
-    place-known o done (Raw q) m = keep_known o done (Raw q) m
-    place-known o done ClearedWeak m = keep_known o done ClearedWeak m
-    place-known o done (WeakRef k) m = keep_known o done (WeakRef k) m
-    place-known o done (PendingRef n) m = keep_known o done (PendingRef n) m
+    place_known o done (Skip n) m = tt
+    place_known o done (StreamBytes n) m = tt
+    place_known o done (RepeatPrev n) m = then_known (add_value (previous m.slots) m) (λ k. keep_item x o done (Repeat n k)) (value_known (previous m.slots) m) (λ k. keep_known o done (Repeat n k))
+    place_known o done (IsRef q) m = keep_known o done (IsRef q) m
+    place_known o done (Repeat n k) m = keep_known o done (Repeat n k) m
+    place_known o done (Raw q) m = keep_known o done (Raw q) m
+    place_known o done ClearedWeak m = keep_known o done ClearedWeak m
+    place_known o done (WeakRef k) m = keep_known o done (WeakRef k) m
+    place_known o done (PendingRef n) m = keep_known o done (PendingRef n) m
 
-    items-known : (o size n done : ℕ) → R (items x r o size n done)
+    items_known : (o size n done : ℕ) → R (items x r o size n done)
     unfolding items
-    items-known o size zero done m = tt
-    items-known o size (suc n) done m =
+    items_known o size zero done m = tt
+    items_known o size (suc n) done m =
         pick (leb size done) _ _ m (λ _. tt)
         (λ _. pick (is_deferred x.sheet (peek x m)) _ _ m (λ _. next (byte x) _ (byte_known x) (λ m. tt) m)
-        (λ _. seq (r >>= place_item x o done) _ (seq r _ h (place-known o done)) (λ d. items-known o size n d) m))
+        (λ _. seq (r >>= place_item x o done) _ (seq r _ h (place_known o done)) (λ d. items_known o size n d) m))
 
-    object-known : (space tag : ℕ) → R (object x r space tag)
+    object_known : (space tag : ℕ) → R (object x r space tag)
     unfolding object body
-    object-known space tag =
+    object_known space tag =
         seq (int x) _ (int_known x)
         (λ words. seq (large_byte x space >> add_object x tag words) _ (next (large_byte x space) _ (large_known space) (object_added tag words))
         (λ o. seq (read_map x r space (words * word x) o >>= keep_map x o >> (λ m. resolves x o (length x.payload - m.at) m) >> (λ m. items x r o (words * word x) (length x.payload - m.at + 1) (word x) m)) _
         (next (read_map x r space (words * word x) o >>= keep_map x o >> (λ m. resolves x o (length x.payload - m.at) m)) _
-        (next (read_map x r space (words * word x) o >>= keep_map x o) _ (seq (read_map x r space (words * word x) o) _ (map-known space (words * word x) o) (keepMap-known o)) (λ m. resolves_known o _ m))
-        (λ m. items-known o (words * word x) _ (word x) m))
+        (next (read_map x r space (words * word x) o >>= keep_map x o) _ (seq (read_map x r space (words * word x) o) _ (map_known space (words * word x) o) (keep_map_known o)) (λ m. resolves_known o _ m))
+        (λ m. items_known o (words * word x) _ (word x) m))
         (λ done m. pick (eqb done (words * word x)) _ _ m (λ _. tt) (λ _. omega arith))))
 
     -- ---- a reference
 
-    held-known : (n : ℕ) (v : SlotValue) → R (repeat_of n v)
-    held-known n v = seq (add_value (fields_of v)) _ (value_known (fields_of v)) (λ k m. tt)
+    held_known : (n : ℕ) (v : SlotValue) → R (repeat_of n v)
+    held_known n v = seq (add_value (fields_of v)) _ (value_known (fields_of v)) (λ k m. tt)
 
-    root-known : (n : ℕ) → R (repeat_root x n)
-    root-known n = seq (byte x) _ (byte_known x) (λ i. held-known n (IsRef (Root i)))
+    root_known : (n : ℕ) → R (repeat_root x n)
+    root_known n = seq (byte x) _ (byte_known x) (λ i. held_known n (IsRef (Root i)))
 
-    byHead-known : (tag kind a : ℕ) → R (by_head x r tag kind a)
+    by_head_known : (tag kind a : ℕ) → R (by_head x r tag kind a)
     unfolding by_head
-    byHead-known tag kind a m =
-        by new_object _ _ (object-known a tag m)
+    by_head_known tag kind a m =
+        by new_object _ _ (object_known a tag m)
         (by backref _ _ (seq (int x) _ (int_known x) backref_to_known m)
         (by legacy_backref _ _ (legacy_known x a m)
         (by legacy_backref_with_skip _ _ (next (skip_amount x) _ (skip_known x) (legacy_known x a) m)
@@ -274,26 +274,26 @@ module _ (x : Input) where
         (by fixed_raw _ _ (raw_known x _ _ m)
         (by variable_raw _ _ (seq (int x) _ (int_known x) (λ n. raw_known x _ _) m)
         (by skip _ _ (seq (int x) _ (int_known x) (λ n m. tt) m)
-        (by fixed_repeat _ _ (seq r _ h (held-known a) m)
-        (by fixed_repeat_root _ _ (root-known a m)
+        (by fixed_repeat _ _ (seq r _ h (held_known a) m)
+        (by fixed_repeat_root _ _ (root_known a m)
         (by repeat_previous _ _ tt
-        (by variable_repeat _ _ (seq (int x) _ (int_known x) (λ n. seq r _ h (held-known (n + 18))) m)
+        (by variable_repeat _ _ (seq (int x) _ (int_known x) (λ n. seq r _ h (held_known (n + 18))) m)
         (by variable_repeat_previous _ _ (seq (int x) _ (int_known x) (λ n m. tt) m)
-        (by variable_repeat_root _ _ (seq (int x) _ (int_known x) (λ n. root-known (n + 18)) m)
+        (by variable_repeat_root _ _ (seq (int x) _ (int_known x) (λ n. root_known (n + 18)) m)
         (by meta_map _ _ (omega arith)
         (omega arith)))))))))))))))))))))))))))))))))))))
       where
         by : (k : ℕ) (f g : Reader SlotValue) → Known (f m) → Known (g m) → Known (choose (eqb kind k) f g m)
         by k f g y z = pick (eqb kind k) f g m (λ _. y) (λ _. z)
 
-    reference-known : R (reference x r)
+    reference_known : R (reference x r)
     unfolding reference
-    reference-known m = then_known (byte x m) _ (byte_known x m) (λ b. byHead-known m.at (head_of x.sheet b).kind (head_of x.sheet b).argument)
+    reference_known m = then_known (byte x m) _ (byte_known x m) (λ b. by_head_known m.at (head_of x.sheet b).kind (head_of x.sheet b).argument)
 
   ref_known : (k : ℕ) → R (ref_at x k)
   unfolding ref_at
   ref_known zero m = omega arith
-  ref_known (suc k) m = reference-known (ref_at x k) (ref_known k) m
+  ref_known (suc k) m = reference_known (ref_at x k) (ref_known k) m
 
   -- ---- the closing section. A deferred entry may refuse without a number, but that only ends a legacy section
 
@@ -341,7 +341,7 @@ module _ (x : Input) where
   unfolding walk closing
   walk_known =
       next (byte x >>= (λ b. choose (opens x.sheet b) (object x (ref_at x 64) (top_space x b) 0) (refuse_at 5 0))) _
-      (seq (byte x) _ (byte_known x) (λ b m. pick (opens x.sheet b) _ _ m (λ _. object-known (ref_at x 64) (ref_known 64) (top_space x b) 0 m) (λ _. omega arith)))
+      (seq (byte x) _ (byte_known x) (λ b m. pick (opens x.sheet b) _ _ m (λ _. object_known (ref_at x 64) (ref_known 64) (top_space x b) 0 m) (λ _. omega arith)))
       (next (λ m. entries x (length x.payload - m.at + 1) m) _ (λ m. entries_known _ m) (λ m. padding_known _ m))
 
 -- THE THEOREM, for every call

@@ -151,8 +151,8 @@ module _ (S : Pair) where
         go (no n q m₂) w = stops w.seen.0 (λ v. e (S.compared_shared n v m.at) ∙ w.seen.1 v)
 
     -- less may be said
-    pub lower-at : {o o' : Out A} → Follows S d P m o o' → Follows S 0 Any m o o'
-    lower-at {o} {o'} w = go o w
+    pub lower_at : {o o' : Out A} → Follows S d P m o o' → Follows S 0 Any m o o'
+    lower_at {o} {o'} w = go o w
       where
         go : (o : Out A) → Follows S d P m o o' → Follows S 0 Any m o o'
         go (got a m₂) w =
@@ -160,9 +160,9 @@ module _ (S : Pair) where
             record { seen = record { fit = w.seen.fit; value = tt; up = omega arith; same = w.seen.same } }
         go (no n q m₂) w = record { seen = w.seen }
 
-    pub choose-at : (t : Bool) (f g f' g' : Reader A) → (t ≡ true → Follows S d P m (f m) (f' (φ S m))) → (t ≡ false → Follows S d P m (g m) (g' (φ S m))) → Follows S d P m (choose t f g m) (choose t f' g' (φ S m))
-    choose-at true f g f' g' y n = y refl
-    choose-at false f g f' g' y n = n refl
+    pub choose_at : (t : Bool) (f g f' g' : Reader A) → (t ≡ true → Follows S d P m (f m) (f' (φ S m))) → (t ≡ false → Follows S d P m (g m) (g' (φ S m))) → Follows S d P m (choose t f g m) (choose t f' g' (φ S m))
+    choose_at true f g f' g' y n = y refl
+    choose_at false f g f' g' y n = n refl
 
   pub then_at : {A B : Type 0} {d : ℕ} {P : A → Type 0} {Q : B → Type 0} {m : Mem} {o o' : Out A} (f f' : A → Reader B) → Follows S d P m o o' → ((a : A) (m₁ : Mem) → Fits S m₁ → P a → d + m.at ≤ m₁.at → Follows S 0 Q m₁ (f a m₁) (f' a (φ S m₁))) → Follows S d Q m (and_then o f) (and_then o' f')
   then_at {A = A} {d = d} {P} {Q} {m} {o} {o'} f f' w g = go o w
@@ -176,7 +176,7 @@ module _ (S : Pair) where
   then_law {f = f} {f'} w g = record { at_law = (λ m fit. then_at f f' (w.at_law m fit) (λ a m₁ fit₁ p l. (g a p).at_law m₁ fit₁)) }
 
   pub lower : {A : Type 0} {d : ℕ} {P : A → Type 0} {r r' : Reader A} → Alike S d P r r' → Alike S 0 Any r r'
-  lower w = record { at_law = (λ m fit. lower-at (w.at_law m fit)) }
+  lower w = record { at_law = (λ m fit. lower_at (w.at_law m fit)) }
 
   pub seq_law : {A B : Type 0} {d : ℕ} {P : A → Type 0} {Q : B → Type 0} {r r' : Reader A} {s s' : Reader B} → Alike S d P r r' → Alike S 0 Q s s' → Alike S d Q (r >> s) (r' >> s')
   seq_law w g = then_law w (λ a p. g)

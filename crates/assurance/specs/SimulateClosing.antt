@@ -22,7 +22,7 @@ use Rattle.definition.specs.Reference.{ref_at}
 use Rattle.definition.specs.Closing.{entry_fields, add_slots, entry_slots, entry_count, entry_item, entry_items, entry_body, entry_of, entry, drop_reference, ends_legacy, after_entry, by_entry, entries, padding, closing}
 use Rattle.definition.specs.Call.{top_space, walk}
 use Rattle.assurance.specs.Wider.{wide_get}
-use Rattle.assurance.specs.Simulate.{wider, Pair, x', φ, Recorded, Fits, fit_moved, fit_noted, Follows, Alike, Any, gives, via, choose-at, then_at, then_law, seq_law, lower-at, choose_law, give_law, refuse_law, refuse_at_law, change_law, tell_law, byte_law, int_law, peek_same}
+use Rattle.assurance.specs.Simulate.{wider, Pair, x', φ, Recorded, Fits, fit_moved, fit_noted, Follows, Alike, Any, gives, via, choose_at, then_at, then_law, seq_law, lower_at, choose_law, give_law, refuse_law, refuse_at_law, change_law, tell_law, byte_law, int_law, peek_same}
 use Rattle.assurance.specs.SimulateSteps.{add_slot_law}
 use Rattle.assurance.specs.SimulateLegacy.{legacy_reference_law}
 use Rattle.assurance.specs.SimulateReaders.{legacy-ends, object_law, ref_at_law}
@@ -108,8 +108,8 @@ module _ (S : Pair) where
   entry_items_law o size (suc n) n' index done m recorded fuel fit =
       via S
       (λ v. entry_items_in (x' S) o size n' (n' - 1) index done (φ S m) (S.fuel_more 1 m.at n n' v fuel))
-      (choose-at S (leb size done) _ _ _ _ (λ _. (give_law S {P = Any} tt tt).at_law m fit)
-      (λ _. lower-at S
+      (choose_at S (leb size done) _ _ _ _ (λ _. (give_law S {P = Any} tt tt).at_law m fit)
+      (λ _. lower_at S
       (then_at S _ _ ((ref_at_law S 64).at_law m fit)
       (λ v m₁ fit₁ _ up. then_at S _ _ ((entry_item_law o index v recorded).at_law m₁ fit₁)
       (λ a m₂ fit₂ _ up₂. entry_items_law o size n (n' - 1) (index + entry_slots S.x v) (done + entry_count S.x v) m₂ recorded (S.fuel_step 1 m.at m₂.at n n' (omega arith) fuel) fit₂)))))
@@ -149,8 +149,8 @@ module _ (S : Pair) where
       go (no n q m₂) w = record { seen = (w.seen.0, λ v. e (S.compared_shared n v m₁.at) ∙ w.seen.1 v) }
 
   module _ {A : Type 0} {d : ℕ} {P : A → Type 0} {m : Mem} where
-    then-ends : {o o' : Out A} (f f' : A → Reader (Unit {0})) → Follows S d P m o o' → ((a : A) (m₁ : Mem) → Fits S m₁ → d + m.at ≤ m₁.at → Ends S m₁ (f a m₁) (f' a (φ S m₁))) → Ends S m (and_then o f) (and_then o' f')
-    then-ends {o} {o'} f f' w g = go o w
+    then_ends : {o o' : Out A} (f f' : A → Reader (Unit {0})) → Follows S d P m o o' → ((a : A) (m₁ : Mem) → Fits S m₁ → d + m.at ≤ m₁.at → Ends S m₁ (f a m₁) (f' a (φ S m₁))) → Ends S m (and_then o f) (and_then o' f')
+    then_ends {o} {o'} f f' w g = go o w
       where
         go : (o : Out A) → Follows S d P m o o' → Ends S m (and_then o f) (and_then o' f')
         go (got a m₁) w = let u : d + m.at ≤ m₁.at = w.seen.up in join_ends {m₁ = m₁} (omega arith) (λ v. ap (λ o. and_then o f') (w.seen.same v)) (g a m₁ w.seen.fit u)
@@ -178,7 +178,7 @@ module _ (S : Pair) where
         );
       })
   by_entry_ends k k' (Alignment a) m fit l g =
-      then-ends _ _ ((seq_law S (byte_law S) (change_law S (aligned a) (aligned a) (λ m fit. fit) (λ m. omega arith) (λ m fit. refl))).at_law m fit) (λ _ m₁ fit₁ up. g m₁ fit₁ (omega arith))
+      then_ends _ _ ((seq_law S (byte_law S) (change_law S (aligned a) (aligned a) (λ m fit. fit) (λ m. omega arith) (λ m fit. refl))).at_law m fit) (λ _ m₁ fit₁ up. g m₁ fit₁ (omega arith))
   by_entry_ends k k' (Deferred space) m fit l g = after_ends k k' ((entry_law space).at_law m fit) g
   by_entry_ends k k' Reference m fit l g = after_ends k k' (drop_reference_law.at_law m fit) g
 
@@ -212,7 +212,7 @@ module _ (S : Pair) where
 
   pub ended_law : (m : Mem) → Fits S m → Ends S m (ended S.x m) (ended (x' S) (φ S m))
   ended_law m fit =
-      then-ends (λ _ m. entries S.x (length S.x.payload - m.at + 1) m) (λ _ m. entries (x' S) (length S.p' - m.at + 1) m)
+      then_ends (λ _ m. entries S.x (length S.x.payload - m.at + 1) m) (λ _ m. entries (x' S) (length S.p' - m.at + 1) m)
       (front_law.at_law m fit) (λ _ m₁ fit₁ up. entries_ends _ _ m₁ (S.fuel_spare m₁.at) fit₁)
 
   -- ---- a whole walk of the same payload
@@ -223,10 +223,10 @@ module _ (S : Pair) where
     padding-law zero m fit = (give_law S {P = Any} tt tt).at_law m fit
     padding-law (suc n) m fit =
         via S (λ v. rw same)
-        (choose-at S (leb (length S.x.payload) m.at) _ _ (give tt) (choose (is_nop S.x.sheet (peek S.x m)) (byte (x' S) >> padding (x' S) n) (choose (is_legacy S.x.sheet) (give tt) (refuse 14)))
+        (choose_at S (leb (length S.x.payload) m.at) _ _ (give tt) (choose (is_nop S.x.sheet (peek S.x m)) (byte (x' S) >> padding (x' S) n) (choose (is_legacy S.x.sheet) (give tt) (refuse 14)))
         (λ _. (give_law S {P = Any} tt tt).at_law m fit)
-        (λ _. choose-at S (is_nop S.x.sheet (peek S.x m)) _ _ (byte (x' S) >> padding (x' S) n) (choose (is_legacy S.x.sheet) (give tt) (refuse 14))
-        (λ _. lower-at S (then_at S _ (λ _. padding (x' S) n) ((byte_law S).at_law m fit) (λ _ m₁ fit₁ _ up. padding-law n m₁ fit₁)))
+        (λ _. choose_at S (is_nop S.x.sheet (peek S.x m)) _ _ (byte (x' S) >> padding (x' S) n) (choose (is_legacy S.x.sheet) (give tt) (refuse 14))
+        (λ _. lower_at S (then_at S _ (λ _. padding (x' S) n) ((byte_law S).at_law m fit) (λ _ m₁ fit₁ _ up. padding-law n m₁ fit₁)))
         (λ _. (choose_law S (is_legacy S.x.sheet) (give_law S {P = Any} tt tt) (refuse_law S 14)).at_law m fit)))
 
     pub walk-law : (m : Mem) → Fits S m → Same S (walk S.x m) (walk (x' S) (φ S m))

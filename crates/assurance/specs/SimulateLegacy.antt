@@ -110,22 +110,22 @@ module _ (S : Pair) where
   by_number_finds Nothing next i recorded = (λ v. refl, i)
 
   module _ (v t : List ℕ) (k n alignment space : ℕ) (recorded : (i : ℕ) → i < n → Recorded S (field 5 t i 3)) where
-    placed-finds : (place : Place) (next : ℕ) → S.In next → Finds next (placed v t n alignment space place next) (placed v (wide k t) n alignment space place next)
-    placed-finds place next i =
+    placed_finds : (place : Place) (next : ℕ) → S.In next → Finds next (placed v t n alignment space place next) (placed v (wide k t) n alignment space place next)
+    placed_finds place next i =
         rw (resolve_of_same t (wide k t) (wide_get k t) n space place.chunk place.offset alignment (word_bytes v))
         (by_place_finds (resolve_of t n space place.chunk place.offset alignment (word_bytes v)) place next i (resolve_recorded S t n space place.chunk place.offset alignment (word_bytes v) recorded))
 
-    numbered-finds : (index next : ℕ) → S.In next → Finds next (numbered v t n space index next) (numbered v (wide k t) n space index next)
-    numbered-finds index next i =
+    numbered_finds : (index next : ℕ) → S.In next → Finds next (numbered v t n space index next) (numbered v (wide k t) n space index next)
+    numbered_finds index next i =
         rw (ordinal_from_same t (wide k t) (wide_get k t) (numbered_as v space) index 0 n)
         (by_number_finds (ordinal_from t (numbered_as v space) index 0 n) next i (ordinal_recorded S t (numbered_as v space) index 0 n (λ i l. recorded i (omega arith))))
 
-    backref-finds : (a : ℕ) → Finds a (backref_of v S.x.payload t n alignment space a) (backref_of v S.p' (wide k t) n alignment space a)
+    backref_finds : (a : ℕ) → Finds a (backref_of v S.x.payload t n alignment space a) (backref_of v S.p' (wide k t) n alignment space a)
     unfolding backref_of packed_backref plain_backref
-    backref-finds a =
+    backref_finds a =
         pick_finds a (is_six_x v) _ _ _ _
-        (with_int_finds a _ _ (λ v₁ next i. pick_finds next (eqb (numbered_as v space) 0) _ _ _ _ (placed-finds (unpacked v (index_of v v₁)) next i) (numbered-finds (index_of v v₁) next i)))
-        (with_int_finds a _ _ (λ first next i. pick_finds next (eqb (numbered_as v space) 0) _ _ _ _ (with_int_finds next _ _ (λ second after j. placed-finds (record { chunk = first; offset = second }) after j)) (numbered-finds first next i)))
+        (with_int_finds a _ _ (λ v₁ next i. pick_finds next (eqb (numbered_as v space) 0) _ _ _ _ (placed_finds (unpacked v (index_of v v₁)) next i) (numbered_finds (index_of v v₁) next i)))
+        (with_int_finds a _ _ (λ first next i. pick_finds next (eqb (numbered_as v space) 0) _ _ _ _ (with_int_finds next _ _ (λ second after j. placed_finds (record { chunk = first; offset = second }) after j)) (numbered_finds first next i)))
 
   pub legacy_reference_law : (space : ℕ) → Alike S 0 (RecordedValue S) (legacy_reference S.x space) (legacy_reference (x' S) space)
   unfolding legacy_reference
@@ -134,7 +134,7 @@ module _ (S : Pair) where
         at_law = (λ m fit.
             go m fit (backref_of S.x.sheet S.x.payload m.addresses.rows m.addresses.count m.alignment space m.at)
             (backref_of S.x.sheet S.p' (wide S.extra.addresses m.addresses.rows) m.addresses.count m.alignment space m.at)
-            (backref-finds S.x.sheet m.addresses.rows S.extra.addresses m.addresses.count m.alignment space fit.recorded m.at));
+            (backref_finds S.x.sheet m.addresses.rows S.extra.addresses m.addresses.count m.alignment space fit.recorded m.at));
       }
     where
       go : (m : Mem) → Fits S m → (b b' : Backref) → Finds m.at b b' → Follows S 0 (RecordedValue S) m (of_backref S.x b m) (of_backref (x' S) b' (φ S m))
@@ -185,17 +185,17 @@ module _ (S : Pair) (t : List ℕ) (n spaces : ℕ) (want : Request) (c : Legacy
   pick_rows false r s y n = n
 
   module _ (recorded : (j : ℕ) → j < n → Recorded S (field 5 t j 3)) (mine : Recorded S want.object) where
-    row-recorded : (space chunk offset placed : ℕ) → n < room 5 t → (j : ℕ) → j < n + 1 → Recorded S (field 5 (written t n (address_row space chunk offset want.object placed)) j 3)
-    row-recorded space chunk offset placed l j b =
+    row_recorded : (space chunk offset placed : ℕ) → n < room 5 t → (j : ℕ) → j < n + 1 → Recorded S (field 5 (written t n (address_row space chunk offset want.object placed)) j 3)
+    row_recorded space chunk offset placed l j b =
         let row : List ℕ = address_row space chunk offset want.object placed in
         ⊎_elim
         (λ e. rw (e, written_same t row n 3 (omega arith) l) mine)
         (λ b. rw (written_else t row n j 3 (omega arith) (λ e. omega arith)) (recorded j b))
         (let z : j ≤ n = omega arith in eq-or-lt_of_le z)
 
-    allocated-recorded : RecordedRows (allocate_of t n spaces want c)
+    allocated_recorded : RecordedRows (allocate_of t n spaces want c)
     unfolding allocate_of
-    allocated-recorded = go (leb (room 5 t) n) refl
+    allocated_recorded = go (leb (room 5 t) n) refl
       where
         go : (b : Bool) → leb (room 5 t) n ≡ b → RecordedRows (allocate_of t n spaces want c)
         go true e = rw (e) (λ z. absurd (omega arith))
@@ -203,9 +203,9 @@ module _ (S : Pair) (t : List ℕ) (n spaces : ℕ) (want : Request) (c : Legacy
             let l : n < room 5 t = leb-false _ _ e in
             rw (e)
             (pick_rows (ltb 4294967295 want.size) _ _ (λ z. absurd (omega arith))
-            (pick_rows (leb spaces want.space) _ _ (λ z. row-recorded want.space 0 0 0 l)
+            (pick_rows (leb spaces want.space) _ _ (λ z. row_recorded want.space 0 0 0 l)
             (pick_rows (ltb 4294967295 (get_or c.used want.space 0 + fill_to_align (get_or c.used want.space 0) want.alignment want.word) || ltb 4294967295 (get_or c.used want.space 0 + advance_of want.size want.alignment want.word)) _ _
-            (λ z. absurd (omega arith)) (λ z. row-recorded want.space _ _ 1 l))))
+            (λ z. absurd (omega arith)) (λ z. row_recorded want.space _ _ 1 l))))
 
 module _ (S : Pair) where
   abbrev request : ℕ → ℕ → ℕ → Mem → Request
@@ -218,7 +218,7 @@ module _ (S : Pair) where
         at_law = (λ m fit.
             go m fit (allocate_of m.addresses.rows m.addresses.count S.x.spaces (request space bytes o m) m.alloc)
             (allocate_of (wide S.extra.addresses m.addresses.rows) m.addresses.count S.x.spaces (request space bytes o m) m.alloc)
-            (allocated-recorded S m.addresses.rows m.addresses.count S.x.spaces (request space bytes o m) m.alloc fit.recorded recorded)
+            (allocated_recorded S m.addresses.rows m.addresses.count S.x.spaces (request space bytes o m) m.alloc fit.recorded recorded)
             (allocated S m.addresses.rows m.addresses.count S.x.spaces (request space bytes o m) m.alloc S.extra.addresses (λ w. ap (λ r. r.addresses) (S.compared_full w))));
       }
     where

@@ -20,7 +20,7 @@ use Rattle.definition.specs.Object.{peek, large_byte, change_chunk, alignment_by
 use Rattle.definition.specs.Closing.{ends_legacy}
 use Rattle.definition.specs.Reference.{refers, outside, raw_bytes, weak_of, repeat_of, repeat_root, by_head, reference, ref_at}
 use Rattle.assurance.specs.Wider.{wide_get}
-use Rattle.assurance.specs.Simulate.{over, wider, Pair, x', φ, Recorded, Fits, fit_moved, Follows, Alike, Any, gives, via, choose-at, then_at, then_law, seq_law, lower-at, lower, choose_law, give_law, refuse_law, refuse_at_law, change_law, tell_law, byte_law, int_law, peek_same}
+use Rattle.assurance.specs.Simulate.{over, wider, Pair, x', φ, Recorded, Fits, fit_moved, Follows, Alike, Any, gives, via, choose_at, then_at, then_law, seq_law, lower_at, lower, choose_law, give_law, refuse_law, refuse_at_law, change_law, tell_law, byte_law, int_law, peek_same}
 use Rattle.assurance.specs.SimulateSteps.{add_value_law, add_object_law, add_slot_law, flagged_law, resolved_law, hot_law, refers_hot_law, backref_to_law, pending_law, skip_amount_law, raw_data_law}
 use Rattle.assurance.specs.SimulateLegacy.{legacy_reference_law, allocate_law}
 
@@ -95,8 +95,8 @@ module _ (S : Pair) where
   resolves_law o (suc n) n' m fuel fit =
       via S
       (λ v. resolves_in (x' S) o n' (n' - 1) (peek S.x m) (φ S m) (S.fuel_more 0 m.at n n' v fuel) (peek_same S m v))
-      (choose-at S (is_resolve S.x.sheet (peek S.x m)) _ _ _ _
-      (λ _. lower-at S
+      (choose_at S (is_resolve S.x.sheet (peek S.x m)) _ _ _ _
+      (λ _. lower_at S
       (then_at S _ _ ((then_law S (seq_law S (byte_law S) (int_law S)) (λ number _. resolved_law S number o)).at_law m fit)
       (λ a m₁ fit₁ _ up. resolves_law o n (n' - 1) m₁ (S.fuel_step 0 m.at m₁.at n n' (omega arith) fuel) fit₁)))
       (λ _. (give_law S {P = Any} tt tt).at_law m fit))
@@ -120,45 +120,45 @@ module _ (S : Pair) where
     same : S.p' ≡ S.x.payload
     same = S.Compared-same 4 (S.legacy_compared 4 (legacy-ends S.x 4 legacy refl))
 
-    chunkChanges-law : (space n : ℕ) (m : Mem) → Fits S m → Follows S 0 Any m (chunk_changes S.x space n m) (chunk_changes (x' S) space n (φ S m))
+    chunk_changes-law : (space n : ℕ) (m : Mem) → Fits S m → Follows S 0 Any m (chunk_changes S.x space n m) (chunk_changes (x' S) space n (φ S m))
     unfolding chunk_changes
-    chunkChanges-law space zero m fit = (give_law S {P = Any} tt tt).at_law m fit
-    chunkChanges-law space (suc n) m fit =
+    chunk_changes-law space zero m fit = (give_law S {P = Any} tt tt).at_law m fit
+    chunk_changes-law space (suc n) m fit =
         via S (λ v. rw same)
-        (choose-at S (is_next_chunk S.x.sheet (peek S.x m) && eqb (peek_at S.x.payload (m.at + 1)) space) _ _ (change (λ m. change_chunk (x' S) space (moved (m.at + 2) m)) >> chunk_changes (x' S) space n) (give tt)
-        (λ _. then_at S _ (λ _. chunk_changes (x' S) space n) ((change_law S (λ m. change_chunk S.x space (moved (m.at + 2) m)) (λ m. change_chunk (x' S) space (moved (m.at + 2) m)) (λ m fit. fit_moved (S.in_legacy legacy (m.at + 2)) fit) (λ m. omega arith) (λ m fit. refl)).at_law m fit) (λ a m₁ fit₁ _ up. chunkChanges-law space n m₁ fit₁))
+        (choose_at S (is_next_chunk S.x.sheet (peek S.x m) && eqb (peek_at S.x.payload (m.at + 1)) space) _ _ (change (λ m. change_chunk (x' S) space (moved (m.at + 2) m)) >> chunk_changes (x' S) space n) (give tt)
+        (λ _. then_at S _ (λ _. chunk_changes (x' S) space n) ((change_law S (λ m. change_chunk S.x space (moved (m.at + 2) m)) (λ m. change_chunk (x' S) space (moved (m.at + 2) m)) (λ m fit. fit_moved (S.in_legacy legacy (m.at + 2)) fit) (λ m. omega arith) (λ m fit. refl)).at_law m fit) (λ a m₁ fit₁ _ up. chunk_changes-law space n m₁ fit₁))
         (λ _. (give_law S {P = Any} tt tt).at_law m fit))
 
-    alignmentByte-law : Alike S 0 Any (alignment_byte S.x) (alignment_byte (x' S))
-    alignmentByte-law =
+    alignment_byte-law : Alike S 0 Any (alignment_byte S.x) (alignment_byte (x' S))
+    alignment_byte-law =
         record {
           at_law = (λ m fit. via S (λ v. rw same)
-              (choose-at S (eqb (alignment_of S.x.sheet (peek S.x m)) 0) _ _ (give tt) (change (λ m. aligned (alignment_of S.x.sheet (peek S.x m)) (moved (m.at + 1) m)))
+              (choose_at S (eqb (alignment_of S.x.sheet (peek S.x m)) 0) _ _ (give tt) (change (λ m. aligned (alignment_of S.x.sheet (peek S.x m)) (moved (m.at + 1) m)))
               (λ _. (give_law S {P = Any} tt tt).at_law m fit)
               (λ _. gives S (fit_moved (S.in_legacy legacy (m.at + 1)) fit) tt (omega arith) (λ v. refl))));
         }
 
-    chunks-law : (space : ℕ) → Alike S 0 Any (λ m. chunk_changes S.x space (length S.x.payload - m.at) m) (λ m. chunk_changes (x' S) space (length S.p' - m.at) m)
-    chunks-law space = record { at_law = (λ m fit. rw (ap (length {A = ℕ}) same) (chunkChanges-law space (length S.x.payload - m.at) m fit)) }
+    chunks_law : (space : ℕ) → Alike S 0 Any (λ m. chunk_changes S.x space (length S.x.payload - m.at) m) (λ m. chunk_changes (x' S) space (length S.p' - m.at) m)
+    chunks_law space = record { at_law = (λ m fit. rw (ap (length {A = ℕ}) same) (chunk_changes-law space (length S.x.payload - m.at) m fit)) }
 
   -- ---- what holds of a reference holds of what is read by it
 
   module _ (r r' : Reader SlotValue) (law : Alike S 1 Any r r') where
-    mapFirst-law : is_legacy S.x.sheet ≡ true → (space bytes o : ℕ) → Recorded S o → Alike S 0 Any (map_first S.x r space bytes o) (map_first (x' S) r' space bytes o)
+    map_first-law : is_legacy S.x.sheet ≡ true → (space bytes o : ℕ) → Recorded S o → Alike S 0 Any (map_first S.x r space bytes o) (map_first (x' S) r' space bytes o)
     unfolding map_first
-    mapFirst-law legacy space bytes o recorded =
+    map_first-law legacy space bytes o recorded =
         record {
           at_law = (λ m fit.
               (then_law S (lower S law) (λ v _. seq_law S (seq_law S (seq_law S (seq_law S
               (change_law S (aligned m.alignment) (aligned m.alignment) (λ m fit. fit) (λ m. omega arith) (λ m fit. refl))
-              (alignmentByte-law legacy)) (chunks-law legacy space)) (allocate_law S space bytes o recorded)) (give_law S {P = Any} v tt))).at_law m fit);
+              (alignment_byte-law legacy)) (chunks_law legacy space)) (allocate_law S space bytes o recorded)) (give_law S {P = Any} v tt))).at_law m fit);
         }
 
-    readMap-law : (space bytes o : ℕ) → Recorded S o → Alike S 0 Any (read_map S.x r space bytes o) (read_map (x' S) r' space bytes o)
-    readMap-law space bytes o recorded = go (is_map_first S.x.sheet) refl
+    read_map-law : (space bytes o : ℕ) → Recorded S o → Alike S 0 Any (read_map S.x r space bytes o) (read_map (x' S) r' space bytes o)
+    read_map-law space bytes o recorded = go (is_map_first S.x.sheet) refl
       where
         go : (t : Bool) → is_map_first S.x.sheet ≡ t → Alike S 0 Any (choose t (map_first S.x r space bytes o) (choose (is_legacy S.x.sheet) (map_then_allocate S.x r space bytes o) r)) (choose t (map_first (x' S) r' space bytes o) (choose (is_legacy S.x.sheet) (map_then_allocate (x' S) r' space bytes o) r'))
-        go true e = mapFirst-law (and_left _ _ e) space bytes o recorded
+        go true e = map_first-law (and_left _ _ e) space bytes o recorded
         go false e = choose_law S (is_legacy S.x.sheet) (then_law S (lower S law) (λ v _. seq_law S (allocate_law S space bytes o recorded) (give_law S v tt))) (lower S law)
 
     items-law : (o size n n' done : ℕ) (m : Mem) → Recorded S o → S.Fuel 1 m.at n n' → Fits S m → Follows S 0 Any m (items S.x r o size n done m) (items (x' S) r' o size n' done (φ S m))
@@ -167,17 +167,17 @@ module _ (S : Pair) where
     items-law o size (suc n) n' done m recorded fuel fit =
         via S
         (λ v. items_in_lem (x' S) r' o size n' (n' - 1) done (peek S.x m) (φ S m) (S.fuel_more 1 m.at n n' v fuel) (peek_same S m v))
-        (choose-at S (leb size done) _ _ _ _ (λ _. (give_law S {P = Any} done tt).at_law m fit)
-        (λ _. choose-at S (is_deferred S.x.sheet (peek S.x m)) _ _ (byte (x' S) >> give size) (r' >>= place_item (x' S) o done >>= items (x' S) r' o size (n' - 1))
+        (choose_at S (leb size done) _ _ _ _ (λ _. (give_law S {P = Any} done tt).at_law m fit)
+        (λ _. choose_at S (is_deferred S.x.sheet (peek S.x m)) _ _ (byte (x' S) >> give size) (r' >>= place_item (x' S) o done >>= items (x' S) r' o size (n' - 1))
         (λ _. (seq_law S (lower S (byte_law S)) (give_law S {P = Any} size tt)).at_law m fit)
-        (λ _. lower-at S
+        (λ _. lower_at S
         (then_at S _ _ ((then_law S law (λ v _. place_item_law o done v recorded)).at_law m fit)
         (λ done₁ m₁ fit₁ _ up. items-law o size n (n' - 1) done₁ m₁ recorded (S.fuel_step 1 m.at m₁.at n n' (omega arith) fuel) fit₁)))))
 
     body-law : (space tag words o : ℕ) → Recorded S o → Alike S 0 Any (body S.x r space tag words o) (body (x' S) r' space tag words o)
     unfolding body
     body-law space tag words o recorded =
-        then_law S (seq_law S (seq_law S (then_law S (readMap-law space (words * word S.x) o recorded) (λ v _. keep_map_law o v recorded))
+        then_law S (seq_law S (seq_law S (then_law S (read_map-law space (words * word S.x) o recorded) (λ v _. keep_map_law o v recorded))
         (record { at_law = (λ m fit. resolves_law o _ _ m (S.fuel_start m.at) fit) }))
         (record { at_law = (λ m fit. items-law o (words * word S.x) _ _ (word S.x) m recorded (S.fuel_spare m.at) fit) }))
         (λ done _. choose_law S (eqb done (words * word S.x)) (give_law S (Ref (Object o)) tt) (refuse_at_law S 12 tag))
@@ -187,43 +187,43 @@ module _ (S : Pair) where
     object_law space tag =
         then_law S (int_law S) (λ words _. then_law S (seq_law S (large_law space) (add_object_law S tag words)) (λ o recorded. body-law space tag words o recorded))
 
-    ref-law : (v : Reference) → Alike S 0 Any (refers v) (refers v)
-    ref-law v = give_law S (Ref v) tt
+    ref_law : (v : Reference) → Alike S 0 Any (refers v) (refers v)
+    ref_law v = give_law S (Ref v) tt
 
     outside-law : (k : ℕ) → Alike S 0 Any (outside S.x k) (outside (x' S) k)
-    outside-law k = then_law S (int_law S) (λ i _. ref-law (RoRef (2 ^ 32 - k) i))
+    outside-law k = then_law S (int_law S) (λ i _. ref_law (RoRef (2 ^ 32 - k) i))
 
-    repeatOf-law : (n : ℕ) (v : SlotValue) → Alike S 0 Any (repeat_of n v) (repeat_of n v)
-    repeatOf-law n v = then_law S (add_value_law S (fields_of v)) (λ k _. give_law S (Repeat n k) tt)
+    repeat_of-law : (n : ℕ) (v : SlotValue) → Alike S 0 Any (repeat_of n v) (repeat_of n v)
+    repeat_of-law n v = then_law S (add_value_law S (fields_of v)) (λ k _. give_law S (Repeat n k) tt)
 
-    repeatRoot-law : (n : ℕ) → Alike S 0 Any (repeat_root S.x n) (repeat_root (x' S) n)
-    repeatRoot-law n = then_law S (lower S (byte_law S)) (λ i _. repeatOf-law n (Ref (Root i)))
+    repeat_root-law : (n : ℕ) → Alike S 0 Any (repeat_root S.x n) (repeat_root (x' S) n)
+    repeat_root-law n = then_law S (lower S (byte_law S)) (λ i _. repeat_of-law n (Ref (Root i)))
 
-    weakOf-law : (v : SlotValue) → Alike S 0 Any (weak_of v) (weak_of v)
-    weakOf-law v = then_law S (add_value_law S (fields_of v)) (λ k _. give_law S (WeakRef k) tt)
+    weak_of-law : (v : SlotValue) → Alike S 0 Any (weak_of v) (weak_of v)
+    weak_of-law v = then_law S (add_value_law S (fields_of v)) (λ k _. give_law S (WeakRef k) tt)
 
-    changeChunk-law : (space : ℕ) → Alike S 0 Any (change (change_chunk S.x space)) (change (change_chunk (x' S) space))
-    changeChunk-law space = change_law S _ _ (λ m fit. fit) (λ m. omega arith) (λ m fit. refl)
+    change_chunk-law : (space : ℕ) → Alike S 0 Any (change (change_chunk S.x space)) (change (change_chunk (x' S) space))
+    change_chunk-law space = change_law S _ _ (λ m fit. fit) (λ m. omega arith) (λ m fit. refl)
 
     aligned-law : (a : ℕ) → Alike S 0 Any (change (aligned a)) (change (aligned a))
     aligned-law a = change_law S _ _ (λ m fit. fit) (λ m. omega arith) (λ m fit. refl)
 
-    byHead-law : (tag kind a : ℕ) → Alike S 0 Any (by_head S.x r tag kind a) (by_head (x' S) r' tag kind a)
+    by_head-law : (tag kind a : ℕ) → Alike S 0 Any (by_head S.x r tag kind a) (by_head (x' S) r' tag kind a)
     unfolding by_head
-    byHead-law tag kind a =
+    by_head-law tag kind a =
         choose_law S (eqb kind new_object) (object_law a tag)
         (choose_law S (eqb kind backref) (then_law S (int_law S) (λ i _. backref_to_law S i))
         (choose_law S (eqb kind legacy_backref) (lower S (legacy_reference_law S a))
         (choose_law S (eqb kind legacy_backref_with_skip) (seq_law S (skip_amount_law S) (lower S (legacy_reference_law S a)))
-        (choose_law S (eqb kind next_chunk) (seq_law S (then_law S (lower S (byte_law S)) (λ space _. changeChunk-law space)) (lower S law))
+        (choose_law S (eqb kind next_chunk) (seq_law S (then_law S (lower S (byte_law S)) (λ space _. change_chunk-law space)) (lower S law))
         (choose_law S (eqb kind alignment) (seq_law S (aligned-law a) (lower S law))
         (choose_law S (eqb kind hot) (hot_law S a)
         (choose_law S (eqb kind hot_with_skip) (seq_law S (skip_amount_law S) (hot_law S a))
         (choose_law S (eqb kind root_array) (then_law S (int_law S) (λ i _. refers_hot_law S (Root i)))
-        (choose_law S (eqb kind root_constant) (ref-law (Root a))
-        (choose_law S (eqb kind root_constant_with_skip) (seq_law S (skip_amount_law S) (ref-law (Root a)))
-        (choose_law S (eqb kind read_only) (then_law S (int_law S) (λ c _. then_law S (int_law S) (λ o _. ref-law (RoRef c o))))
-        (choose_law S (eqb kind attached) (then_law S (int_law S) (λ i _. ref-law (Attached i)))
+        (choose_law S (eqb kind root_constant) (ref_law (Root a))
+        (choose_law S (eqb kind root_constant_with_skip) (seq_law S (skip_amount_law S) (ref_law (Root a)))
+        (choose_law S (eqb kind read_only) (then_law S (int_law S) (λ c _. then_law S (int_law S) (λ o _. ref_law (RoRef c o))))
+        (choose_law S (eqb kind attached) (then_law S (int_law S) (λ i _. ref_law (Attached i)))
         (choose_law S (eqb kind builtin) (outside-law 2)
         (choose_law S (eqb kind external) (outside-law 3)
         (choose_law S (eqb kind api) (seq_law S (skip_amount_law S) (outside-law 4))
@@ -231,29 +231,29 @@ module _ (S : Pair) where
         (choose_law S (eqb kind deoptimizer) (seq_law S (int_law S) (give_law S (Skip 0) tt))
         (choose_law S (eqb kind stream_bytes) (then_law S (int_law S) (λ n _. give_law S (StreamBytes n) tt))
         (choose_law S (eqb kind embedder_fields) (then_law S (seq_law S (int_law S) (int_law S)) (λ n _. give_law S (StreamBytes n) tt))
-        (choose_law S (eqb kind off_heap_target) (seq_law S (seq_law S (skip_amount_law S) (int_law S)) (ref-law (RoRef (2 ^ 32 - 5) 0)))
+        (choose_law S (eqb kind off_heap_target) (seq_law S (seq_law S (skip_amount_law S) (int_law S)) (ref_law (RoRef (2 ^ 32 - 5) 0)))
         (choose_law S (eqb kind cache) (outside-law 1)
         (choose_law S (eqb kind register_pending) (pending_law S)
         (choose_law S (eqb kind cleared_weak) (give_law S ClearedWeak tt)
-        (choose_law S (eqb kind weak_prefix) (then_law S (lower S law) (λ v _. weakOf-law v))
+        (choose_law S (eqb kind weak_prefix) (then_law S (lower S law) (λ v _. weak_of-law v))
         (choose_law S (eqb kind pointer_prefix) (lower S law)
         (choose_law S (eqb kind dispatch_entry) (seq_law S (int_law S) (give_law S ClearedWeak tt))
         (choose_law S (eqb kind fixed_raw) (raw_data_law S (a * word S.x) true)
         (choose_law S (eqb kind variable_raw) (then_law S (int_law S) (λ n _. raw_data_law S (raw_bytes S.x n) (raw_advances S.x.sheet)))
         (choose_law S (eqb kind skip) (then_law S (int_law S) (λ n _. give_law S (Skip n) tt))
-        (choose_law S (eqb kind fixed_repeat) (then_law S (lower S law) (λ v _. repeatOf-law a v))
-        (choose_law S (eqb kind fixed_repeat_root) (repeatRoot-law a)
+        (choose_law S (eqb kind fixed_repeat) (then_law S (lower S law) (λ v _. repeat_of-law a v))
+        (choose_law S (eqb kind fixed_repeat_root) (repeat_root-law a)
         (choose_law S (eqb kind repeat_previous) (give_law S (RepeatPrev a) tt)
-        (choose_law S (eqb kind variable_repeat) (then_law S (int_law S) (λ n _. then_law S (lower S law) (λ v _. repeatOf-law (n + 18) v)))
+        (choose_law S (eqb kind variable_repeat) (then_law S (int_law S) (λ n _. then_law S (lower S law) (λ v _. repeat_of-law (n + 18) v)))
         (choose_law S (eqb kind variable_repeat_previous) (then_law S (int_law S) (λ n _. give_law S (RepeatPrev n) tt))
-        (choose_law S (eqb kind variable_repeat_root) (then_law S (int_law S) (λ n _. repeatRoot-law (n + 18)))
+        (choose_law S (eqb kind variable_repeat_root) (then_law S (int_law S) (λ n _. repeat_root-law (n + 18)))
         (choose_law S (eqb kind meta_map) (refuse_at_law S 11 tag)
         (refuse_at_law S 10 tag)))))))))))))))))))))))))))))))))))))
 
     reference-law : Alike S 1 Any (reference S.x r) (reference (x' S) r')
     unfolding reference
     reference-law =
-        record { at_law = (λ m fit. (then_law S (byte_law S) (λ b _. byHead-law m.at (head_of S.x.sheet b).kind (head_of S.x.sheet b).argument)).at_law m fit) }
+        record { at_law = (λ m fit. (then_law S (byte_law S) (λ b _. by_head-law m.at (head_of S.x.sheet b).kind (head_of S.x.sheet b).argument)).at_law m fit) }
 
   pub ref_at_law : (k : ℕ) → Alike S 1 Any (ref_at S.x k) (ref_at (x' S) k)
   unfolding ref_at

@@ -25,7 +25,7 @@ use Rattle.definition.specs.Slots.{add_value, counted, add_slot, waits_for, wait
 use Rattle.definition.specs.Object.{add_object, flagged}
 use Rattle.definition.specs.Reference.{skip_amount, refers_hot, backref_to, of_hot, hot_place, pending_reference, after_raw, raw_data}
 use Rattle.assurance.specs.Wider.{wide, wide_get, wide_room, wide_written, wide_filled, waiter_same}
-use Rattle.assurance.specs.Simulate.{wider, Pair, x', φ, Recorded, Fits, fit_moved, fit_noted, Follows, Alike, Any, gives, stops, choose-at, then_law, change_law, noted_other, int_law}
+use Rattle.assurance.specs.Simulate.{wider, Pair, x', φ, Recorded, Fits, fit_moved, fit_noted, Follows, Alike, Any, gives, stops, choose_at, then_law, change_law, noted_other, int_law}
 
 waiter_low : (st : List ℕ) (number n : ℕ) → waiter st number n ≤ n
 unfolding waiter
@@ -141,7 +141,7 @@ module _ (S : Pair) where
   pub backref_to_law : (i : ℕ) → Alike S 0 Any (backref_to i) (backref_to i)
   unfolding backref_to
   backref_to_law i =
-      record { at_law = (λ m fit. choose-at S (ltb i m.objects.count) _ _ _ _ (λ _. (refers_hot_law (Object i)).at_law m fit) (λ _. stops S fit (λ v. refl))) }
+      record { at_law = (λ m fit. choose_at S (ltb i m.objects.count) _ _ _ _ (λ _. (refers_hot_law (Object i)).at_law m fit) (λ _. stops S fit (λ v. refl))) }
 
   pub pending_law : Alike S 0 Any pending_reference pending_reference
   unfolding pending_reference

@@ -20,11 +20,11 @@ use Rattle.definition.specs.Object.{peek, object}
 use Rattle.definition.specs.Reference.{ref_at}
 use Rattle.definition.specs.Closing.{drop_reference, ends_legacy, after_entry, by_entry, entries, padding, closing}
 use Rattle.definition.specs.Call.{top_space, walk}
-use Rattle.assurance.specs.PlainSheet.{PlainSheet, not_legacy, closing-case}
+use Rattle.assurance.specs.PlainSheet.{PlainSheet, not_legacy, closing_case}
 use Rattle.assurance.specs.Gives.{Gives, gives, given, refused, gives_then, gives-choose, gives_map, gives_both, byte_gives}
 use Rattle.assurance.specs.Steps.{Frame, OpensAt, Base, Rules, resolve_case, base_same}
-use Rattle.assurance.specs.Objects.{Good, Has, good-move, object-has}
-use Rattle.assurance.specs.References.{reference-has, ref_has}
+use Rattle.assurance.specs.Objects.{Good, Has, good_move, object_has}
+use Rattle.assurance.specs.References.{reference_has, ref_has}
 
 -- nothing is asked of what is given
 unfoldable pub Any : Mem → SlotValue → Type 0
@@ -65,7 +65,7 @@ module _ (x : Input) (bytes : Bytes x.payload) (plainly : PlainSheet x.sheet) wh
       let J : List Frame → Mem → Type 0 = λ S' m'. (suc m.at ≤ m'.at) × (m'.addresses ≡ m.addresses) in
       let R : Rules x J Any = steady x (suc m.at) m.addresses in
       gives_map _ _ _ (λ v m' h. h.0.1.0)
-      (reference-has x bytes plainly J Any R (ref_at x k) (ref_has x bytes plainly J Any R k) S m
+      (reference_has x bytes plainly J Any R (ref_at x k) (ref_has x bytes plainly J Any R k) S m
       (λ l. (base_same x S m b (moved (m.at + 1) m) (omega arith) refl refl refl, (omega arith, refl))))
 
   module _ (I : List Frame → Mem → Type 0) (W : Mem → SlotValue → Type 0) (rules : Rules x I W) where
@@ -83,59 +83,59 @@ module _ (x : Input) (bytes : Bytes x.payload) (plainly : PlainSheet x.sheet) wh
       pub ends : next ≤ length x.payload
       pub after : m ≡ moved next (noted (synchronize before.at) before)
 
-    after-has : (P Q : Unit {0} → Mem → Type 0) (k : Reader (Unit {0})) (o : Out (Unit {0})) → Gives P o → ((m : Mem) → P tt m → Gives Q (k m)) → Gives Q (after_entry x k o)
-    after-has P Q k (got u m) h f = f m (given P _ _ h)
-    after-has P Q k (no n q m) h f =
+    after_has : (P Q : Unit {0} → Mem → Type 0) (k : Reader (Unit {0})) (o : Out (Unit {0})) → Gives P o → ((m : Mem) → P tt m → Gives Q (k m)) → Gives Q (after_entry x k o)
+    after_has P Q k (got u m) h f = f m (given P _ _ h)
+    after_has P Q k (no n q m) h f =
         gives-choose Q (ends_legacy x n) _ _ m (λ t. absurd (not_legacy x.sheet plainly (and_left _ _ t))) (λ t. refused Q _ _ _)
 
-    drop-has : (m : Mem) → G m → Gives (λ u m'. (G m') × (m.at < m'.at)) (drop_reference x m)
-    drop-has m g =
+    drop_has : (m : Mem) → G m → Gives (λ u m'. (G m') × (m.at < m'.at)) (drop_reference x m)
+    drop_has m g =
         gives_then (λ v m'. (Has x bytes plainly I W rules [] v m') × (m.at < m'.at)) (λ u m'. (G m') × (m.at < m'.at)) (ref_at x 65 m) _
         (gives_both (Has x bytes plainly I W rules []) (λ v m'. m.at < m'.at) (ref_at x 65 m) (ref_has x bytes plainly I W rules 65 [] m g) (reads 64 [] m g.0))
         (λ v m' h. gives (λ u m'. (G m') × (m.at < m'.at)) _ _ ((base_same x [] m' h.0.0.0 (noted (value (fields_of v) dropped) m') h.0.0.0.within refl refl refl, rules.on_drop [] m' v h.0.0.1 h.0.1), h.1))
 
-    entries-have : (n : ℕ) (m : Mem) → G m → length x.payload < m.at + n → Gives (λ u. End) (entries x n m)
+    entries_have : (n : ℕ) (m : Mem) → G m → length x.payload < m.at + n → Gives (λ u. End) (entries x n m)
     unfolding entries
-    entries-have zero m g l = absurd (omega (arith, g.0.within))
-    entries-have (suc n) m g l =
+    entries_have zero m g l = absurd (omega (arith, g.0.within))
+    entries_have (suc n) m g l =
         let Q : Unit {0} → Mem → Type 0 = λ u. End in
         gives-choose Q (leb (length x.payload) m.at) _ _ m
         (λ t. gives-choose Q (is_legacy x.sheet) _ _ m (λ t. absurd (not_legacy x.sheet plainly t)) (λ t. refused Q _ _ _))
         (λ t. let b : m.at < length x.payload = leb-false _ _ t in
-        closing-case x.sheet plainly (λ c. Gives Q (by_entry x (entries x n) c m)) (peek x m)
+        closing_case x.sheet plainly (λ c. Gives Q (by_entry x (entries x n) c m)) (peek x m)
         (λ e. gives_then (λ u m'. m' ≡ moved (m.at + 1) (noted (synchronize m.at) m)) Q ((tell (synchronize m.at) >> byte x) m) _
         (byte_gives x (λ u m'. m' ≡ moved (m.at + 1) (noted (synchronize m.at) m)) (noted (synchronize m.at) m) (λ h. refl))
         (λ u m' z. gives Q _ _ (record { before = m; holds = g; inside = b; final = peek-byte x.payload m.at b refl ∙ sym (eqb-true (number x.sheet k_synchronize) (peek x m) e); next = m.at + 1; later = omega arith; ends = omega arith; after = z })))
         (λ a. gives_then (λ u m'. (G m') × (m.at < m'.at)) Q ((byte x >> change (aligned a)) m) _
         (gives_then (λ u m'. (G m') × (m.at < m'.at)) (λ u m'. (G m') × (m.at < m'.at)) (byte x m) _
-        (byte_gives x (λ u m'. (G m') × (m.at < m'.at)) m (λ h. (good-move x bytes plainly I W rules [] m (m.at + 1) g (omega arith) (omega arith), omega arith)))
+        (byte_gives x (λ u m'. (G m') × (m.at < m'.at)) m (λ h. (good_move x bytes plainly I W rules [] m (m.at + 1) g (omega arith) (omega arith), omega arith)))
         (λ u m' h. gives (λ u m'. (G m') × (m.at < m'.at)) _ _ ((base_same x [] m' h.0.0 (aligned a m') h.0.0.within refl refl refl, rules.on_align [] m' a h.0.1), h.1)))
-        (λ u m' h. entries-have n m' h.0 (omega (arith, h.1))))
-        (after-has (λ u m'. (G m') × (m.at < m'.at)) Q (entries x n) (drop_reference x m) (drop-has m g) (λ m' h. entries-have n m' h.0 (omega (arith, h.1)))))
+        (λ u m' h. entries_have n m' h.0 (omega (arith, h.1))))
+        (after_has (λ u m'. (G m') × (m.at < m'.at)) Q (entries x n) (drop_reference x m) (drop_has m g) (λ m' h. entries_have n m' h.0 (omega (arith, h.1)))))
 
     -- padding moves the cursor
-    padding-has : (n : ℕ) (m : Mem) → End m → Gives (λ u. End) (padding x n m)
+    padding_has : (n : ℕ) (m : Mem) → End m → Gives (λ u. End) (padding x n m)
     unfolding padding
-    padding-has zero m e = gives (λ u. End) _ _ e
-    padding-has (suc n) m e =
+    padding_has zero m e = gives (λ u. End) _ _ e
+    padding_has (suc n) m e =
         let Q : Unit {0} → Mem → Type 0 = λ u. End in
         gives-choose Q (leb (length x.payload) m.at) _ _ m (λ t. gives Q _ _ e)
         (λ t. gives-choose Q (is_nop x.sheet (peek x m)) _ _ m
         (λ u. gives_then (λ b. End) Q (byte x m) _
         (byte_gives x (λ b. End) m (λ l. record { before = e.before; holds = e.holds; inside = e.inside; final = e.final; next = m.at + 1; later = (let z : m.at ≡ e.next = rw e.after in omega (arith, e.later)); ends = omega arith; after = rw e.after }))
-        (λ u m' h. padding-has n m' h))
+        (λ u m' h. padding_has n m' h))
         (λ u. gives-choose Q (is_legacy x.sheet) _ _ m (λ t. gives Q _ _ e) (λ t. refused Q _ _ _)))
 
-    pub walk-has : (m : Mem) → m.at ≡ 0 → G m → Gives (λ u. End) (walk x m)
+    pub walk_has : (m : Mem) → m.at ≡ 0 → G m → Gives (λ u. End) (walk x m)
     unfolding walk closing
-    walk-has m z g =
+    walk_has m z g =
         let R : Reader SlotValue = byte x >>= (λ b. choose (opens x.sheet b) (object x (ref_at x 64) (top_space x b) 0) (refuse_at 5 0)) in
         let H : SlotValue → Mem → Type 0 = Has x bytes plainly I W rules [] in
         let Q : ℕ → Mem → Type 0 = λ b m. (G m) × (opens x.sheet b ≡ true → OpensAt x 0) in
         gives_then H (λ u. End) (R m) _
         (gives_then Q H (byte x m) _
-        (byte_gives x Q m (λ l. (good-move x bytes plainly I W rules [] m (m.at + 1) g (omega arith) (omega arith), λ e. subst (OpensAt x) z (l, e))))
-        (λ b m h. gives-choose H (opens x.sheet b) _ _ m (λ t. object-has x bytes plainly I W rules (ref_at x 64) (ref_has x bytes plainly I W rules 64) [] (top_space x b) 0 m (h.1 t) h.0) (λ t. refused H _ _ _)))
+        (byte_gives x Q m (λ l. (good_move x bytes plainly I W rules [] m (m.at + 1) g (omega arith) (omega arith), λ e. subst (OpensAt x) z (l, e))))
+        (λ b m h. gives-choose H (opens x.sheet b) _ _ m (λ t. object_has x bytes plainly I W rules (ref_at x 64) (ref_has x bytes plainly I W rules 64) [] (top_space x b) 0 m (h.1 t) h.0) (λ t. refused H _ _ _)))
         (λ v m h. gives_then (λ u. End) (λ u. End) (entries x (length x.payload - m.at + 1) m) _
-        (entries-have (length x.payload - m.at + 1) m h.0 (omega arith))
-        (λ u m e. padding-has (length x.payload - m.at) m e))
+        (entries_have (length x.payload - m.at + 1) m h.0 (omega arith))
+        (λ u m e. padding_has (length x.payload - m.at) m e))

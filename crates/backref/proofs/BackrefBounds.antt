@@ -103,42 +103,42 @@ module _ (p t : List ℕ) (n at : ℕ) where
   int_sound here CutInt f h e sound = tt
 
   module _ (v : List ℕ) (alignment space : ℕ) where
-    numbered-sound : (index next : ℕ) → Passed p at next → Sound p t n at (numbered v t n space index next)
-    numbered-sound index next h = number_sound (ordinal_from t (numbered_as v space) index 0 n) next (ordinal_found t n (numbered_as v space) index 0 n (omega arith)) h
+    numbered_sound : (index next : ℕ) → Passed p at next → Sound p t n at (numbered v t n space index next)
+    numbered_sound index next h = number_sound (ordinal_from t (numbered_as v space) index 0 n) next (ordinal_found t n (numbered_as v space) index 0 n (omega arith)) h
 
-    placed-sound : (place : Place) (next : ℕ) → Passed p at next → Sound p t n at (placed v t n alignment space place next)
-    placed-sound place next h = place_sound (resolve_of t n space place.chunk place.offset alignment (word_bytes v)) place next (resolve_found t n space place.chunk place.offset alignment (word_bytes v)) h
+    placed_sound : (place : Place) (next : ℕ) → Passed p at next → Sound p t n at (placed v t n alignment space place next)
+    placed_sound place next h = place_sound (resolve_of t n space place.chunk place.offset alignment (word_bytes v)) place next (resolve_found t n space place.chunk place.offset alignment (word_bytes v)) h
 
-    packed-sound : Sound p t n at (packed_backref v p t n alignment space at)
+    packed_sound : Sound p t n at (packed_backref v p t n alignment space at)
     unfolding packed_backref
-    packed-sound =
+    packed_sound =
         int_sound at (int_at p at) _ (omega arith) refl
         (λ value next h. pick_sound (eqb (numbered_as v space) 0) _ _
-        (placed-sound (unpacked v (index_of v value)) next h)
-        (numbered-sound (index_of v value) next h))
+        (placed_sound (unpacked v (index_of v value)) next h)
+        (numbered_sound (index_of v value) next h))
 
-    plain-sound : Sound p t n at (plain_backref v p t n alignment space at)
+    plain_sound : Sound p t n at (plain_backref v p t n alignment space at)
     unfolding plain_backref
-    plain-sound =
+    plain_sound =
         int_sound at (int_at p at) _ (omega arith) refl
         (λ first next h. pick_sound (eqb (numbered_as v space) 0) _ _
-        (int_sound next (int_at p next) _ (omega arith) refl (λ second. placed-sound (record { chunk = first; offset = second })))
-        (numbered-sound first next h))
+        (int_sound next (int_at p next) _ (omega arith) refl (λ second. placed_sound (record { chunk = first; offset = second })))
+        (numbered_sound first next h))
 
-    backref-sound : Sound p t n at (backref_of v p t n alignment space at)
+    backref_sound : Sound p t n at (backref_of v p t n alignment space at)
     unfolding backref_of
-    backref-sound = pick_sound (is_six_x v) _ _ packed-sound plain-sound
+    backref_sound = pick_sound (is_six_x v) _ _ packed_sound plain_sound
 
 module _ (v p t : List ℕ) (n alignment space at : ℕ) where
   sound_as : {b : Backref} → backref_of v p t n alignment space at ≡ b → Sound p t n at b
-  sound_as e = rw e at (backref-sound p t n at v alignment space)
+  sound_as e = rw e at (backref_sound p t n at v alignment space)
 
   module _ {next : ℕ} where
-    pub to-passed : {r : Ref} → backref_of v p t n alignment space at ≡ To r next → Passed p at next
-    to-passed e = (sound_as e).0
+    pub to_passed : {r : Ref} → backref_of v p t n alignment space at ≡ To r next → Passed p at next
+    to_passed e = (sound_as e).0
 
     pub unknown-passed : backref_of v p t n alignment space at ≡ Unknown next → Passed p at next
     unknown-passed e = sound_as e
 
-    pub to-recorded : {o : ℕ} → backref_of v p t n alignment space at ≡ To (ObjectRef o) next → Recorded t n o
-    to-recorded {o} e = (sound_as e).1 o refl
+    pub to_recorded : {o : ℕ} → backref_of v p t n alignment space at ≡ To (ObjectRef o) next → Recorded t n o
+    to_recorded {o} e = (sound_as e).1 o refl

@@ -38,8 +38,8 @@ module _ (v : List ℕ) (space : ℕ) {map : ℕ} (m : map ≡ map_space v) wher
   as_map e = rw (eq-eqb space (map_space v) (e ∙ m))
 
   module _ (apart : space ≡ map → ⊥) {large : ℕ} (l : large ≡ lo_space v) where
-    pub as-large : space ≡ large → 5 ≡ numbered_as v space
-    as-large e = rw (ne_eqb space (map_space v) (λ q. apart (q ∙ sym m)), eq-eqb space (lo_space v) (e ∙ l))
+    pub as_large : space ≡ large → 5 ≡ numbered_as v space
+    as_large e = rw (ne_eqb space (map_space v) (λ q. apart (q ∙ sym m)), eq-eqb space (lo_space v) (e ∙ l))
 
     pub as_none : (space ≡ large → ⊥) → 0 ≡ numbered_as v space
     as_none other = rw (ne_eqb space (map_space v) (λ q. apart (q ∙ sym m)), ne_eqb space (lo_space v) (λ q. other (q ∙ sym l)))
@@ -89,24 +89,24 @@ module _ (v : List ℕ) where
       rw e (lt_of_lt_of_le (mod-lt value (pow_pos (32 - space_tag_size v))) (pow_mono {j = 32} (omega arith)))
 
   module _ {word : ℕ} (w : word ≡ word_bytes v) where
-    bits-of-four : word ≡ 4 → 2 ≡ word_bits v
-    bits-of-four e = rw (eq-eqb (word_bytes v) 4 (sym w ∙ e))
+    bits_of_four : word ≡ 4 → 2 ≡ word_bits v
+    bits_of_four e = rw (eq-eqb (word_bytes v) 4 (sym w ∙ e))
 
-    bits-of-eight : (word ≡ 4 → ⊥) → 3 ≡ word_bits v
-    bits-of-eight h = rw (ne_eqb (word_bytes v) 4 (λ e. h (w ∙ e)))
+    bits_of_eight : (word ≡ 4 → ⊥) → 3 ≡ word_bits v
+    bits_of_eight h = rw (ne_eqb (word_bytes v) 4 (λ e. h (w ∙ e)))
 
-    size-by : {bits size k : ℕ} → bits ≡ page_size_bits v → size ≡ 2 ^ (bits - k) → k ≡ word_bits v → size ≡ 2 ^ offset_bits v
-    size-by b s e = s ∙ ap (λ x. 2 ^ x) (cc)
+    size_by : {bits size k : ℕ} → bits ≡ page_size_bits v → size ≡ 2 ^ (bits - k) → k ≡ word_bits v → size ≡ 2 ^ offset_bits v
+    size_by b s e = s ∙ ap (λ x. 2 ^ x) (cc)
 
     module _ {bits size : ℕ} (b : bits ≡ page_size_bits v) where
-      pub size-four : word ≡ 4 → size ≡ 2 ^ (bits - 2) → size ≡ 2 ^ offset_bits v
-      size-four e s = size-by b s (bits-of-four e)
+      pub size_four : word ≡ 4 → size ≡ 2 ^ (bits - 2) → size ≡ 2 ^ offset_bits v
+      size_four e s = size_by b s (bits_of_four e)
 
-      pub size-eight : (word ≡ 4 → ⊥) → size ≡ 2 ^ (bits - 3) → size ≡ 2 ^ offset_bits v
-      size-eight h s = size-by b s (bits-of-eight h)
+      pub size_eight : (word ≡ 4 → ⊥) → size ≡ 2 ^ (bits - 3) → size ≡ 2 ^ offset_bits v
+      size_eight h s = size_by b s (bits_of_eight h)
 
-    pub unpacked-is : (index : ℕ) {size : ℕ} → size ≡ 2 ^ offset_bits v → ◌≡◌ {A = Place} (record { chunk = index / size; offset = index % size * word }) (unpacked v index)
-    unpacked-is index s = rw (s, w)
+    pub unpacked_is : (index : ℕ) {size : ℕ} → size ≡ 2 ^ offset_bits v → ◌≡◌ {A = Place} (record { chunk = index / size; offset = index % size * word }) (unpacked v index)
+    unpacked_is index s = rw (s, w)
 
 -- ---- the two wire forms
 
@@ -139,9 +139,9 @@ module _ (v p t : List ℕ) (n alignment space at : ℕ) {i : Int} (e : i ≡ in
     plain-numbered h q = rw (← e, g, ne_eqb (numbered_as v space) 0 (λ z. h (a ∙ z))) q
 
     module _ (z : k ≡ 0) {j : Int} (f : j ≡ int_at p (at + count)) where
-      pub plain-cut-second : j ≡ CutInt → Cut ≡ plain_backref v p t n alignment space at
+      pub plain-cut_second : j ≡ CutInt → Cut ≡ plain_backref v p t n alignment space at
       unfolding plain_backref
-      plain-cut-second h = rw (← e, g, eq-eqb (numbered_as v space) 0 (sym a ∙ z), ← f, h)
+      plain-cut_second h = rw (← e, g, eq-eqb (numbered_as v space) 0 (sym a ∙ z), ← f, h)
 
       pub plain-placed : {second more : ℕ} {r : Backref} → j ≡ Is second more → r ≡ placed v t n alignment space (record { chunk = value; offset = second }) (at + count + more) → r ≡ plain_backref v p t n alignment space at
       unfolding plain_backref

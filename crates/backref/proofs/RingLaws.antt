@@ -43,9 +43,9 @@ module _ (hot : List ℕ) where
   ring_kept (Unknown next) h = refl
 
   module _ (place : ℕ) where
-    pub hot-kind : (kind : ℕ) → get_or hot (place * 3) 0 ≡ kind → hot_entry kind (get_or hot (place * 3 + 1) 0) (get_or hot (place * 3 + 2) 0) ≡ hot_at hot place
+    pub hot_kind : (kind : ℕ) → get_or hot (place * 3) 0 ≡ kind → hot_entry kind (get_or hot (place * 3 + 1) 0) (get_or hot (place * 3 + 2) 0) ≡ hot_at hot place
     unfolding hot_at
-    hot-kind kind e = rw e
+    hot_kind kind e = rw e
 
     pub hot-empty : (get_or hot (place * 3) 0 ≡ 1 → ⊥) → (get_or hot (place * 3) 0 ≡ 2 → ⊥) → (get_or hot (place * 3) 0 ≡ 3 → ⊥) → Empty ≡ hot_at hot place
     unfolding hot_at

@@ -142,23 +142,23 @@ module _ (c : Call) (rooms : Rooms) where
   refusal n q = record { number = n; objects = 0; slots = 0; values = 0; addresses = 0; end = 0; place = q }
 
   module _ {r : Outcome} {ot st vt dt : List ℕ} where
-    pub reads-unusable : usable c.sheet ≡ false → answer r ≡ refusal 1 0 → Zero ot st vt dt → Reads c rooms r ot st vt dt
-    reads-unusable u a z = reads (no 1 0 (start rooms off)) (called_unusable u) a z.0 z.1 z.2 z.3
+    pub reads_unusable : usable c.sheet ≡ false → answer r ≡ refusal 1 0 → Zero ot st vt dt → Reads c rooms r ot st vt dt
+    reads_unusable u a z = reads (no 1 0 (start rooms off)) (called_unusable u) a z.0 z.1 z.2 z.3
 
-    pub reads-long : usable c.sheet ≡ true → too_long c ≡ true → answer r ≡ refusal 2 0 → Zero ot st vt dt → Reads c rooms r ot st vt dt
-    reads-long u l a z = reads (no 2 0 (start rooms off)) (called_long u l) a z.0 z.1 z.2 z.3
+    pub reads_long : usable c.sheet ≡ true → too_long c ≡ true → answer r ≡ refusal 2 0 → Zero ot st vt dt → Reads c rooms r ot st vt dt
+    reads_long u l a z = reads (no 2 0 (start rooms off)) (called_long u l) a z.0 z.1 z.2 z.3
 
   -- after the walk
   module _ (u : usable c.sheet ≡ true) (l : too_long c ≡ false) {r : Outcome} {ot st vt dt : List ℕ} (w : Walked (walk (input_of c) (start rooms off)) r ot st vt dt) where
-    pub reads-accepted : r.number ≡ 0 → Reads c rooms r ot st vt dt
-    reads-accepted z = go (walk (input_of c) (start rooms off)) (called_walks u l) (subst Known (called_walks u l) (refusal_known c (start rooms off))) w
+    pub reads_accepted : r.number ≡ 0 → Reads c rooms r ot st vt dt
+    reads_accepted z = go (walk (input_of c) (start rooms off)) (called_walks u l) (subst Known (called_walks u l) (refusal_known c (start rooms off))) w
       where
         go : (o : Out (Unit {0})) → called c (start rooms off) ≡ o → Known o → Walked o r ot st vt dt → Reads c rooms r ot st vt dt
         go (got v m) e k w = reads (got v m) e w.outcome w.objects_are w.slots_are w.values_are w.addresses_are
         go (no n q m) e k w = absurd (let y : r.number ≡ n = ap (λ (a : Answer). a.number) w.outcome in omega (arith, k.0))
 
-    pub reads-refused : {ot' st' vt' dt' : List ℕ} → (r.number ≡ 0 → ⊥) → Zero ot' st' vt' dt' → Reads c rooms r ot' st' vt' dt'
-    reads-refused {ot'} {st'} {vt'} {dt'} z q = go (walk (input_of c) (start rooms off)) (called_walks u l) w
+    pub reads_refused : {ot' st' vt' dt' : List ℕ} → (r.number ≡ 0 → ⊥) → Zero ot' st' vt' dt' → Reads c rooms r ot' st' vt' dt'
+    reads_refused {ot'} {st'} {vt'} {dt'} z q = go (walk (input_of c) (start rooms off)) (called_walks u l) w
       where
         go : (o : Out (Unit {0})) → called c (start rooms off) ≡ o → Walked o r ot st vt dt → Reads c rooms r ot' st' vt' dt'
         go (got v m) e w = absurd (z (ap (λ (a : Answer). a.number) w.outcome))

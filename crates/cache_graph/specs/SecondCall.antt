@@ -45,8 +45,8 @@ module _ (c : Call) (rooms : Rooms) (r : Outcome) (ot st vt dt : List ℕ) (a : 
     second = a.guaranteed.second p' short same
 
     -- THE THEOREMS
-    pub accepted-only-if : r'.number ≡ 0 → Padded c.sheet p' (final + 1)
-    accepted-only-if z = let g = accepted_graph (with_payload p' c) rooms r' w.outcome z in second.only_if g.0 g.1
+    pub accepted_only_if : r'.number ≡ 0 → Padded c.sheet p' (final + 1)
+    accepted_only_if z = let g = accepted_graph (with_payload p' c) rooms r' w.outcome z in second.only_if g.0 g.1
 
     pub same_graph : Padded c.sheet p' (final + 1) → SameGraph r r' ot st vt dt ot' st' vt' dt'
     same_graph n =

@@ -22,7 +22,7 @@ use Rattle.laws.specs.Sound.{Sound, Onward, Kept, Referred}
 use Rattle.laws.specs.Steps.{Good, Ends, gives, refuses, either, by, then₁, then₂, onward_trans}
 use Rattle.laws.specs.Keeps.{Any, Passed, sheet_gives, word_low, byte_keeps, int_keeps}
 use Rattle.laws.specs.References.{legacy_reference_keeps}
-use Rattle.laws.specs.ClosingKeeps.{Slots, entryItem-ends}
+use Rattle.laws.specs.ClosingKeeps.{Slots, entry_item-ends}
 use Rattle.laws.specs.Fuel.{entry_items_fuel}
 use Rattle.readers.proofs.ViewLaws.{then_got, then_no}
 use Rattle.readers.specs.declared.state.State.{State}
@@ -31,7 +31,7 @@ use Rattle.readers.specs.declared.state.Went.TheVariants.{On}
 use Rattle.objects.specs.Index.{Indexed, WentIndexed}
 use Rattle.walker.specs.Ready.{Index, Ready}
 use Rattle.walker.proofs.ReadyLaws.{Went, Free, None, ready_after, ref_went}
-use Rattle.walker.proofs.SameLaws.{Leaves, same_choose, then-leaves, next-leaves, same_got}
+use Rattle.walker.proofs.SameLaws.{Leaves, same_choose, then_leaves, next_leaves, same_got}
 use Rattle.walker.proofs.GroundLaws.{Ground, ground_of, slot_ground}
 use Rattle.walker.proofs.ReferenceLaws.{records_of, Idle, byte_still, int_still, legacy_still}
 use Rattle.deferred.specs.Entry.{named_by, entry_object}
@@ -57,15 +57,15 @@ module _ (x : Input) (space : ℕ) (m : Mem) where
     object_no h = rw (← e, ← h)
 
     module _ {v : SlotValue} {m2 : Mem} (h : got v m2 ≡ legacy_reference x space m1) {f : Fields} (g : f ≡ fields_of v) where
-      pub object-named : f.kind ≡ 1 → got f.a m2 ≡ entry_object x space m
-      object-named k = rw (← e, ← h, ← g, eq-eqb f.kind 1 k)
+      pub object_named : f.kind ≡ 1 → got f.a m2 ≡ entry_object x space m
+      object_named k = rw (← e, ← h, ← g, eq-eqb f.kind 1 k)
 
       pub object-other : (f.kind ≡ 1 → ⊥) → no 0 m2.at m2 ≡ entry_object x space m
       object-other k = rw (← e, ← h, ← g, ne_eqb f.kind 1 k)
 
   pub object_still : Idle m (entry_object x space m)
   object_still =
-      then-leaves records_of (byte x >> legacy_reference x space) (λ v. named_by (fields_of v)) (next-leaves records_of (byte x) (legacy_reference x space) (byte_still x) (legacy_still x space))
+      then_leaves records_of (byte x >> legacy_reference x space) (λ v. named_by (fields_of v)) (next_leaves records_of (byte x) (legacy_reference x space) (byte_still x) (legacy_still x space))
       (λ v m. same_choose records_of (eqb (fields_of v).kind 1) _ _ m (λ _. refl) refl) m
 
   -- the entry is that, a size, and the items
@@ -77,12 +77,12 @@ module _ (x : Input) (space : ℕ) (m : Mem) where
       by_kind true o m2 = refl
       by_kind false o m2 = refl
 
-      by-reference : (o : Out SlotValue) → and_then (and_then o (λ v. named_by (fields_of v))) (λ o. int x >>= entry_body x o) ≡ and_then o (λ v. entry_of x (fields_of v))
-      by-reference (got v m2) = by_kind (eqb (fields_of v).kind 1) (fields_of v).a m2
-      by-reference (no n q m2) = refl
+      by_reference : (o : Out SlotValue) → and_then (and_then o (λ v. named_by (fields_of v))) (λ o. int x >>= entry_body x o) ≡ and_then o (λ v. entry_of x (fields_of v))
+      by_reference (got v m2) = by_kind (eqb (fields_of v).kind 1) (fields_of v).a m2
+      by_reference (no n q m2) = refl
 
       by_byte : (o : Out ℕ) → and_then (and_then (and_then o (λ _. legacy_reference x space)) (λ v. named_by (fields_of v))) (λ o. int x >>= entry_body x o) ≡ and_then (and_then o (λ _. legacy_reference x space)) (λ v. entry_of x (fields_of v))
-      by_byte (got b m1) = by-reference (legacy_reference x space m1)
+      by_byte (got b m1) = by_reference (legacy_reference x space m1)
       by_byte (no n q m1) = refl
 
   pub entry_no : {n q : ℕ} {m1 : Mem} → no n q m1 ≡ entry_object x space m → no n q m1 ≡ entry x space m
@@ -122,23 +122,23 @@ module _ (x : Input) (o size index done : ℕ) (m : Mem) where
   left_end l = rw (one_more, le-leb size done l)
 
   module _ (l : done < size) where
-    left-no : {n q : ℕ} {m1 : Mem} → no n q m1 ≡ ref_at x 64 m → no n q m1 ≡ items_left x o size index done m
+    left_no : {n q : ℕ} {m1 : Mem} → no n q m1 ≡ ref_at x 64 m → no n q m1 ≡ items_left x o size index done m
     unfolding entry_items
-    left-no e = rw (one_more, lt-leb size done l, ← e)
+    left_no e = rw (one_more, lt-leb size done l, ← e)
 
     module _ {v : SlotValue} {m1 : Mem} (e : got v m1 ≡ ref_at x 64 m) where
-      left-full : {n q : ℕ} {m2 : Mem} → no n q m2 ≡ entry_item x o index v m1 → no n q m2 ≡ items_left x o size index done m
+      left_full : {n q : ℕ} {m2 : Mem} → no n q m2 ≡ entry_item x o index v m1 → no n q m2 ≡ items_left x o size index done m
       unfolding entry_items
-      left-full h = rw (one_more, lt-leb size done l, ← e) (then_no (λ _. entry_items x o size (length x.payload - m.at) (index + entry_slots x v) (done + entry_count x v)) h)
+      left_full h = rw (one_more, lt-leb size done l, ← e) (then_no (λ _. entry_items x o size (length x.payload - m.at) (index + entry_slots x v) (done + entry_count x v)) h)
 
-      left-next : {u : Unit {0}} {m2 : Mem} → got u m2 ≡ entry_item x o index v m1 → entry_items x o size (length x.payload - m.at) (index + entry_slots x v) (done + entry_count x v) m2 ≡ items_left x o size index done m
+      left_next : {u : Unit {0}} {m2 : Mem} → got u m2 ≡ entry_item x o index v m1 → entry_items x o size (length x.payload - m.at) (index + entry_slots x v) (done + entry_count x v) m2 ≡ items_left x o size index done m
       unfolding entry_items
-      left-next h = rw (one_more, lt-leb size done l, ← e) (then_got (λ _. entry_items x o size (length x.payload - m.at) (index + entry_slots x v) (done + entry_count x v)) h refl)
+      left_next h = rw (one_more, lt-leb size done l, ← e) (then_got (λ _. entry_items x o size (length x.payload - m.at) (index + entry_slots x v) (done + entry_count x v)) h refl)
 
 slots_ground : (x : Input) (o : ℕ) (f : Fields) (index n : ℕ) → Leaves ground_of (add_slots o f index n)
 unfolding add_slots
 slots_ground x o f index zero m = refl
-slots_ground x o f index (suc n) m = next-leaves ground_of (add_slot o index f 0 in_slot) (add_slots o f (index + 1) n) (slot_ground x o index f 0 in_slot) (slots_ground x o f (index + 1) n) m
+slots_ground x o f index (suc n) m = next_leaves ground_of (add_slot o index f 0 in_slot) (add_slots o f (index + 1) n) (slot_ground x o index f 0 in_slot) (slots_ground x o f (index + 1) n) m
 
 -- what holds at the head of the loop over the items
 pub record Loop (x : Input) (h : List ℕ) (o size : ℕ) (m₀ : Mem) (index done : ℕ) (m : Mem) (sc : List ℕ) : Type 0 where
@@ -156,47 +156,47 @@ module _ (x : Input) (h : List ℕ) (y : is_legacy x.sheet ≡ true) (o size : �
     loop_end l = left_end x o size index done m l ∙ w.same
 
     module _ (l : done < size) where
-      pub loop-no : {n q : ℕ} {m1 : Mem} → no n q m1 ≡ ref_at x 64 m → no n q m1 ≡ entry_body x o size m₀
-      loop-no e = left-no x o size index done m l e ∙ w.same
+      pub loop_no : {n q : ℕ} {m1 : Mem} → no n q m1 ≡ ref_at x 64 m → no n q m1 ≡ entry_body x o size m₀
+      loop_no e = left_no x o size index done m l e ∙ w.same
 
       module _ {v : SlotValue} {m1 : Mem} (e : got v m1 ≡ ref_at x 64 m) where
         read : Went x m (Referred x m) Free v m1
         read = ref_went w.ready 64 e
 
-        pub item-ready : {sc1 : List ℕ} → Index (length x.payload) m1.slots m1.addresses sc1 → Ready x h m1 sc1
-        item-ready i = let z = read in ready_after w.ready z.kept z.numbered z.ascending i
+        pub item_ready : {sc1 : List ℕ} → Index (length x.payload) m1.slots m1.addresses sc1 → Ready x h m1 sc1
+        item_ready i = let z = read in ready_after w.ready z.kept z.numbered z.ascending i
 
         -- what `add_slots` asks
-        pub slots-ask : length m.slots.rows < 2 ^ 64 → (field 4 m1.objects.rows o 3 ≤ m1.slots.count) × (m1.slots.count ≤ room 6 m1.slots.rows) × (m1.waiting < 2 ^ 63) × (index ≤ m1.slots.count + 1)
-        slots-ask b =
+        pub slots_ask : length m.slots.rows < 2 ^ 64 → (field 4 m1.objects.rows o 3 ≤ m1.slots.count) × (m1.slots.count ≤ room 6 m1.slots.rows) × (m1.waiting < 2 ^ 63) × (index ≤ m1.slots.count + 1)
+        slots_ask b =
             let z = read in
             (z.kept.counted.count_low o, omega (arith, z.kept.sound.slots_fit), omega (arith, z.kept.sound.waiting_low, z.kept.sound.slots_fit, z.kept.onward.slots_size), omega (arith, w.place, z.kept.onward.slots_up))
 
         pub width_low : width_of (word x) v ≤ 2 ^ 34
         width_low = read.more.narrow
 
-        pub loop-full : {n q : ℕ} {m2 : Mem} → no n q m2 ≡ entry_item x o index v m1 → no n q m2 ≡ entry_body x o size m₀
-        loop-full f = left-full x o size index done m l e f ∙ w.same
+        pub loop_full : {n q : ℕ} {m2 : Mem} → no n q m2 ≡ entry_item x o index v m1 → no n q m2 ≡ entry_body x o size m₀
+        loop_full f = left_full x o size index done m l e f ∙ w.same
 
         module _ {sc1 : List ℕ} (i : Index (length x.payload) m1.slots m1.addresses sc1) {u : Unit {0}} {m2 : Mem} (f : got u m2 ≡ entry_item x o index v m1) where
           item_went : Went x m1 (λ _ m2. Slots (entry_slots x v) m1 m2) None u m2
-          item_went = law_went (item-ready i) (λ m1 _ m2. Slots (entry_slots x v) m1 m2) (λ I W R g. entryItem-ends w.ready.proper R y o index v g) f
+          item_went = law_went (item_ready i) (λ m1 _ m2. Slots (entry_slots x v) m1 m2) (λ I W R g. entry_item-ends w.ready.proper R y o index v g) f
 
-          pub loop-reads : m.at < m2.at
-          loop-reads = omega (arith, read.more.reads, item_went.more.at_same)
+          pub loop_reads : m.at < m2.at
+          loop_reads = omega (arith, read.more.reads, item_went.more.at_same)
 
           -- the slots of an item leave the address records
-          item-index : Indexed m2.slots.rows m2.slots.count (take (length x.payload) sc1) → Index (length x.payload) m2.slots m2.addresses sc1
-          item-index j =
+          item_index : Indexed m2.slots.rows m2.slots.count (take (length x.payload) sc1) → Index (length x.payload) m2.slots m2.addresses sc1
+          item_index j =
               let z = same_got ground_of {m = m1} f (slots_ground x o (entry_fields m1.values v) index (entry_slots x v) m1) in
               record { pending = j; linked = subst (λ (g : Ground). Linked g.addresses.rows g.addresses.count (drop (length x.payload) sc1)) (sym z) i.linked }
 
-          pub loop-turn : Indexed m2.slots.rows m2.slots.count (take (length x.payload) sc1) → Loop x h o size m₀ (index + entry_slots x v) (done + entry_count x v) m2 sc1
-          loop-turn j =
+          pub loop_turn : Indexed m2.slots.rows m2.slots.count (take (length x.payload) sc1) → Loop x h o size m₀ (index + entry_slots x v) (done + entry_count x v) m2 sc1
+          loop_turn j =
               let z = read in
               let k = item_went in
-              let fuel : items_left x o size (index + entry_slots x v) (done + entry_count x v) m2 ≡ entry_items x o size (length x.payload - m.at) (index + entry_slots x v) (done + entry_count x v) m2 = entry_items_fuel w.ready.proper o size _ _ _ _ m2 y k.kept.sound k.kept.counted (omega arith) (omega (arith, loop-reads, k.kept.sound.within)) in
-              record { ready = ready_after (item-ready i) k.kept k.numbered k.ascending (item-index j); same = fuel ∙ left-next x o size index done m l e f ∙ w.same; onward = onward_trans w.onward (onward_trans z.kept.onward k.kept.onward); place = omega (arith, w.place, z.kept.onward.slots_up, k.more.more) }
+              let fuel : items_left x o size (index + entry_slots x v) (done + entry_count x v) m2 ≡ entry_items x o size (length x.payload - m.at) (index + entry_slots x v) (done + entry_count x v) m2 = entry_items_fuel w.ready.proper o size _ _ _ _ m2 y k.kept.sound k.kept.counted (omega arith) (omega (arith, loop_reads, k.kept.sound.within)) in
+              record { ready = ready_after (item_ready i) k.kept k.numbered k.ascending (item_index j); same = fuel ∙ left_next x o size index done m l e f ∙ w.same; onward = onward_trans w.onward (onward_trans z.kept.onward k.kept.onward); place = omega (arith, w.place, z.kept.onward.slots_up, k.more.more) }
 
 -- ---- what the code's answers say
 

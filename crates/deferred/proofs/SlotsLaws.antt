@@ -25,7 +25,7 @@ use Rattle.readers.proofs.ViewLaws.{count_is, count_no, then_got, then_no, nothi
 use Rattle.objects.specs.Index.{Indexed}
 use Rattle.objects.specs.Item.{slot_of}
 use Rattle.objects.proofs.ItemLaws.{Added, slot_added}
-use Rattle.objects.proofs.WaiterLaws.{indexed-plain}
+use Rattle.objects.proofs.WaiterLaws.{indexed_plain}
 
 -- ---- an item's value
 
@@ -65,17 +65,17 @@ module _ (x : Input) (v : SlotValue) (ts : ℕ) (t : word x ≡ ts) where
     skip_count e = rw e at h ∙ rw e
 
     module _ (e : is_skip v ≡ false) where
-      pub one-slot : w / ts ≡ 0 → 1 ≡ entry_slots x v
-      one-slot z = rw (e, t, ← h, z)
+      pub one_slot : w / ts ≡ 0 → 1 ≡ entry_slots x v
+      one_slot z = rw (e, t, ← h, z)
 
-      pub many-slots : (w / ts ≡ 0 → ⊥) → w / ts ≡ entry_slots x v
-      many-slots z = let p : 0 < w / ts = omega (arith, z) in rw (e, t, ← h) (omega arith)
+      pub many_slots : (w / ts ≡ 0 → ⊥) → w / ts ≡ entry_slots x v
+      many_slots z = let p : 0 < w / ts = omega (arith, z) in rw (e, t, ← h) (omega arith)
 
       pub one_word : w < ts → ts ≡ entry_count x v
       one_word l = rw (e, t, ← h) (omega arith)
 
-      pub many-words : ts ≤ w → w ≡ entry_count x v
-      many-words l = rw (e, t, ← h) (omega arith)
+      pub many_words : ts ≤ w → w ≡ entry_count x v
+      many_words l = rw (e, t, ← h) (omega arith)
 
 -- ---- adding them
 
@@ -95,21 +95,21 @@ module _ (o : ℕ) (f : Fields) (index n : ℕ) (s : State) (ot₀ st₀ : List 
   pub adding_start : field 4 ot₀ o 3 ≤ s.slots → s.slots ≤ room 6 st₀ → index ≤ s.slots + 1 → Adding o f index n s ot₀ st₀ s 0 ot₀ st₀
   adding_start c r p =
       let z : index + 0 ≡ index = omega arith in
-      let n-0 : n - 0 ≡ n = omega arith in
-      record { same = λ l. rw (z, n-0); counts = c; fits = r; waits = refl; place = omega arith; below = omega arith; objects_length = refl; slots_length = refl; right = λ sc i. i }
+      let n_0 : n - 0 ≡ n = omega arith in
+      record { same = λ l. rw (z, n_0); counts = c; fits = r; waits = refl; place = omega arith; below = omega arith; objects_length = refl; slots_length = refl; right = λ sc i. i }
 
   module _ (t : State) (i : ℕ) (ot st : List ℕ) (w : Adding o f index n s ot₀ st₀ t i ot st) where
-    pub adding-end : n ≤ i → (l : Lent) → got tt (mem t (objects_is ot (slots_is st l))) ≡ add_slots o f index n (mem s (objects_is ot₀ (slots_is st₀ l)))
+    pub adding_end : n ≤ i → (l : Lent) → got tt (mem t (objects_is ot (slots_is st l))) ≡ add_slots o f index n (mem s (objects_is ot₀ (slots_is st₀ l)))
     unfolding add_slots
-    adding-end h l = let z : n - i ≡ 0 = omega arith in rw z at (w.same l)
+    adding_end h l = let z : n - i ≡ 0 = omega arith in rw z at (w.same l)
 
     one_more : i < n → n - i ≡ suc (n - (i + 1))
     one_more h = omega arith
 
     module _ (h : i < n) (r : Count) (ot' st' : List ℕ) (q : (l : Lent) → seen_count r (objects_is ot' (slots_is st' l)) ≡ slot_of o (index + i) f 0 (mem t (objects_is ot (slots_is st l)))) where
-      pub adding-full : {k p : ℕ} {t' : State} → r ≡ CountRefused k p t' → (l : Lent) → no k p (mem t' (objects_is ot' (slots_is st' l))) ≡ add_slots o f index n (mem s (objects_is ot₀ (slots_is st₀ l)))
+      pub adding_full : {k p : ℕ} {t' : State} → r ≡ CountRefused k p t' → (l : Lent) → no k p (mem t' (objects_is ot' (slots_is st' l))) ≡ add_slots o f index n (mem s (objects_is ot₀ (slots_is st₀ l)))
       unfolding add_slots
-      adding-full e l = then_no (λ _. add_slots o f (index + i + 1) (n - (i + 1))) (count_no (objects_is ot' (slots_is st' l)) e (q l)) ∙ rw (one_more h) at (w.same l)
+      adding_full e l = then_no (λ _. add_slots o f (index + i + 1) (n - (i + 1))) (count_no (objects_is ot' (slots_is st' l)) e (q l)) ∙ rw (one_more h) at (w.same l)
 
       module _ {k : ℕ} {t' : State} (e : r ≡ Is k t') where
         added : Added o (index + i) f 0 (mem t (objects_is ot (slots_is st nothing))) k (mem t' (objects_is ot' (slots_is st' nothing)))
@@ -121,8 +121,8 @@ module _ (o : ℕ) (f : Fields) (index n : ℕ) (s : State) (ot₀ st₀ : List 
             let z : index + (i + 1) ≡ index + i + 1 = omega arith in
             rw z (then_got (λ _. add_slots o f (index + i + 1) (n - (i + 1))) (count_is (objects_is ot' (slots_is st' l)) e (q l)) refl ∙ rw (one_more h) at (w.same l))
 
-        pub adding-turn : length ot' ≡ length ot → length st' ≡ length st → Adding o f index n s ot₀ st₀ t' (i + 1) ot' st'
-        adding-turn a b =
+        pub adding_turn : length ot' ≡ length ot → length st' ≡ length st → Adding o f index n s ot₀ st₀ t' (i + 1) ot' st'
+        adding_turn a b =
             let d = added in
             let roomy : t.slots < room 6 st = d.roomy in
             let count : t'.slots ≡ t.slots + 1 = d.count_is in
@@ -137,5 +137,5 @@ module _ (o : ℕ) (f : Fields) (index n : ℕ) (s : State) (ot₀ st₀ : List 
               below = omega arith;
               objects_length = a ∙ w.objects_length;
               slots_length = b ∙ w.slots_length;
-              right = λ sc y. rw (d.rows_are, count) (indexed-plain st t.slots o (index + i) f 0 d.roomy refl sc (w.right sc y));
+              right = λ sc y. rw (d.rows_are, count) (indexed_plain st t.slots o (index + i) f 0 d.roomy refl sc (w.right sc y));
             }

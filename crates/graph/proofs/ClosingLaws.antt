@@ -111,36 +111,36 @@ module _ (x : Input) (h : List ℕ) (m₀ : Mem) (s : State) (l : Lent) (sc : Li
   loop_cut b y = left_cut x (mem s l) b y ∙ w.same
 
   module _ (b : s.at < length x.payload) where
-    pub loop-synchronize : closing_of x.sheet (peek x (mem s l)) ≡ Synchronize → got tt (moved (s.at + 1) (mem s l)) ≡ entries_left x m₀
+    pub loop_synchronize : closing_of x.sheet (peek x (mem s l)) ≡ Synchronize → got tt (moved (s.at + 1) (mem s l)) ≡ entries_left x m₀
     unfolding byte
-    loop-synchronize c =
+    loop_synchronize c =
         let z = left_by x (mem s l) b Synchronize c in
         rw (lt-ltb s.at (length x.payload) b) at z ∙ w.same
 
     -- an alignment
     module _ (a : ℕ) (c : closing_of x.sheet (peek x (mem s l)) ≡ Alignment a) where
-      aligned-kept : Kept x (mem s l) (aligned a (moved (s.at + 1) (mem s l)))
-      aligned-kept =
+      aligned_kept : Kept x (mem s l) (aligned a (moved (s.at + 1) (mem s l)))
+      aligned_kept =
           let k = moved_kept w.ready b in
           record { sound = omega (arith, k.sound); counted = record { chunk_low = k.counted.chunk_low; count_low = k.counted.count_low }; onward = omega arith }
 
-      left-aligned : entries x (length x.payload - s.at) (aligned a (moved (s.at + 1) (mem s l))) ≡ entries_left x (mem s l)
+      left_aligned : entries x (length x.payload - s.at) (aligned a (moved (s.at + 1) (mem s l))) ≡ entries_left x (mem s l)
       unfolding byte
-      left-aligned = let z = left_by x (mem s l) b (Alignment a) c in rw (lt-ltb s.at (length x.payload) b) at z
+      left_aligned = let z = left_by x (mem s l) b (Alignment a) c in rw (lt-ltb s.at (length x.payload) b) at z
 
-      pub loop-aligned : Loop x h m₀ (aligned a (moved (s.at + 1) (mem s l))) sc
-      loop-aligned =
-          let k = aligned-kept in
+      pub loop_aligned : Loop x h m₀ (aligned a (moved (s.at + 1) (mem s l))) sc
+      loop_aligned =
+          let k = aligned_kept in
           let fuel : entries_left x (aligned a (moved (s.at + 1) (mem s l))) ≡ entries x (length x.payload - s.at) (aligned a (moved (s.at + 1) (mem s l))) = entries_fuel w.ready.proper _ _ (aligned a (moved (s.at + 1) (mem s l))) k.sound k.counted (omega arith) (omega arith) in
-          record { ready = ready_after w.ready k w.ready.numbered w.ready.ascending (record { pending = w.ready.index.pending; linked = w.ready.index.linked }); same = fuel ∙ left-aligned ∙ w.same; onward = onward_trans w.onward k.onward }
+          record { ready = ready_after w.ready k w.ready.numbered w.ready.ascending (record { pending = w.ready.index.pending; linked = w.ready.index.linked }); same = fuel ∙ left_aligned ∙ w.same; onward = onward_trans w.onward k.onward }
 
     -- an entry that holds references
     module _ (e : Closing) (c : closing_of x.sheet (peek x (mem s l)) ≡ e) (t : OneOf (2 ∷ 3 ∷ []) (tag_of the_type e)) where
       pub in_legacy : InLegacy x.sheet e
       in_legacy space q = deferred_legacy x.sheet (peek x (mem s l)) space (c ∙ q)
 
-      one-law : Law x Reads (mem s l) (one_entry x e (mem s l))
-      one-law I W R g = go e in_legacy
+      one_law : Law x Reads (mem s l) (one_entry x e (mem s l))
+      one_law I W R g = go e in_legacy
         where
           go : (e : Closing) → InLegacy x.sheet e → Ends x I (mem s l) (λ _. []) (Reads (mem s l)) (one_entry x e (mem s l))
           go (Deferred space) q = entry-ends w.ready.proper R (q space refl) space g
@@ -154,22 +154,22 @@ module _ (x : Input) (h : List ℕ) (m₀ : Mem) (s : State) (l : Lent) (sc : Li
           z ∙ by_one x (entries x (length x.payload - s.at)) e t (mem s l) ∙ left_by x (mem s l) b e c ∙ w.same
 
       module _ {n q : ℕ} {m1 : Mem} (f : no n q m1 ≡ one_entry x e (mem s l)) where
-        pub loop-fault-ends : ends_legacy x n ≡ true → got tt m1 ≡ entries_left x m₀
-        loop-fault-ends y = after f (rw y)
+        pub loop_fault_ends : ends_legacy x n ≡ true → got tt m1 ≡ entries_left x m₀
+        loop_fault_ends y = after f (rw y)
 
-        pub loop-fault : ends_legacy x n ≡ false → no n q m1 ≡ entries_left x m₀
-        loop-fault y = after f (rw y)
+        pub loop_fault : ends_legacy x n ≡ false → no n q m1 ≡ entries_left x m₀
+        loop_fault y = after f (rw y)
 
       module _ {u : Unit {0}} {m1 : Mem} (f : got u m1 ≡ one_entry x e (mem s l)) where
-        entry-went : Went x (mem s l) (Reads (mem s l)) None u m1
-        entry-went = law_went w.ready Reads one-law f
+        entry_went : Went x (mem s l) (Reads (mem s l)) None u m1
+        entry_went = law_went w.ready Reads one_law f
 
-        pub loop-reads : (s.at < m1.at) × (m1.at ≤ length x.payload)
-        loop-reads = (entry-went.more, entry-went.kept.sound.within)
+        pub loop_reads : (s.at < m1.at) × (m1.at ≤ length x.payload)
+        loop_reads = (entry_went.more, entry_went.kept.sound.within)
 
-        pub loop-turn : {sc1 : List ℕ} → Index (length x.payload) m1.slots m1.addresses sc1 → Loop x h m₀ m1 sc1
-        loop-turn j =
-            let k = entry-went in
+        pub loop_turn : {sc1 : List ℕ} → Index (length x.payload) m1.slots m1.addresses sc1 → Loop x h m₀ m1 sc1
+        loop_turn j =
+            let k = entry_went in
             let fuel : entries_left x m1 ≡ entries x (length x.payload - s.at) m1 = entries_fuel w.ready.proper _ _ m1 k.kept.sound k.kept.counted (omega arith) (omega (arith, k.more, k.kept.sound.within)) in
             record { ready = ready_after w.ready k.kept k.numbered k.ascending j; same = after f fuel; onward = onward_trans w.onward k.kept.onward }
 

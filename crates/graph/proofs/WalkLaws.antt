@@ -47,11 +47,11 @@ module _ (x : Input) (m : Mem) where
   top_cut e = rw (← e)
 
   module _ {b : ℕ} {m1 : Mem} (e : got b m1 ≡ byte x m) where
-    pub top-other : opens x.sheet b ≡ false → no 5 0 m1 ≡ top_object x m
-    top-other y = rw (← e, y)
+    pub top_other : opens x.sheet b ≡ false → no 5 0 m1 ≡ top_object x m
+    top_other y = rw (← e, y)
 
-    pub top-opens : {space : ℕ} {out : Out SlotValue} → opens x.sheet b ≡ true → space ≡ top_space x b → out ≡ object x (ref_at x 64) space 0 m1 → out ≡ top_object x m
-    top-opens y s h = rw (← e, y, ← s) h
+    pub top_opens : {space : ℕ} {out : Out SlotValue} → opens x.sheet b ≡ true → space ≡ top_space x b → out ≡ object x (ref_at x 64) space 0 m1 → out ≡ top_object x m
+    top_opens y s h = rw (← e, y, ← s) h
 
   pub walk_no : {n q : ℕ} {m1 : Mem} → no n q m1 ≡ top_object x m → no n q m1 ≡ walk x m
   unfolding walk

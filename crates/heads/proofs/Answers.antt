@@ -64,20 +64,20 @@ module _ (v : List ℕ) (r : Row) (rows : List Row) (t : List ℕ) (w : Answers 
 
   -- one that applies has its bytes, and no others
   module _ (p : present v r.name ≡ true) (q : tests v r.family ≡ true) (after : List ℕ) (d : Assigned t (number v r.name) (span_of v r.span) r.kind r.argument (root_mask v) after) where
-    claims-at : (b : ℕ) → claims v r b ≡ leb (number v r.name) b && ltb b (number v r.name + span_of v r.span)
-    claims-at b = rw (p, q)
+    claims_at : (b : ℕ) → claims v r b ≡ leb (number v r.name) b && ltb b (number v r.name + span_of v r.span)
+    claims_at b = rw (p, q)
 
-    claimed-at : (b : ℕ) → b < 256 → (x y : Bool) → leb (number v r.name) b ≡ x → ltb b (number v r.name + span_of v r.span) ≡ y → Has after b (first_of v (r ∷ rows) b)
-    claimed-at b h true true e f = rw (taken b (rw (claims-at b, e, f))) (d.inside b (leb-true _ _ e) (ltb-true _ _ f))
-    claimed-at b h true false e f =
+    claimed_at : (b : ℕ) → b < 256 → (x y : Bool) → leb (number v r.name) b ≡ x → ltb b (number v r.name + span_of v r.span) ≡ y → Has after b (first_of v (r ∷ rows) b)
+    claimed_at b h true true e f = rw (taken b (rw (claims_at b, e, f))) (d.inside b (leb-true _ _ e) (ltb-true _ _ f))
+    claimed_at b h true false e f =
         let s = d.above b (ltb-false _ _ f) h in
-        rw (passed b (rw (claims-at b, e, f))) (s.0 ∙ (w.heads b h).0, s.1 ∙ (w.heads b h).1)
-    claimed-at b h false y e f =
+        rw (passed b (rw (claims_at b, e, f))) (s.0 ∙ (w.heads b h).0, s.1 ∙ (w.heads b h).1)
+    claimed_at b h false y e f =
         let s = d.below b (leb-false _ _ e) in
-        rw (passed b (rw (claims-at b, e))) (s.0 ∙ (w.heads b h).0, s.1 ∙ (w.heads b h).1)
+        rw (passed b (rw (claims_at b, e))) (s.0 ∙ (w.heads b h).0, s.1 ∙ (w.heads b h).1)
 
-    answers-claimed : Answers v (r ∷ rows) after
-    answers-claimed = record { size = d.size ∙ w.size; heads = λ b h. claimed-at b h _ _ refl refl }
+    answers_claimed : Answers v (r ∷ rows) after
+    answers_claimed = record { size = d.size ∙ w.size; heads = λ b h. claimed_at b h _ _ refl refl }
 
 -- the code's step from row i to the row before it
 dropped : (i : ℕ) → 0 < i → i ≤ 50 → drop (i - 1) order ≡ row_at (i - 1) ∷ drop i order
@@ -94,15 +94,15 @@ module _ (v t : List ℕ) (i : ℕ) (c : Claim) (first : ℕ) (l : 0 < i) (h : i
       (answers_absent v (row_at (i - 1)) (drop i order) t w (rw (← r.name, ← f, eq-eqb first 65535 a)))
 
   module _ (tested : Bool) (g : tested ≡ tests v c.family) where
-    pub step-untested : tested ≡ false → Answers v (drop (i - 1) order) t
-    step-untested q =
+    pub step_untested : tested ≡ false → Answers v (drop (i - 1) order) t
+    step_untested q =
         rw (dropped i l h)
         (answers_untested v (row_at (i - 1)) (drop i order) t w (rw (← r.family, ← g) q))
 
-    pub step-claimed : (after : List ℕ) (n mask : ℕ) → (first ≡ 65535 → ⊥) → tested ≡ true → n ≡ span_of v c.span → mask ≡ root_mask v → Assigned t first n c.kind c.argument mask after → Answers v (drop (i - 1) order) after
-    step-claimed after n mask p q s m d =
+    pub step_claimed : (after : List ℕ) (n mask : ℕ) → (first ≡ 65535 → ⊥) → tested ≡ true → n ≡ span_of v c.span → mask ≡ root_mask v → Assigned t first n c.kind c.argument mask after → Answers v (drop (i - 1) order) after
+    step_claimed after n mask p q s m d =
         rw (dropped i l h)
-        (answers-claimed v (row_at (i - 1)) (drop i order) t w (rw (← r.name, ← f, ne_eqb first 65535 p)) (rw (← r.family, ← g) q) after
+        (answers_claimed v (row_at (i - 1)) (drop i order) t w (rw (← r.name, ← f, ne_eqb first 65535 p)) (rw (← r.family, ← g) q) after
         (assigned_as (f ∙ rw r.name) (s ∙ rw r.span) r.kind r.argument m d))
 
 never : (t : Bool) → t ≡ true → t ≡ false → ⊥

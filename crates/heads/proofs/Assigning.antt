@@ -33,27 +33,27 @@ module _ (t : List ℕ) (first kind rule mask : ℕ) where
       record { size = refl; inside = λ b h l. absurd (omega arith); below = λ b h. (refl, refl); above = λ b h l. (refl, refl) }
 
   module _ (after : List ℕ) (b x : ℕ) (size : length t ≡ 512) (low : first ≤ b) (small : b < 256) (e : x ≡ argument_of mask rule first b) (d : Assigned t first (b - first) kind rule mask after) where
-    after-size : length after ≡ 512
-    after-size = d.size ∙ size
+    after_size : length after ≡ 512
+    after_size = d.size ∙ size
 
     more-inside : (k : ℕ) → first ≤ k → (k ≡ b) ⊎ (k < b) → (get_or (both after b kind x) k 0 ≡ kind) × (get_or (both after b kind x) (256 + k) 0 ≡ argument_of mask rule first k)
     more-inside k h (inl q) =
         rw q (
-          (both_here after b kind x after-size small).0,
-          (both_here after b kind x after-size small).1 ∙ e,
+          (both_here after b kind x after_size small).0,
+          (both_here after b kind x after_size small).1 ∙ e,
         )
     more-inside k h (inr l) =
-        let s = both_other after b kind x after-size small k (omega arith) (omega arith) in
+        let s = both_other after b kind x after_size small k (omega arith) (omega arith) in
         let w = d.inside k h (omega arith) in
         (s.0 ∙ w.0, s.1 ∙ w.1)
 
     more-other : (k : ℕ) → k < 256 → (k ≡ b → ⊥) → Same t after k → Same t (both after b kind x) k
     more-other k l n w =
-        let s = both_other after b kind x after-size small k l n in
+        let s = both_other after b kind x after_size small k l n in
         (s.0 ∙ w.0, s.1 ∙ w.1)
 
-    pub assigned-more : Assigned t first (b + 1 - first) kind rule mask (both after b kind x)
-    assigned-more =
+    pub assigned_more : Assigned t first (b + 1 - first) kind rule mask (both after b kind x)
+    assigned_more =
         record { size = simp length-set d.size; inside = λ k h l. more-inside k h (eq-or-lt_of_le (omega arith)); below = λ k h. more-other k (omega arith) (omega arith) (d.below k h); above = λ k h l. more-other k l (omega arith) (d.above k (omega arith) l) }
 
 -- equal numbers, the same assignment

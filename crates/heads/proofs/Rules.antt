@@ -1,6 +1,6 @@
 -- The span, the family and the argument of a row at each of their ways out, from the facts that the code's tests give. Assumes nothing.
 use mathlib.Core.Path.{◌≡◌, refl, ap}
-use mathlib.Core.Bool.{Bool, true, false, not, and_false, and_true}
+use mathlib.Core.Bool.{Bool, true, false, not, and-false, and-true}
 use mathlib.Core.List.{List}
 use Prim.Native.Nat.{ℕ, ◌+◌, ◌-◌, ◌<◌, ◌≤◌}
 use native.Mathlib.Omega.{arith}
@@ -22,8 +22,8 @@ module _ (v : List ℕ) (rule : ℕ) where
     pub span_none : end < first → 0 ≡ span_of v rule
     span_none h = rw (e, ← f, ← g) (omega arith)
 
-    pub span-backref : end - first ≡ span_of v rule
-    span-backref = rw (e, ← f, ← g)
+    pub span_backref : end - first ≡ span_of v rule
+    span_backref = rw (e, ← f, ← g)
 
   pub span_number : (rule ≡ 253 → ⊥) → (rule ≡ 254 → ⊥) → (rule ≡ 255 → ⊥) → rule ≡ span_of v rule
   span_number a b c = rw (ne_eqb rule 253 a, ne_eqb rule 254 b, ne_eqb rule 255 c)
@@ -49,18 +49,18 @@ module _ (v : List ℕ) (family : ℕ) where
   tests_not_six e h = rw e (ap not h)
 
   module _ (p : Bool) (q : p ≡ present v k_fixed_repeat) where
-    pub tests-six-alone : {r : Bool} → family ≡ 5 → p ≡ false → r ≡ is_six_x v → r ≡ tests v family
-    tests-six-alone e f h = rw (e, ← q, f, and_true) h
+    pub tests_six_alone : {r : Bool} → family ≡ 5 → p ≡ false → r ≡ is_six_x v → r ≡ tests v family
+    tests_six_alone e f h = rw (e, ← q, f, and-true) h
 
     module _ (n0 : family ≡ 0 → ⊥) (n1 : family ≡ 1 → ⊥) (n2 : family ≡ 2 → ⊥) (n3 : family ≡ 3 → ⊥) (n4 : family ≡ 4 → ⊥) where
-      pub tests-hidden : p ≡ true → false ≡ tests v family
-      tests-hidden t =
+      pub tests_hidden : p ≡ true → false ≡ tests v family
+      tests_hidden t =
           rw (ne_eqb family 0 n0, ne_eqb family 1 n1, ne_eqb family 2 n2, ne_eqb family 3 n3, ne_eqb family 4 n4, ← q, t)
-          (simp (and_false, pick_same))
+          (simp (and-false, pick_same))
 
-      pub tests-not-six-alone : {r : Bool} → (family ≡ 5 → ⊥) → p ≡ false → r ≡ is_six_x v → not r ≡ tests v family
-      tests-not-six-alone n5 f h =
-          rw (ne_eqb family 0 n0, ne_eqb family 1 n1, ne_eqb family 2 n2, ne_eqb family 3 n3, ne_eqb family 4 n4, ne_eqb family 5 n5, ← q, f, ← h, and_true)
+      pub tests_not_six_alone : {r : Bool} → (family ≡ 5 → ⊥) → p ≡ false → r ≡ is_six_x v → not r ≡ tests v family
+      tests_not_six_alone n5 f h =
+          rw (ne_eqb family 0 n0, ne_eqb family 1 n1, ne_eqb family 2 n2, ne_eqb family 3 n3, ne_eqb family 4 n4, ne_eqb family 5 n5, ← q, f, ← h, and-true)
 
 module _ (mask rule first b : ℕ) where
   pub argument_none : rule ≡ 0 → 0 ≡ argument_of mask rule first b

@@ -28,7 +28,7 @@ use Rattle.laws.specs.Leaves.{pick_outcome_case}
 use Rattle.laws.specs.Sound.{Proper, Sound, Counted}
 use Rattle.laws.specs.Rules.{Frame, frame, Listed, Rules}
 use Rattle.laws.specs.Steps.{Good, Result, Ends}
-use Rattle.laws.specs.Keeps.{sheet_gives, map-ends, object-keeping}
+use Rattle.laws.specs.Keeps.{sheet_gives, map_ends, object-keeping}
 use Rattle.laws.specs.References.{ref_keeping}
 use Rattle.laws.specs.ClosingKeeps.{zero_at, walk_ends}
 use Rattle.laws.specs.Theorems.{NoValue}
@@ -206,13 +206,13 @@ module _ (x : Input) (words : (word x ≡ 4) ⊎ (word x ≡ 8)) (m : Mem) (p : 
     abbrev after : List ℕ
     after = written t n row
 
-    with-record : length c.cur ≡ 256 → length c.used ≡ 256 → ((s : ℕ) → get_or c.used s 0 % word x ≡ 0)
+    with_record : length c.cur ≡ 256 → length c.used ≡ 256 → ((s : ℕ) → get_or c.used s 0 % word x ≡ 0)
         → flag ≡ pick_ℕ (leb x.spaces space) 0 1 → (x.spaces ≤ space → (chunk ≡ 0) × (offset ≡ 0))
         → ((s : ℕ) → AtMost (get_or m.alloc.cur s 0) (get_or m.alloc.used s 0) (get_or c.cur s 0) (get_or c.used s 0))
         → AtMost chunk offset (get_or c.cur space 0) (get_or c.used space 0)
         → ((i : ℕ) → i < n → space_of t i ≡ space → AtMost (field 5 t i 1) (field 5 t i 2) chunk offset)
         → Ascending x (table after (n + 1)) c
-    with-record a b d e f up top mono =
+    with_record a b d e f up top mono =
         let five : length row ≡ 5 = refl in
         let oldf = old_field t row n five roomy in
         let newf = new_field t row n five roomy in
@@ -255,7 +255,7 @@ module _ (x : Input) (words : (word x ≡ 4) ⊎ (word x ≡ 8)) (m : Mem) (p : 
   shaped r roomy (bare h e f) =
       let out : leb x.spaces space ≡ true = le-leb x.spaces space h in
       rw (e, f)
-      (with-record 0 0 0 m.alloc roomy p.chunks p.offsets p.whole (rw out) (λ _. (refl, refl)) (λ s. inr (refl, omega arith)) (least _ _)
+      (with_record 0 0 0 m.alloc roomy p.chunks p.offsets p.whole (rw out) (λ _. (refl, refl)) (λ s. inr (refl, omega arith)) (least _ _)
       (λ i l q. let z = p.bares i l (rw q h) in rw (z.0, z.1) (inr (refl, omega arith))))
   shaped r roomy (seated h e f u) =
       let out : leb x.spaces space ≡ false = lt-leb x.spaces space h in
@@ -263,7 +263,7 @@ module _ (x : Input) (words : (word x ≡ 4) ⊎ (word x ≡ 8)) (m : Mem) (p : 
       let fill : ℕ = fill_to_align used m.alignment (word x) in
       let more : get_or r.alloc.used space 0 ≡ used + advance_of size m.alignment (word x) = rw u (get_or-set_same m.alloc.used space _ 0 (omega (arith, low, p.offsets))) in
       rw e
-      (with-record (get_or m.alloc.cur space 0) (used + fill) 1 r.alloc roomy (rw f p.chunks) (rw u (length-set m.alloc.used space _ ∙ p.offsets)) (λ s. (moved_up s r.alloc.used u).1) (rw out) (λ q. absurd (omega (arith, q, h)))
+      (with_record (get_or m.alloc.cur space 0) (used + fill) 1 r.alloc roomy (rw f p.chunks) (rw u (length-set m.alloc.used space _ ∙ p.offsets)) (λ s. (moved_up s r.alloc.used u).1) (rw out) (λ q. absurd (omega (arith, q, h)))
       (λ s. inr (rw f, (moved_up s r.alloc.used u).0))
       (inr (rw f, let z = fill_low used m.alignment (word x) size words (p.whole space) in omega (arith, z, more)))
       (λ i l q. at_most_trans (subst (λ (s : ℕ). AtMost (field 5 t i 1) (field 5 t i 2) (get_or m.alloc.cur s 0) (get_or m.alloc.used s 0)) q (p.bounded i l)) (inr (refl, omega arith))))
@@ -337,18 +337,18 @@ module _ {x : Input} (g : Proper x) where
     pub from : (S : List Frame) → Whole x S → Listed S m.objects.count → Good x (Seated x) S m m
     from S w l = record { kept = record { sound = s; counted = c; onward = omega arith }; has = (p, w); listed = l }
 
-    pub ref-ascending : (k : ℕ) → StaysAscending x (ref_at x k m)
-    ref-ascending k = stays ((ref_keeping g (seated_rules g) k).ends [] m (from [] tt tt))
+    pub ref_ascending : (k : ℕ) → StaysAscending x (ref_at x k m)
+    ref_ascending k = stays ((ref_keeping g (seated_rules g) k).ends [] m (from [] tt tt))
 
-    pub object-ascending : (k space tag : ℕ) → space < 256 → StaysAscending x (object x (ref_at x k) space tag m)
-    object-ascending k space tag h = stays ((object-keeping g (seated_rules g) (ref_keeping g (seated_rules g) k) space tag h).ends [] m (from [] tt tt))
+    pub object_ascending : (k space tag : ℕ) → space < 256 → StaysAscending x (object x (ref_at x k) space tag m)
+    object_ascending k space tag h = stays ((object-keeping g (seated_rules g) (ref_keeping g (seated_rules g) k) space tag h).ends [] m (from [] tt tt))
 
     -- of an object o of whole words that has a record
-    pub map-ascending : (o size k space : ℕ) → o < m.objects.count → size % word x ≡ 0 → space < 256 → StaysAscending x (read_map x (ref_at x k) space size o m)
-    map-ascending o size k space l w h = stays (map-ends g (seated_rules g) (ref_keeping g (seated_rules g) k) (from (frame o size 0 ∷ []) (w, tt) (l, tt)) space h)
+    pub map_ascending : (o size k space : ℕ) → o < m.objects.count → size % word x ≡ 0 → space < 256 → StaysAscending x (read_map x (ref_at x k) space size o m)
+    map_ascending o size k space l w h = stays (map_ends g (seated_rules g) (ref_keeping g (seated_rules g) k) (from (frame o size 0 ∷ []) (w, tt) (l, tt)) space h)
 
-    pub walk-ascending : StaysAscending x (walk x m)
-    walk-ascending = stays (walk_ends g (seated_rules g) (from [] tt tt))
+    pub walk_ascending : StaysAscending x (walk x m)
+    walk_ascending = stays (walk_ends g (seated_rules g) (from [] tt tt))
 
   -- a call starts so
   pub start_ascending : (rooms : Rooms) (log : Log) → Ascending x (start rooms log).addresses (start rooms log).alloc

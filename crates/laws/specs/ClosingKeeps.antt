@@ -42,31 +42,31 @@ module _ {x : Input} {I : List Frame → Mem → Type 0} {W : Mem → SlotValue 
   -- ---- legacy deferred entries
 
   module _ (legacy : is_legacy x.sheet ≡ true) where
-    pub addSlots-end : (o : ℕ) (v : Fields) (index n : ℕ) {m : Mem} → Good x I [] m m → Ends x I m (λ _. []) (λ _ m'. Slots n m m') (add_slots o v index n m)
+    pub add_slots_end : (o : ℕ) (v : Fields) (index n : ℕ) {m : Mem} → Good x I [] m m → Ends x I m (λ _. []) (λ _ m'. Slots n m m') (add_slots o v index n m)
     unfolding add_slots
-    addSlots-end o v index zero w = gives w (omega arith)
-    addSlots-end o v index (suc n) {m} w =
+    add_slots_end o v index zero w = gives w (omega arith)
+    add_slots_end o v index (suc n) {m} w =
         slot_then g R w o index v 0 in_slot (λ (z : Out ℕ). and_then z (λ _. add_slots o v (index + 1) n)) (λ n q m'. refl)
         (λ r. let w1 : Good x I [] m (with_slot o index v 0 in_slot m) = record { kept = kept_noted (kept_slot w.kept o index v 0 (omega arith) r) _; has = R.on_entry m o index v w.kept.sound legacy w.has r; listed = tt } in
-        last w1 (addSlots-end o v (index + 1) n (here w1)) (λ _ m2 w2 k2 q. omega (arith, q)))
+        last w1 (add_slots_end o v (index + 1) n (here w1)) (λ _ m2 w2 k2 q. omega (arith, q)))
 
-    pub entryItem-ends : (o index : ℕ) (v : SlotValue) {m : Mem} → Good x I [] m m → Ends x I m (λ _. []) (λ _ m'. Slots (entry_slots x v) m m') (entry_item x o index v m)
-    entryItem-ends o index v {m} w = addSlots-end o (entry_fields m.values v) index (entry_slots x v) w
+    pub entry_item-ends : (o index : ℕ) (v : SlotValue) {m : Mem} → Good x I [] m m → Ends x I m (λ _. []) (λ _ m'. Slots (entry_slots x v) m m') (entry_item x o index v m)
+    entry_item-ends o index v {m} w = add_slots_end o (entry_fields m.values v) index (entry_slots x v) w
 
-    pub entryItems-end : (o size n index done : ℕ) {m : Mem} → Good x I [] m m → Ends x I m (λ _. []) (Any m) (entry_items x o size n index done m)
+    pub entry_items_end : (o size n index done : ℕ) {m : Mem} → Good x I [] m m → Ends x I m (λ _. []) (Any m) (entry_items x o size n index done m)
     unfolding entry_items
-    entryItems-end o size zero index done w = gives w tt
-    entryItems-end o size (suc n) index done w =
+    entry_items_end o size zero index done w = gives w tt
+    entry_items_end o size (suc n) index done w =
         either (leb size done) _ _ (λ _. gives w tt)
         (λ _. then₁ w (by w (ref_keeping g R 64)) _
-        (λ v m1 w1 k1 p. then₁ w1 (entryItem-ends o index v (here w1)) _
-        (λ _ m2 w2 k2 q. last w2 (entryItems-end o size n (index + entry_slots x v) (done + entry_count x v) (here w2)) (λ _ m3 w3 k3 _. tt))))
+        (λ v m1 w1 k1 p. then₁ w1 (entry_item-ends o index v (here w1)) _
+        (λ _ m2 w2 k2 q. last w2 (entry_items_end o size n (index + entry_slots x v) (done + entry_count x v) (here w2)) (λ _ m3 w3 k3 _. tt))))
 
-    pub entryOf-ends : (f : Fields) {m : Mem} → Good x I [] m m → Ends x I m (λ _. []) (Any m) (entry_of x f m)
-    entryOf-ends f w =
+    pub entry_of_ends : (f : Fields) {m : Mem} → Good x I [] m m → Ends x I m (λ _. []) (Any m) (entry_of x f m)
+    entry_of_ends f w =
         either (eqb f.kind 1) _ _
         (λ _. then₁ w (by w (int_keeps g R)) _
-        (λ size m1 w1 k1 p. last w1 (entryItems-end f.a size _ (max (field 4 m1.objects.rows f.a 3) 1) 1 (here w1)) (λ _ m2 w2 k2 _. tt)))
+        (λ size m1 w1 k1 p. last w1 (entry_items_end f.a size _ (max (field 4 m1.objects.rows f.a 3) 1) 1 (here w1)) (λ _ m2 w2 k2 _. tt)))
         (λ _. refuses w)
 
     pub entry-ends : (space : ℕ) {m : Mem} → Good x I [] m m → Ends x I m (λ _. []) (Reads m) (entry x space m)
@@ -74,7 +74,7 @@ module _ {x : Input} {I : List Frame → Mem → Type 0} {W : Mem → SlotValue 
     entry-ends space w =
         then₂ w (by w (byte_keeps g R)) _ _
         (λ _ m1 w1 k1 p. then₁ w1 (by w1 (legacy_reference_keeps g R space)) _
-        (λ v m2 w2 k2 q. last w2 (entryOf-ends (fields_of v) (here w2)) (λ _ m3 w3 k3 _. omega (arith, p.reads, k2.onward, k3.onward))))
+        (λ v m2 w2 k2 q. last w2 (entry_of_ends (fields_of v) (here w2)) (λ _ m3 w3 k3 _. omega (arith, p.reads, k2.onward, k3.onward))))
 
   -- ---- the section
 

@@ -22,8 +22,8 @@ use Rattle.laws.specs.Sound.{Proper, Sound, Counted, Kept, Holds, Keeps, Referre
 use Rattle.laws.specs.Leaves.{tag_inside, deferred_legacy}
 use Rattle.laws.specs.Rules.{frame}
 use Rattle.laws.specs.Steps.{Good, Ends, Keeping, gives, here, by, last, then₁, then₂, law, good_aligned}
-use Rattle.laws.specs.Keeps.{Reads, Passed, sheet_gives, resolved_kept, resolved_objects, byte_keeps as byte_law, int_keeps as int_law, placeItem-ends}
-use Rattle.laws.specs.ClosingKeeps.{Slots, entryItem-ends}
+use Rattle.laws.specs.Keeps.{Reads, Passed, sheet_gives, resolved_kept, resolved_objects, byte_keeps as byte_law, int_keeps as int_law, place_item-ends}
+use Rattle.laws.specs.ClosingKeeps.{Slots, entry_item-ends}
 use Rattle.laws.specs.Theorems.{Nothing, rules, holds, begin, keeping, byte_keeps, ref_keeps, entry_keeps, drop_reference_keeps}
 
 -- ---- two readings alike
@@ -54,23 +54,23 @@ module _ {x : Input} (g : Proper x) where
 
   -- ---- chunk changes
 
-  abbrev moreChunks : ℕ → Mem → Bool
-  moreChunks space m = is_next_chunk x.sheet (peek x m) && eqb (peek_at x.payload (m.at + 1)) space
+  abbrev more_chunks : ℕ → Mem → Bool
+  more_chunks space m = is_next_chunk x.sheet (peek x m) && eqb (peek_at x.payload (m.at + 1)) space
 
-  chunk_inside : (space : ℕ) (m : Mem) → moreChunks space m ≡ true → m.at < length x.payload
+  chunk_inside : (space : ℕ) (m : Mem) → more_chunks space m ≡ true → m.at < length x.payload
   chunk_inside space m e = tagged k_next_chunk (omega arith) m (and_left (is_next_chunk x.sheet (peek x m)) _ e)
 
   chunk_end : (space n : ℕ) (m : Mem) → left m ≤ 0 → chunk_changes x space n m ≡ got tt m
   unfolding chunk_changes
   chunk_end space zero m h = refl
-  chunk_end space (suc n) m h = choose_no (moreChunks space m) _ _ (λ e. omega (arith, chunk_inside space m e))
+  chunk_end space (suc n) m h = choose_no (more_chunks space m) _ _ (λ e. omega (arith, chunk_inside space m e))
 
   pub chunk_fuel : (space n n' : ℕ) (m : Mem) → left m ≤ n → left m ≤ n' → chunk_changes x space n m ≡ chunk_changes x space n' m
   unfolding chunk_changes
   chunk_fuel space zero n' m h h' = sym (chunk_end space n' m h)
   chunk_fuel space (suc n) zero m h h' = chunk_end space (suc n) m h'
   chunk_fuel space (suc n) (suc n') m h h' =
-      choose_same (moreChunks space m) _ _ _ _
+      choose_same (more_chunks space m) _ _ _ _
       (λ e. let l = chunk_inside space m e in chunk_fuel space n n' (change_chunk x space (moved (m.at + 2) m)) (omega arith) (omega arith)) (λ _. refl)
 
   -- ---- resolves
@@ -104,19 +104,19 @@ module _ {x : Input} (g : Proper x) where
     one_item : (done : ℕ) (m : Mem) → Sound x m → Counted m → o < m.objects.count → done < size → Holds x m (Reads m) ((r >>= place_item x o done) m)
     one_item done m s c l d =
         let w : Good x Nothing (frame o size done ∷ []) m m = begin x s c (l, tt) in
-        let e : Ends x Nothing m (λ d. frame o size d ∷ []) (Reads m) ((r >>= place_item x o done) m) = then₁ w (by w (keeping x r k)) _ (λ v m1 w1 k1 p. last w1 (placeItem-ends g (rules x) (here w1) v tt p.narrow d) (λ d m2 w2 k2 q. omega (arith, p.reads, q.at_same))) in
+        let e : Ends x Nothing m (λ d. frame o size d ∷ []) (Reads m) ((r >>= place_item x o done) m) = then₁ w (by w (keeping x r k)) _ (λ v m1 w1 k1 p. last w1 (place_item-ends g (rules x) (here w1) v tt p.narrow d) (λ d m2 w2 k2 q. omega (arith, p.reads, q.at_same))) in
         holds x e
 
-    pub items-fuel : (n n' done : ℕ) (m : Mem) → Sound x m → Counted m → o < m.objects.count → left m + 1 ≤ n → left m + 1 ≤ n' → items x r o size n done m ≡ items x r o size n' done m
+    pub items_fuel : (n n' done : ℕ) (m : Mem) → Sound x m → Counted m → o < m.objects.count → left m + 1 ≤ n → left m + 1 ≤ n' → items x r o size n done m ≡ items x r o size n' done m
     unfolding items
-    items-fuel zero n' done m s c l h h' = absurd (omega arith)
-    items-fuel (suc n) zero done m s c l h h' = absurd (omega arith)
-    items-fuel (suc n) (suc n') done m s c l h h' =
+    items_fuel zero n' done m s c l h h' = absurd (omega arith)
+    items_fuel (suc n) zero done m s c l h h' = absurd (omega arith)
+    items_fuel (suc n) (suc n') done m s c l h h' =
         choose_same (leb size done) _ _ _ _ (λ _. refl)
         (λ e. choose_same (is_deferred x.sheet (peek x m)) _ _ _ _ (λ _. refl)
         (λ _. then_same ((r >>= place_item x o done) m) _ _
         (λ d m2 q. let z : (Kept x m m2) × (m.at < m2.at) = subst (Holds x m (Reads m)) q (one_item done m s c l (leb-false _ _ e)) in
-        items-fuel n n' d m2 z.0.sound z.0.counted (omega (arith, z.0.onward.objects_up)) (omega (arith, z.0.sound.within)) (omega (arith, z.0.sound.within)))))
+        items_fuel n n' d m2 z.0.sound z.0.counted (omega (arith, z.0.onward.objects_up)) (omega (arith, z.0.sound.within)) (omega (arith, z.0.sound.within)))))
 
   -- ---- legacy deferred entries
 
@@ -129,7 +129,7 @@ module _ {x : Input} (g : Proper x) where
       (λ _. then_same (ref_at x 64 m) _ _
       (λ v m1 e. let z : (Kept x m m1) × (Referred x m v m1) = subst (Holds x m (Referred x m)) e (ref_keeps g 64 m s c) in
       then_same (entry_item x o index v m1) _ _
-      (λ _ m2 q. let u : (Kept x m1 m2) × (Slots (entry_slots x v) m1 m2) = subst (Holds x m1 (λ _ m'. Slots (entry_slots x v) m1 m')) q (holds x (entryItem-ends g (rules x) y o index v (begin x z.0.sound z.0.counted tt))) in
+      (λ _ m2 q. let u : (Kept x m1 m2) × (Slots (entry_slots x v) m1 m2) = subst (Holds x m1 (λ _ m'. Slots (entry_slots x v) m1 m')) q (holds x (entry_item-ends g (rules x) y o index v (begin x z.0.sound z.0.counted tt))) in
       entry_items_fuel o size n n' (index + entry_slots x v) (done + entry_count x v) m2 y u.0.sound u.0.counted (omega (arith, z.1.reads, u.1, u.0.sound.within)) (omega (arith, z.1.reads, u.1, u.0.sound.within)))))
 
   -- ---- the closing section and the padding

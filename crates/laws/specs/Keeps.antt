@@ -239,30 +239,30 @@ module _ {x : Input} {I : List Frame → Mem → Type 0} {W : Mem → SlotValue 
             gives (record { kept = kept_allocated w.kept r.alignment r (h z); has = R.on_allocate S m o size done space w.kept.sound w.has w.listed.0 low r q z; listed = w.listed }) refl)
             (λ _. refuses w)
 
-    flag-ends : {m : Mem} → Good x I (frame o size done ∷ S) m m → (v : SlotValue) → W m v → Ends x I m (λ _. frame o size done ∷ S) (λ _ m'. (Aside m m') × (m'.at ≡ m.at) × (m'.skip ≡ m.skip)) (flag_object x o v m)
+    flag_ends : {m : Mem} → Good x I (frame o size done ∷ S) m m → (v : SlotValue) → W m v → Ends x I m (λ _. frame o size done ∷ S) (λ _ m'. (Aside m m') × (m'.at ≡ m.at) × (m'.skip ≡ m.skip)) (flag_object x o v m)
     unfolding flag_object
-    flag-ends {m} w v h =
+    flag_ends {m} w v h =
         either (flags x v) _ _
         (λ e. gives (record { kept = kept_flagged w.kept o; has = R.on_flag S m o size done v w.kept.sound w.has h e; listed = w.listed }) (refl, refl, refl))
         (λ _. gives w (refl, refl, refl))
 
-    pub resolves-end : (n : ℕ) {m : Mem} → Good x I (frame o size done ∷ S) m m → Ends x I m (λ _. frame o size done ∷ S) (Any m) (resolves x o n m)
+    pub resolves_end : (n : ℕ) {m : Mem} → Good x I (frame o size done ∷ S) m m → Ends x I m (λ _. frame o size done ∷ S) (Any m) (resolves x o n m)
     unfolding resolves
-    resolves-end zero w = gives w tt
-    resolves-end (suc n) {m} w =
+    resolves_end zero w = gives w tt
+    resolves_end (suc n) {m} w =
         either (is_resolve x.sheet (peek x m)) _ _
         (λ _. then₃ w (by w byte_keeps) _ _ _
         (λ _ m1 w1 k1 p. then₂ w1 (by w1 int_keeps) _ _
-        (λ number m2 w2 k2 q. let w3 = good-resolved w2 number in last w3 (resolves-end n (here w3)) (λ _ m3 w3 k3 _. tt))))
+        (λ number m2 w2 k2 q. let w3 = good_resolved w2 number in last w3 (resolves_end n (here w3)) (λ _ m3 w3 k3 _. tt))))
         (λ _. gives w tt)
       where
-        good-resolved : {m₀ m : Mem} → Good x I (frame o size done ∷ S) m₀ m → (number : ℕ) → Good x I (frame o size done ∷ S) m₀ (resolved number o m)
-        good-resolved {m = m} w number = record { kept = resolved_kept w.kept number o; has = R.on_resolve S m o size done number w.kept.sound w.has w.listed.0; listed = rw (resolved_objects number o m) w.listed }
+        good_resolved : {m₀ m : Mem} → Good x I (frame o size done ∷ S) m₀ m → (number : ℕ) → Good x I (frame o size done ∷ S) m₀ (resolved number o m)
+        good_resolved {m = m} w number = record { kept = resolved_kept w.kept number o; has = R.on_resolve S m o size done number w.kept.sound w.has w.listed.0; listed = rw (resolved_objects number o m) w.listed }
 
     -- an item that becomes a slot
-    keepItem-ends : {m : Mem} → Good x I (frame o size done ∷ S) m m → (v : SlotValue) → W m v → Slotted v → width_of (word x) v ≤ 2 ^ 34 → done < size → Ends x I m (λ d. frame o size d ∷ S) (Placed done m) (keep_item x o done v m)
+    keep_item-ends : {m : Mem} → Good x I (frame o size done ∷ S) m m → (v : SlotValue) → W m v → Slotted v → width_of (word x) v ≤ 2 ^ 34 → done < size → Ends x I m (λ d. frame o size d ∷ S) (Placed done m) (keep_item x o done v m)
     unfolding keep_item
-    keepItem-ends {m} w v h s n l =
+    keep_item-ends {m} w v h s n l =
         slot_then w o _ (fields_of v) (waits_of v) _
         (λ (z : Out ℕ). and_then (and_then (and_then z (λ k. tell (item o (done + m.skip) (width_of (word x) v) k))) (λ _. change (with_skip 0))) (λ _. give (done + m.skip + width_of (word x) v))) (λ n q m'. refl)
         (λ r. gives (record {
@@ -271,19 +271,19 @@ module _ {x : Input} {I : List Frame → Mem → Type 0} {W : Mem → SlotValue 
           listed = w.listed;
         }) (omega arith))
 
-    pub placeItem-ends : {m : Mem} → Good x I (frame o size done ∷ S) m m → (v : SlotValue) → W m v → width_of (word x) v ≤ 2 ^ 34 → done < size → Ends x I m (λ d. frame o size d ∷ S) (Placed done m) (place_item x o done v m)
+    pub place_item-ends : {m : Mem} → Good x I (frame o size done ∷ S) m m → (v : SlotValue) → W m v → width_of (word x) v ≤ 2 ^ 34 → done < size → Ends x I m (λ d. frame o size d ∷ S) (Placed done m) (place_item x o done v m)
     unfolding place_item
-    placeItem-ends {m} w (Skip n) h b l = gives (record { kept = kept_skip w.kept 0 (omega arith); has = R.on_skip S m o size done n w.has h; listed = w.listed }) (omega arith)
-    placeItem-ends {m} w (StreamBytes n) h b l = gives (record { kept = kept_skip w.kept 0 (omega arith); has = R.on_bytes S m o size done n w.has h; listed = w.listed }) (omega arith)
-    placeItem-ends w (RepeatPrev n) h b l =
+    place_item-ends {m} w (Skip n) h b l = gives (record { kept = kept_skip w.kept 0 (omega arith); has = R.on_skip S m o size done n w.has h; listed = w.listed }) (omega arith)
+    place_item-ends {m} w (StreamBytes n) h b l = gives (record { kept = kept_skip w.kept 0 (omega arith); has = R.on_bytes S m o size done n w.has h; listed = w.listed }) (omega arith)
+    place_item-ends w (RepeatPrev n) h b l =
         then₁ w (previous_ends w n h) _
-        (λ k m1 w1 k1 p. last w1 (keepItem-ends (here w1) (Repeat n k) p.1 tt b l) (λ d m2 w2 k2 q. omega (arith, p.0, q)))
-    placeItem-ends w (IsRef r) h b l = keepItem-ends w (IsRef r) h tt b l
-    placeItem-ends w (Repeat n k) h b l = keepItem-ends w (Repeat n k) h tt b l
-    placeItem-ends w (Raw r) h b l = keepItem-ends w (Raw r) h tt b l
-    placeItem-ends w ClearedWeak h b l = keepItem-ends w ClearedWeak h tt b l
-    placeItem-ends w (WeakRef k) h b l = keepItem-ends w (WeakRef k) h tt b l
-    placeItem-ends w (PendingRef n) h b l = keepItem-ends w (PendingRef n) h tt b l
+        (λ k m1 w1 k1 p. last w1 (keep_item-ends (here w1) (Repeat n k) p.1 tt b l) (λ d m2 w2 k2 q. omega (arith, p.0, q)))
+    place_item-ends w (IsRef r) h b l = keep_item-ends w (IsRef r) h tt b l
+    place_item-ends w (Repeat n k) h b l = keep_item-ends w (Repeat n k) h tt b l
+    place_item-ends w (Raw r) h b l = keep_item-ends w (Raw r) h tt b l
+    place_item-ends w ClearedWeak h b l = keep_item-ends w ClearedWeak h tt b l
+    place_item-ends w (WeakRef k) h b l = keep_item-ends w (WeakRef k) h tt b l
+    place_item-ends w (PendingRef n) h b l = keep_item-ends w (PendingRef n) h tt b l
 
     -- the items fill the object
     closed-ends : {m : Mem} → Good x I (frame o size done ∷ S) m m → (tag : ℕ) → Ends x I m (λ _. S) (λ v m'. (width_of (word x) v ≤ 2 ^ 34) × (W m' v)) (closed o tag size done m)
@@ -296,7 +296,7 @@ module _ {x : Input} {I : List Frame → Mem → Type 0} {W : Mem → SlotValue 
   pub keep_map_ends : {S : List Frame} {o size : ℕ} {m : Mem} → Good x I (frame o size 0 ∷ S) m m → (v : SlotValue) → W m v → Ends x I m (λ _. frame o size (word x) ∷ S) (λ _ m'. More (λ m. m.slots) m m') (keep_map x o v m)
   unfolding keep_map
   keep_map_ends {S} {o} {size} w v h =
-      then₂ w (flag-ends w v h) _ _
+      then₂ w (flag_ends w v h) _ _
       (λ _ m1 w1 k1 p. slot_then w1 o 0 (fields_of v) 0 _ (λ (z : Out ℕ). and_then z (λ k. tell (item o 0 (word x) k))) (λ n q m'. refl)
       (λ r. gives (record {
         kept = kept_noted (kept_noted (kept_slot w1.kept o 0 (fields_of v) 0 (omega arith) r) _) _;
@@ -318,21 +318,21 @@ module _ {x : Input} {I : List Frame → Mem → Type 0} {W : Mem → SlotValue 
           (λ _ m4 w4 k4 a4. then₁ w4 (allocate-ends (here w4) space h) _
           (λ _ m5 w5 k5 a5. gives w5 (record { reads = omega (arith, p.reads, k3.onward, k4.onward, k5.onward); narrow = p.narrow; has = R.aside m1 m5 v (a5 ∙ a4 ∙ a3) p.has })))))
 
-      then-ends : {m : Mem} → Good x I (frame o size 0 ∷ S) m m → (space : ℕ) → space < 256 → Ends x I m (λ _. frame o size 0 ∷ S) (Refers x W m) (map_then_allocate x r space size o m)
-      then-ends w space h =
+      then_ends : {m : Mem} → Good x I (frame o size 0 ∷ S) m m → (space : ℕ) → space < 256 → Ends x I m (λ _. frame o size 0 ∷ S) (Refers x W m) (map_then_allocate x r space size o m)
+      then_ends w space h =
           then₁ w (by w k) _
           (λ v m1 w1 k1 p. then₁ w1 (allocate-ends (here w1) space h) _
           (λ _ m2 w2 k2 a2. gives w2 (record { reads = omega (arith, p.reads, k2.onward); narrow = p.narrow; has = R.aside m1 m2 v a2 p.has })))
 
-      pub map-ends : {m : Mem} → Good x I (frame o size 0 ∷ S) m m → (space : ℕ) → space < 256 → Ends x I m (λ _. frame o size 0 ∷ S) (Refers x W m) (read_map x r space size o m)
-      map-ends w space h =
+      pub map_ends : {m : Mem} → Good x I (frame o size 0 ∷ S) m m → (space : ℕ) → space < 256 → Ends x I m (λ _. frame o size 0 ∷ S) (Refers x W m) (read_map x r space size o m)
+      map_ends w space h =
           either (is_map_first x.sheet) _ _ (λ _. first_ends w space h)
-          (λ _. either (is_legacy x.sheet) _ _ (λ _. then-ends w space h) (λ _. by w k))
+          (λ _. either (is_legacy x.sheet) _ _ (λ _. then_ends w space h) (λ _. by w k))
 
-      pub items-end : (n done : ℕ) {m : Mem} → Good x I (frame o size done ∷ S) m m → Ends x I m (λ d. frame o size d ∷ S) (Filled size done m) (items x r o size n done m)
+      pub items_end : (n done : ℕ) {m : Mem} → Good x I (frame o size done ∷ S) m m → Ends x I m (λ d. frame o size d ∷ S) (Filled size done m) (items x r o size n done m)
       unfolding items
-      items-end zero done w = gives w (omega arith)
-      items-end (suc n) done {m} w =
+      items_end zero done w = gives w (omega arith)
+      items_end (suc n) done {m} w =
           either (leb size done) _ _ (λ _. gives w (omega arith))
           (λ e. let l : done < size = leb-false _ _ e in
           either (is_deferred x.sheet (peek x m)) _ _
@@ -340,17 +340,17 @@ module _ {x : Input} {I : List Frame → Mem → Type 0} {W : Mem → SlotValue 
           then₁ w (by w byte_keeps) _
           (λ b m1 w1 k1 p. gives (record { kept = w1.kept; has = R.on_deferred S m1 o size done (peek x m) w1.has d (peek-below x.payload m.at g.bytes a) l; listed = w1.listed }) (omega arith)))
           (λ _. then₂ w (by w k) _ _
-          (λ v m1 w1 k1 p. then₁ w1 (placeItem-ends (here w1) v p.has p.narrow l) _
-          (λ d m2 w2 k2 q. last w2 (items-end n d (here w2))
+          (λ v m1 w1 k1 p. then₁ w1 (place_item-ends (here w1) v p.has p.narrow l) _
+          (λ d m2 w2 k2 q. last w2 (items_end n d (here w2))
           (λ z m3 w3 k3 f. let s = w1.kept.sound.skip_low in let a = w1.kept.sound.within in let c = g.short in omega (arith, q, f))))))
 
     pub body-ends : {S : List Frame} {o : ℕ} {m : Mem} (words : ℕ) → Good x I (frame o (words * word x) 0 ∷ S) m m → (space tag : ℕ) → space < 256 → Ends x I m (λ _. S) (Refers x W m) (body x r space tag words o m)
     unfolding body
     body-ends words w space tag h =
-        then₄ w (map-ends w space h) _ _ _ _
+        then₄ w (map_ends w space h) _ _ _ _
         (λ v m1 w1 k1 p. then₃ w1 (keep_map_ends (here w1) v p.has) _ _ _
-        (λ _ m2 w2 k2 q. then₂ w2 (resolves-end _ (here w2)) _ _
-        (λ _ m3 w3 k3 _. then₁ w3 (items-end _ _ (here w3)) _
+        (λ _ m2 w2 k2 q. then₂ w2 (resolves_end _ (here w2)) _ _
+        (λ _ m3 w3 k3 _. then₁ w3 (items_end _ _ (here w3)) _
         (λ d m4 w4 k4 f. last w4 (closed-ends (here w4) tag)
         (λ u m5 w5 k5 z. record { reads = omega (arith, p.reads, k2.onward, k3.onward, k4.onward, k5.onward); narrow = z.0; has = z.1 })))))
 

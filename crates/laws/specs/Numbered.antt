@@ -13,10 +13,10 @@ use Rattle.definition.specs.Reference.{ref_at}
 use Rattle.definition.specs.Closing.{closing}
 use Rattle.definition.specs.Call.{Rooms, start, walk}
 use Rattle.laws.specs.Sound.{Proper, Sound, Counted}
-use Rattle.laws.specs.Waiting.{Waits, Fresh, waiter_found, waits_more, waits_restart, fresh_next, waits-added, waits-filled, waits_start}
+use Rattle.laws.specs.Waiting.{Waits, Fresh, waiter_found, waits_more, waits_restart, fresh_next, waits_added, waits_filled, waits_start}
 use Rattle.laws.specs.Rules.{Frame, frame, Listed, Given, Sides, sides, Rules}
 use Rattle.laws.specs.Steps.{Good, Result, Ends}
-use Rattle.laws.specs.Keeps.{waits_low, object-keeping, map-ends, keep_map_ends, resolves-end, placeItem-ends, items-end}
+use Rattle.laws.specs.Keeps.{waits_low, object-keeping, map_ends, keep_map_ends, resolves_end, place_item-ends, items_end}
 use Rattle.laws.specs.References.{ref_keeping}
 use Rattle.laws.specs.ClosingKeeps.{closing_ends, walk_ends, start_sound, start-counted}
 
@@ -80,7 +80,7 @@ fills m o number zero fits w e = renumbers _ _ _ _ w _ refl
 fills m o number (suc k) fits w e =
     let f = waiter_found m.slots.rows number m.slots.count k e in
     let roomy : k < room 6 m.slots.rows = omega (arith, f.0) in
-    renumbers _ _ _ _ (waits-filled w k o f.0 f.1 roomy) _ refl
+    renumbers _ _ _ _ (waits_filled w k o f.0 f.1 roomy) _ refl
 
 pub resolved-numbered : (m : Mem) (o number : ℕ) → m.slots.count * 6 ≤ length m.slots.rows → Numbered m → Numbered (resolved number o m)
 unfolding resolved
@@ -103,9 +103,9 @@ numbered-rules x =
       on_previous = λ S m n s i h l. (i, tt);
       on_object = λ S m tag words s i l. i;
       on_flag = λ S m o size done v s i h e. i;
-      on_map = λ S m o size v s i h b l. waits-added i o 0 (fields_of v) 0 l (λ e. never e) (omega arith);
+      on_map = λ S m o size v s i h b l. waits_added i o 0 (fields_of v) 0 l (λ e. never e) (omega arith);
       on_resolve = λ S m o size done number s i b. resolved-numbered m o number s.slots_fit i;
-      on_item = λ S m o size done v s i h d b l r. waits-added i o _ (fields_of v) (waits_of v) r (slot_fresh m v h) (waits_low v);
+      on_item = λ S m o size done v s i h d b l r. waits_added i o _ (fields_of v) (waits_of v) r (slot_fresh m v h) (waits_low v);
       on_skip = λ S m o size done n i h. i;
       on_bytes = λ S m o size done n i h. i;
       on_deferred = λ S m o size done b i e h l. i;
@@ -115,7 +115,7 @@ numbered-rules x =
       on_allocate = λ S m o size done space s i b h r e z. i;
       on_drop = λ m v i h. i;
       on_synchronize = λ m i h e. i;
-      on_entry = λ m o index f s e i l. waits-added i o index f 0 l (λ e. never e) (omega arith);
+      on_entry = λ m o index f s e i l. waits_added i o index f 0 l (λ e. never e) (omega arith);
       on_fault = λ S m e i. i;
     }
 
@@ -138,28 +138,28 @@ module _ {x : Input} (g : Proper x) where
     pub good : (S : List Frame) → Listed S m.objects.count → Good x Numbers S m m
     good S l = record { kept = record { sound = s; counted = c; onward = omega arith }; has = n; listed = l }
 
-    pub ref-numbered : (k : ℕ) → Ordered (λ v m'. FreshValue m' v) (ref_at x k m)
-    ref-numbered k = orders ((ref_keeping g (numbered-rules x) k).ends [] m (good [] tt)) (λ v m' p. p.has)
+    pub ref_numbered : (k : ℕ) → Ordered (λ v m'. FreshValue m' v) (ref_at x k m)
+    ref_numbered k = orders ((ref_keeping g (numbered-rules x) k).ends [] m (good [] tt)) (λ v m' p. p.has)
 
     pub object-numbered : (k space tag : ℕ) → space < 256 → Ordered (λ v m'. FreshValue m' v) (object x (ref_at x k) space tag m)
     object-numbered k space tag h = orders ((object-keeping g (numbered-rules x) (ref_keeping g (numbered-rules x) k) space tag h).ends [] m (good [] tt)) (λ v m' p. p.has)
 
     -- an object o that has a record
     module _ (o size done : ℕ) (l : o < m.objects.count) where
-      pub map-numbered : (k space bytes : ℕ) → space < 256 → Ordered (λ v m'. FreshValue m' v) (read_map x (ref_at x k) space bytes o m)
-      map-numbered k space bytes h = orders (map-ends g (numbered-rules x) (ref_keeping g (numbered-rules x) k) (good (frame o bytes 0 ∷ []) (l, tt)) space h) (λ v m' p. p.has)
+      pub map_numbered : (k space bytes : ℕ) → space < 256 → Ordered (λ v m'. FreshValue m' v) (read_map x (ref_at x k) space bytes o m)
+      map_numbered k space bytes h = orders (map_ends g (numbered-rules x) (ref_keeping g (numbered-rules x) k) (good (frame o bytes 0 ∷ []) (l, tt)) space h) (λ v m' p. p.has)
 
-      pub keepMap-numbered : (v : SlotValue) → FreshValue m v → Ordered (λ _ m'. Unit {0}) (keep_map x o v m)
-      keepMap-numbered v h = orders (keep_map_ends g (numbered-rules x) (good (frame o size 0 ∷ []) (l, tt)) v h) (λ _ m' p. tt)
+      pub keep_map-numbered : (v : SlotValue) → FreshValue m v → Ordered (λ _ m'. Unit {0}) (keep_map x o v m)
+      keep_map-numbered v h = orders (keep_map_ends g (numbered-rules x) (good (frame o size 0 ∷ []) (l, tt)) v h) (λ _ m' p. tt)
 
       pub resolves-numbered : (fuel : ℕ) → Ordered (λ _ m'. Unit {0}) (resolves x o fuel m)
-      resolves-numbered fuel = orders (resolves-end g (numbered-rules x) fuel (good (frame o size done ∷ []) (l, tt))) (λ _ m' p. tt)
+      resolves-numbered fuel = orders (resolves_end g (numbered-rules x) fuel (good (frame o size done ∷ []) (l, tt))) (λ _ m' p. tt)
 
-      pub placeItem-numbered : (v : SlotValue) → FreshValue m v → width_of (word x) v ≤ 2 ^ 34 → done < size → Ordered (λ d m'. Unit {0}) (place_item x o done v m)
-      placeItem-numbered v h n d = orders (placeItem-ends g (numbered-rules x) (good (frame o size done ∷ []) (l, tt)) v h n d) (λ d m' p. tt)
+      pub place_item-numbered : (v : SlotValue) → FreshValue m v → width_of (word x) v ≤ 2 ^ 34 → done < size → Ordered (λ d m'. Unit {0}) (place_item x o done v m)
+      place_item-numbered v h n d = orders (place_item-ends g (numbered-rules x) (good (frame o size done ∷ []) (l, tt)) v h n d) (λ d m' p. tt)
 
       pub items-numbered : (k fuel : ℕ) → Ordered (λ d m'. Unit {0}) (items x (ref_at x k) o size fuel done m)
-      items-numbered k fuel = orders (items-end g (numbered-rules x) (ref_keeping g (numbered-rules x) k) fuel done (good (frame o size done ∷ []) (l, tt))) (λ d m' p. tt)
+      items-numbered k fuel = orders (items_end g (numbered-rules x) (ref_keeping g (numbered-rules x) k) fuel done (good (frame o size done ∷ []) (l, tt))) (λ d m' p. tt)
 
     pub closing-numbered : Ordered (λ _ m'. Unit {0}) (closing x m)
     closing-numbered = orders (closing_ends g (numbered-rules x) (good [] tt)) (λ _ m' p. tt)

@@ -169,15 +169,15 @@ module _ {x : Input} {I : List Frame → Mem → Type 0} {W : Mem → SlotValue 
       headed : (K : ℕ) → eqb kind K ≡ true → (kinds : List ℕ) → one_of kinds K ≡ true → HeadOf x kinds
       headed K e kinds h = (b, byte_low, rw (eqb-true kind K e) h)
 
-      pub byHead-ends : Ends x I m₀ (λ _. S) (Refers x W m₀) (by_head x r tag kind a m)
+      pub by_head-ends : Ends x I m₀ (λ _. S) (Refers x W m₀) (by_head x r tag kind a m)
       unfolding by_head
-      byHead-ends =
+      by_head-ends =
           either (eqb kind new_object) _ _ (λ e. last w (by w (object-keeping g R k a tag (argued.space (eqb-true _ _ e)))) (λ v m1 w1 k1 p. record { reads = omega (arith, l, k1.onward); narrow = p.narrow; has = p.has }))
           (λ _. either (eqb kind backref) _ _ (λ _. to (int_first _ (λ n h. backref_to_keeps n)))
           (λ _. either (eqb kind legacy_backref) _ _ (λ _. to (legacy a))
           (λ _. either (eqb kind legacy_backref_with_skip) _ _ (λ e. to (amount_first (headed legacy_backref_with_skip e with_amount refl) _ (legacy a)))
           (λ _. either (eqb kind next_chunk) _ _ (λ _. then₁ w (by w (chunk_byte_keeps g R)) _ (λ _ m1 w1 k1 p. last w1 (by w1 k) (λ v m2 w2 k2 q. record { reads = omega (arith, l, p, k2.onward); narrow = q.narrow; has = q.has })))
-          (λ _. either (eqb kind alignment) _ _ (λ _. to aligned-keeps)
+          (λ _. either (eqb kind alignment) _ _ (λ _. to aligned_keeps)
           (λ _. either (eqb kind hot) _ _ (λ _. to (hot_place_keeps a))
           (λ _. either (eqb kind hot_with_skip) _ _ (λ e. to (amount_first (headed hot_with_skip e with_amount refl) _ (hot_place_keeps a)))
           (λ _. either (eqb kind root_array) _ _ (λ _. to (int_first _ (λ i h. refers_hot_keeps (Root i) tt)))
@@ -217,8 +217,8 @@ module _ {x : Input} {I : List Frame → Mem → Type 0} {W : Mem → SlotValue 
           legacy : (space : ℕ) → Keeping x I Gives (legacy_reference x space)
           legacy space = weaken (legacy_reference_keeps space) (λ m v m' p. (p.narrow, p.has))
 
-          aligned-keeps : Keeping x I Gives (change (aligned a) >> r)
-          aligned-keeps = law (λ S m w. let w1 = good_aligned R w a in last w1 (by w1 again) (λ v m1 w1 k1 q. q))
+          aligned_keeps : Keeping x I Gives (change (aligned a) >> r)
+          aligned_keeps = law (λ S m w. let w1 = good_aligned R w a in last w1 (by w1 again) (λ v m1 w1 k1 q. q))
 
           target_keeps : HeadOf x with_amount → Keeping x I Gives (skip_amount x >> int x >> refers (RoRef (2 ^ 32 - 5) 0))
           target_keeps d =
@@ -229,7 +229,7 @@ module _ {x : Input} {I : List Frame → Mem → Type 0} {W : Mem → SlotValue 
     unfolding reference
     reference-keeping =
         law (λ S m w. then₁ w (by w (byte_keeps g R)) _
-        (λ b m1 w1 k1 p. byHead-ends w1 p.reads (omega (arith, p, w.kept.sound.pending_low)) m.at b p.small))
+        (λ b m1 w1 k1 p. by_head-ends w1 p.reads (omega (arith, p, w.kept.sound.pending_low)) m.at b p.small))
 
   pub ref_keeping : (n : ℕ) → Keeping x I (Refers x W) (ref_at x n)
   unfolding ref_at

@@ -76,9 +76,9 @@ module _ {x : Input} {I : List Frame → Mem → Type 0} {m₀ m : Mem} {S : Lis
   by k = k.ends S m here
 
   module _ {A : Type 0} {T : A → List Frame} {P : A → Mem → Type 0} where
-    last-by : {Q : A → Mem → Type 0} (o : Out A) → Result x I m T P o → ((a : A) (m' : Mem) → Good x I (T a) m₀ m' → Kept x m m' → P a m' → Q a m') → Ends x I m₀ T Q o
-    last-by (got a m') h f = let w' = good_trans h.0 in record { result = (w', f a m' w' h.0.kept h.1) }
-    last-by (no n q m') h f = record { result = (h.0, good_trans h.1) }
+    last_by : {Q : A → Mem → Type 0} (o : Out A) → Result x I m T P o → ((a : A) (m' : Mem) → Good x I (T a) m₀ m' → Kept x m m' → P a m' → Q a m') → Ends x I m₀ T Q o
+    last_by (got a m') h f = let w' = good_trans h.0 in record { result = (w', f a m' w' h.0.kept h.1) }
+    last_by (no n q m') h f = record { result = (h.0, good_trans h.1) }
 
     -- what K makes of what a reader gives, where K passes refusals on
     then_by : {B : Type 0} {U : B → List Frame} {Q : B → Mem → Type 0} (K : Out A → Out B) → ((n q : ℕ) (m' : Mem) → K (no n q m') ≡ no n q m') → (o : Out A) → Result x I m T P o → ((a : A) (m' : Mem) → Good x I (T a) m₀ m' → Kept x m m' → P a m' → Ends x I m₀ U Q (K (got a m'))) → Ends x I m₀ U Q (K o)
@@ -88,7 +88,7 @@ module _ {x : Input} {I : List Frame → Mem → Type 0} {m₀ m : Mem} {S : Lis
     module _ {o : Out A} (e : Ends x I m T P o) where
       -- a reader comes last
       pub last : {Q : A → Mem → Type 0} → ((a : A) (m' : Mem) → Good x I (T a) m₀ m' → Kept x m m' → P a m' → Q a m') → Ends x I m₀ T Q o
-      last f = last-by o e.result f
+      last f = last_by o e.result f
 
       -- one, two, .. readers come after it
       pub then₁ : {B : Type 0} {U : B → List Frame} {Q : B → Mem → Type 0} (f : A → Reader B)

@@ -15,7 +15,7 @@ use Rattle.definition.specs.Call.{walk}
 use Rattle.laws.specs.Sound.{Proper, Sound, Counted, Holds, Keeps, Referred}
 use Rattle.laws.specs.Rules.{Frame, frame, Listed, Aside, Rules}
 use Rattle.laws.specs.Steps.{listed_up, Good, Result, Ends, Keeping, law, append-ends, kept_noted, kept_value, kept_slot}
-use Rattle.laws.specs.Keeps.{Any, Reads, Passed, More, Appended, Placed, Filled, Refers, byte_keeps as byte_law, int_keeps as int_law, add_object_ends, chunks_keep as chunks-law, allocate-ends, map-ends, keep_map_ends, resolves-end, placeItem-ends, items-end, body-ends, object-keeping}
+use Rattle.laws.specs.Keeps.{Any, Reads, Passed, More, Appended, Placed, Filled, Refers, byte_keeps as byte_law, int_keeps as int_law, add_object_ends, chunks_keep as chunks_law, allocate-ends, map_ends, keep_map_ends, resolves_end, place_item-ends, items_end, body-ends, object-keeping}
 use Rattle.laws.specs.References.{legacy_reference_keeps as legacy-law, raw_data_keeps as raw-law, reference-keeping, ref_keeping}
 use Rattle.laws.specs.ClosingKeeps.{entry-ends, drop_reference_ends, entries_end, padding_keeps as padding-law, closing_ends, walk_ends}
 
@@ -109,7 +109,7 @@ module _ {x : Input} (g : Proper x) where
   add_object_keeps tag words m s c = holds x (add_object_ends g (rules x) (begin x {S = []} s c tt) tag words)
 
   pub chunks_keep : (space : ℕ) → space < 256 → Keeps x (λ m _ m'. Aside m m') (λ m. chunk_changes x space (length x.payload - m.at) m)
-  chunks_keep space h m s c = holds x ((chunks-law g (rules x) space h).ends [] m (begin x s c tt))
+  chunks_keep space h m s c = holds x ((chunks_law g (rules x) space h).ends [] m (begin x s c tt))
 
   pub legacy_reference_keeps : (space : ℕ) → Keeps x (Referred x) (legacy_reference x space)
   legacy_reference_keeps space m s c = referred x ((legacy-law g (rules x) space).ends [] m (begin x s c tt))
@@ -121,11 +121,11 @@ module _ {x : Input} (g : Proper x) where
   ref_keeps k m s c = referred x ((ref_keeping g (rules x) k).ends [] m (begin x s c tt))
 
   module _ (r : Reader SlotValue) (k : Keeps x (Referred x) r) where
-    pub reference-keeps : Keeps x (Referred x) (reference x r)
-    reference-keeps m s c = referred x ((reference-keeping g (rules x) (keeping x r k)).ends [] m (begin x s c tt))
+    pub reference_keeps : Keeps x (Referred x) (reference x r)
+    reference_keeps m s c = referred x ((reference-keeping g (rules x) (keeping x r k)).ends [] m (begin x s c tt))
 
-    pub object-keeps : (space tag : ℕ) → space < 256 → Keeps x (Referred x) (object x r space tag)
-    object-keeps space tag h m s c = referred x ((object-keeping g (rules x) (keeping x r k) space tag h).ends [] m (begin x s c tt))
+    pub object_keeps : (space tag : ℕ) → space < 256 → Keeps x (Referred x) (object x r space tag)
+    object_keeps space tag h m s c = referred x ((object-keeping g (rules x) (keeping x r k) space tag h).ends [] m (begin x s c tt))
 
   pub drop_reference_keeps : Keeps x Reads (drop_reference x)
   drop_reference_keeps m s c = holds x (drop_reference_ends g (rules x) (begin x s c tt))
@@ -151,24 +151,24 @@ module _ {x : Input} (g : Proper x) where
     at : (size done : ℕ) → Good x Nothing (frame o size done ∷ []) m m
     at size done = begin x s c (l, tt)
 
-    pub allocate-keeps : (space bytes : ℕ) → space < 256 → Holds x m (λ _ m'. Aside m m') (allocate x space bytes o m)
-    allocate-keeps space bytes h = holds x (allocate-ends g (rules x) (at bytes 0) space h)
+    pub allocate_keeps : (space bytes : ℕ) → space < 256 → Holds x m (λ _ m'. Aside m m') (allocate x space bytes o m)
+    allocate_keeps space bytes h = holds x (allocate-ends g (rules x) (at bytes 0) space h)
 
-    pub keepMap-keeps : (v : SlotValue) → Holds x m (λ _ m'. More (λ m. m.slots) m m') (keep_map x o v m)
-    keepMap-keeps v = holds x (keep_map_ends g (rules x) (at 0 0) v tt)
+    pub keep_map_keeps : (v : SlotValue) → Holds x m (λ _ m'. More (λ m. m.slots) m m') (keep_map x o v m)
+    keep_map_keeps v = holds x (keep_map_ends g (rules x) (at 0 0) v tt)
 
-    pub resolves-keep : (n : ℕ) → Holds x m (Any m) (resolves x o n m)
-    resolves-keep n = holds x (resolves-end g (rules x) n (at 0 0))
+    pub resolves_keep : (n : ℕ) → Holds x m (Any m) (resolves x o n m)
+    resolves_keep n = holds x (resolves_end g (rules x) n (at 0 0))
 
-    pub placeItem-keeps : (done : ℕ) (v : SlotValue) → width_of (word x) v ≤ 2 ^ 34 → Holds x m (Placed done m) (place_item x o done v m)
-    placeItem-keeps done v n = holds x (placeItem-ends g (rules x) (at (done + 1) done) v tt n (omega arith))
+    pub place_item_keeps : (done : ℕ) (v : SlotValue) → width_of (word x) v ≤ 2 ^ 34 → Holds x m (Placed done m) (place_item x o done v m)
+    place_item_keeps done v n = holds x (place_item-ends g (rules x) (at (done + 1) done) v tt n (omega arith))
 
     module _ (r : Reader SlotValue) (k : Keeps x (Referred x) r) where
       pub map_keeps : (space bytes : ℕ) → space < 256 → Holds x m (Referred x m) (read_map x r space bytes o m)
-      map_keeps space bytes h = referred x (map-ends g (rules x) (keeping x r k) (at bytes 0) space h)
+      map_keeps space bytes h = referred x (map_ends g (rules x) (keeping x r k) (at bytes 0) space h)
 
       pub items_keep : (size n done : ℕ) → Holds x m (Filled size done m) (items x r o size n done m)
-      items_keep size n done = holds x (items-end g (rules x) (keeping x r k) n done (at size done))
+      items_keep size n done = holds x (items_end g (rules x) (keeping x r k) n done (at size done))
 
-      pub body-keeps : (space tag words : ℕ) → space < 256 → Holds x m (Referred x m) (body x r space tag words o m)
-      body-keeps space tag words h = referred x (body-ends g (rules x) (keeping x r k) words (at (words * word x) 0) space tag h)
+      pub body_keeps : (space tag words : ℕ) → space < 256 → Holds x m (Referred x m) (body x r space tag words o m)
+      body_keeps space tag words h = referred x (body-ends g (rules x) (keeping x r k) words (at (words * word x) 0) space tag h)

@@ -195,8 +195,8 @@ module _ {st : List ℕ} {count pending waiting : ℕ} (w : Waits st count pendi
         (λ z. omega (arith, count_yes after count (new 5 (omega arith) ∙ z)))
         (λ z. omega (arith, count_no after count (λ q. z (sym (new 5 (omega arith)) ∙ q)))))
 
-    pub waits-added : waits ≤ 1 → Waits after (count + 1) pending (waiting + waits)
-    waits-added bit =
+    pub waits_added : waits ≤ 1 → Waits after (count + 1) pending (waiting + waits)
+    waits_added bit =
         record {
           kind = split (λ k. field 6 after k 2 ≡ 13) (λ k l y. old k 2 (omega arith) l ∙ w.kind k l y) (λ e. new 2 (omega arith) ∙ (fresh e).1);
           low = split (λ k. field 6 after k 3 < pending) (λ k l y. rw (old k 3 (omega arith) l) (w.low k l y)) (λ e. rw (new 3 (omega arith)) (fresh e).0.given);
@@ -219,8 +219,8 @@ module _ {st : List ℕ} {count pending waiting : ℕ} (w : Waits st count pendi
     still : (P : ℕ → Type 0) → ((k : ℕ) → k ≢ j → k < count → Waiting st k → P k) → (k : ℕ) → k < count → Waiting (filled st j o) k → P k
     still P a k h e = same_or k j (λ z. absurd (gone (rw z at e))) (λ z. a k z h (sym (other k 5 (omega arith) z) ∙ e))
 
-    pub waits-filled : Waits (filled st j o) count pending (waiting - 1)
-    waits-filled =
+    pub waits_filled : Waits (filled st j o) count pending (waiting - 1)
+    waits_filled =
         record {
           kind = still _ (λ k n h e. other k 2 (omega arith) n ∙ w.kind k h e);
           low = still _ (λ k n h e. rw (other k 3 (omega arith) n) (w.low k h e));

@@ -30,7 +30,7 @@ use Rattle.definition.specs.Reference.{backref_to, refers, refers_hot, by_head}
 use Rattle.readers.specs.declared.state.State.{State}
 use Rattle.readers.specs.Views.{Lent, input, mem, hot_is}
 use Rattle.readers.proofs.ViewLaws.{then_got}
-use Rattle.readers.proofs.SimpleLaws.{backref-in, hot-is, legacy_to, raw_to}
+use Rattle.readers.proofs.SimpleLaws.{backref_in, hot_is_lem, legacy_to, raw_to}
 use Rattle.leaves.specs.declared.leaf.Leaf.{Leaf}
 use Rattle.leaves.specs.Leaf.{ring, after, value_of, entering, Entered, Stands, Found, FoundIn, Placed}
 
@@ -87,16 +87,16 @@ module _ (p hots : List ℕ) (objects ts at : ℕ) where
     hot-found : (r : Ref) (k i : ℕ) → value_of (record { kind = k; a = i; b = 0; width = ts; next = at; enters = false }) ≡ IsRef r → record { kind = k; a = i; b = 0 } ≡ ref_fields r → HotIs r ≡ hot_at hots place → Found p hots objects ts at 7 place (record { kind = k; a = i; b = 0; width = ts; next = at; enters = false })
     unfolding by_head
     hot-found r k i y f e h v tr sp tag s l ew ea eo =
-        record { value = IsRef r; is = λ inner. rw (← ea) (hot-is (mem s (hot_is hots l)) place e refl); fields = f; width = sym ew; kept = ref_kept (input v p sp tr) r; waits = refl; valued = y }
+        record { value = IsRef r; is = λ inner. rw (← ea) (hot_is_lem (mem s (hot_is hots l)) place e refl); fields = f; width = sym ew; kept = ref_kept (input v p sp tr) r; waits = refl; valued = y }
 
     module _ (k i : ℕ) (ek : k ≡ get_or hots (place * 3) 0) (ei : i ≡ get_or hots (place * 3 + 1) 0) where
       pub hot_object : k ≡ 1 → Found p hots objects ts at 7 place (record { kind = k; a = i; b = 0; width = ts; next = at; enters = false })
       unfolding hot_at
       hot_object z = hot-found (Object i) k i (rw z) (rw z) (rw (← ek, z, ← ei))
 
-      pub hot-root : k ≡ 2 → Found p hots objects ts at 7 place (record { kind = k; a = i; b = 0; width = ts; next = at; enters = false })
+      pub hot_root : k ≡ 2 → Found p hots objects ts at 7 place (record { kind = k; a = i; b = 0; width = ts; next = at; enters = false })
       unfolding hot_at
-      hot-root z = hot-found (Root i) k i (rw z) (rw z) (rw (← ek, z, ← ei))
+      hot_root z = hot-found (Root i) k i (rw z) (rw z) (rw (← ek, z, ← ei))
 
   pub back_found : (i n a : ℕ) → IntIs i n ≡ int_at p at → i < objects → (leaf : Leaf) → Entered (Object i) (at + n) ts leaf → Found p hots objects ts at 2 a leaf
   unfolding by_head
@@ -104,7 +104,7 @@ module _ (p hots : List ℕ) (objects ts at : ℕ) where
       let x = input v p sp tr in
       let m : Mem = mem s (hot_is hots l) in
       let g : got i (moved (s.at + n) m) ≡ int x m = int_got x m (ap (int_at p) ea ∙ sym e) in
-      entering_stands x tag 2 a s (hot_is hots l) (Object i) (at + n) ts leaf (q h).0 (q h).1 ew (λ inner. rw (← ea) (then_got backref_to g (backref-in (moved (s.at + n) m) i (rw eo b) refl)))
+      entering_stands x tag 2 a s (hot_is hots l) (Object i) (at + n) ts leaf (q h).0 (q h).1 ew (λ inner. rw (← ea) (then_got backref_to g (backref_in (moved (s.at + n) m) i (rw eo b) refl)))
 
   pub root_array_found : (i n a : ℕ) → IntIs i n ≡ int_at p at → (leaf : Leaf) → Entered (Root i) (at + n) ts leaf → Found p hots objects ts at 9 a leaf
   unfolding by_head

@@ -42,12 +42,12 @@ module _ (x : Input) (space tag : ℕ) (m : Mem) where
     open_plain f h = rw (← w, ← s, f) h
 
     module _ (t : six ≡ true) {large : ℕ} (a : large ≡ lo_space x.sheet) where
-      pub open-small : {o : Out ℕ} → (space ≡ large → ⊥) → o ≡ recording x tag words m₁ → o ≡ opening x space tag m
-      open-small f h = rw (← w, ← s, t, ne_eqb space (lo_space x.sheet) (λ e. f (e ∙ sym a))) h
+      pub open_small : {o : Out ℕ} → (space ≡ large → ⊥) → o ≡ recording x tag words m₁ → o ≡ opening x space tag m
+      open_small f h = rw (← w, ← s, t, ne_eqb space (lo_space x.sheet) (λ e. f (e ∙ sym a))) h
 
       module _ (e : space ≡ large) where
-        pub open-large-cut : {n q : ℕ} {m' : Mem} → no n q m' ≡ byte x m₁ → no n q m' ≡ opening x space tag m
-        open-large-cut h = rw (← w, ← s, t, eq-eqb space (lo_space x.sheet) (e ∙ a), ← h)
+        pub open_large_cut : {n q : ℕ} {m' : Mem} → no n q m' ≡ byte x m₁ → no n q m' ≡ opening x space tag m
+        open_large_cut h = rw (← w, ← s, t, eq-eqb space (lo_space x.sheet) (e ∙ a), ← h)
 
-        pub open-large : {o : Out ℕ} {v : ℕ} {m₂ : Mem} → got v m₂ ≡ byte x m₁ → o ≡ recording x tag words m₂ → o ≡ opening x space tag m
-        open-large h k = rw (← w, ← s, t, eq-eqb space (lo_space x.sheet) (e ∙ a), ← h) k
+        pub open_large : {o : Out ℕ} {v : ℕ} {m₂ : Mem} → got v m₂ ≡ byte x m₁ → o ≡ recording x tag words m₂ → o ≡ opening x space tag m
+        open_large h k = rw (← w, ← s, t, eq-eqb space (lo_space x.sheet) (e ∙ a), ← h) k

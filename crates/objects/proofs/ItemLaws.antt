@@ -24,7 +24,7 @@ use Rattle.readers.specs.Views.{Lent, mem, seen_count, objects_is, slots_is, val
 use Rattle.readers.proofs.ViewLaws.{count_is, count_no, nothing}
 use Rattle.objects.specs.Index.{Indexed}
 use Rattle.objects.specs.Item.{slot_of}
-use Rattle.objects.proofs.WaiterLaws.{indexed-plain, indexed-waits}
+use Rattle.objects.proofs.WaiterLaws.{indexed_plain, indexed_waits}
 
 -- ---- a slot record
 
@@ -139,16 +139,16 @@ module _ (s : State) (o index : ℕ) (v : SlotValue) (waits : ℕ) (ot st ot' st
   kept_room = let d = kept in rw d.number_is d.roomy
 
   module _ (sc : List ℕ) (x : Indexed st s.slots sc) where
-    pub kept-plain : waits ≡ 0 → Indexed st' t.slots sc
-    kept-plain z = let d = kept in rw (d.rows_are, d.count_is) (indexed-plain st s.slots o index (fields_of v) waits d.roomy z sc x)
+    pub kept_plain : waits ≡ 0 → Indexed st' t.slots sc
+    kept_plain z = let d = kept in rw (d.rows_are, d.count_is) (indexed_plain st s.slots o index (fields_of v) waits d.roomy z sc x)
 
-    pub kept-waits : {n : ℕ} {sc' : List ℕ} → v ≡ PendingRef n → waits ≡ waits_of v → sc' ≡ set sc n (k + 1) → Indexed st' t.slots sc'
-    kept-waits {n} {sc'} p w g =
+    pub kept_waits : {n : ℕ} {sc' : List ℕ} → v ≡ PendingRef n → waits ≡ waits_of v → sc' ≡ set sc n (k + 1) → Indexed st' t.slots sc'
+    kept_waits {n} {sc'} p w g =
         let d = kept in
         let on : waits ≡ 1 = w ∙ ap waits_of p in
         let a : (fields_of v).a ≡ n = ap (λ (v : SlotValue). (fields_of v).a) p in
         let note : sc' ≡ set sc (fields_of v).a (s.slots + 1) = rw (a, ← d.number_is) g in
-        rw (d.rows_are, d.count_is, note) (indexed-waits st s.slots o index (fields_of v) waits d.roomy on sc x)
+        rw (d.rows_are, d.count_is, note) (indexed_waits st s.slots o index (fields_of v) waits d.roomy on sc x)
 
 -- an item that makes no slot
 module _ (x : Input) (o done : ℕ) {v : SlotValue} (s : State) (l : Lent) {n : ℕ} where

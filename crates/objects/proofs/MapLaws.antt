@@ -155,20 +155,20 @@ module _ (sheet p : List ℕ) (spaces space : ℕ) (cur₀ used₀ : List ℕ) (
     first : {value : Bool} → tag ≡ value → is_next_chunk sheet (peek_at p t.at) ≡ value
     first e = ap (λ n. eqb (number sheet k_next_chunk) n) (sym eb) ∙ sym et ∙ e
 
-    pub changes-none : tag ≡ false → (tr : List ℕ) (l : Lent) → got tt (mem t (counters_is cur used l)) ≡ chunk_changes (input sheet p spaces tr) space (length p - s.at) (mem s (counters_is cur₀ used₀ l))
-    changes-none e tr l = changes_other (input sheet p spaces tr) space (mem t (counters_is cur used l)) i.fuel (rw (first e)) ∙ i.same tr l
+    pub changes_none : tag ≡ false → (tr : List ℕ) (l : Lent) → got tt (mem t (counters_is cur used l)) ≡ chunk_changes (input sheet p spaces tr) space (length p - s.at) (mem s (counters_is cur₀ used₀ l))
+    changes_none e tr l = changes_other (input sheet p spaces tr) space (mem t (counters_is cur used l)) i.fuel (rw (first e)) ∙ i.same tr l
 
     module _ (on : tag ≡ true) {b' : ℕ} (eb' : b' ≡ peek_at p (t.at + 1)) where
-      pub changes-else : (b' ≡ space → ⊥) → (tr : List ℕ) (l : Lent) → got tt (mem t (counters_is cur used l)) ≡ chunk_changes (input sheet p spaces tr) space (length p - s.at) (mem s (counters_is cur₀ used₀ l))
-      changes-else h tr l = changes_other (input sheet p spaces tr) space (mem t (counters_is cur used l)) i.fuel (rw (first on, ← eb', ne_eqb b' space h)) ∙ i.same tr l
+      pub changes_else : (b' ≡ space → ⊥) → (tr : List ℕ) (l : Lent) → got tt (mem t (counters_is cur used l)) ≡ chunk_changes (input sheet p spaces tr) space (length p - s.at) (mem s (counters_is cur₀ used₀ l))
+      changes_else h tr l = changes_other (input sheet p spaces tr) space (mem t (counters_is cur used l)) i.fuel (rw (first on, ← eb', ne_eqb b' space h)) ∙ i.same tr l
 
-      pub changes-within : space < 256 → b' ≡ space → t.at + 2 ≤ length p
-      changes-within h e = omega (arith, peek-within p (t.at + 1) eb' (λ q. omega arith))
+      pub changes_within : space < 256 → b' ≡ space → t.at + 2 ≤ length p
+      changes_within h e = omega (arith, peek-within p (t.at + 1) eb' (λ q. omega arith))
 
-      pub changes-again : space < 256 → b' ≡ space → {cur' used' : List ℕ} → cur' ≡ (next_chunk (record { cur = cur; used = used }) spaces space).cur → used' ≡ (next_chunk (record { cur = cur; used = used }) spaces space).used
+      pub changes_again : space < 256 → b' ≡ space → {cur' used' : List ℕ} → cur' ≡ (next_chunk (record { cur = cur; used = used }) spaces space).cur → used' ≡ (next_chunk (record { cur = cur; used = used }) spaces space).used
           → Changes sheet p spaces space cur₀ used₀ s cur' used' (stepped t)
-      changes-again h e {cur'} {used'} ec eu =
-          let ends : t.at + 2 ≤ length p = changes-within h e in
+      changes_again h e {cur'} {used'} ec eu =
+          let ends : t.at + 2 ≤ length p = changes_within h e in
           let grown : get_or cur' space 0 ≤ get_or cur space 0 + 1 = rw ec (next_chunk_cur (record { cur = cur; used = used }) spaces space space) in
           let left : i.fuel ≡ suc (i.fuel - 1) = omega (arith, i.enough) in
           record {
@@ -218,8 +218,8 @@ module _ (x : Input) (before space bytes o : ℕ) (m : Mem) where
   after_none e f = rw (sym e ∙ f)
 
   module _ {first : Bool} (g : first ≡ is_map_first x.sheet) {out : Out (Unit {0})} where
-    pub after-allocated : {legacy : Bool} → legacy ≡ is_legacy x.sheet → legacy ≡ true → first ≡ false → out ≡ allocate x space bytes o m → out ≡ after_map x before space bytes o m
-    after-allocated e t f h = rw (sym g ∙ f, sym e ∙ t) h
+    pub after_allocated : {legacy : Bool} → legacy ≡ is_legacy x.sheet → legacy ≡ true → first ≡ false → out ≡ allocate x space bytes o m → out ≡ after_map x before space bytes o m
+    after_allocated e t f h = rw (sym g ∙ f, sym e ∙ t) h
 
     pub after_first : first ≡ true → {m₁ m₂ : Mem} → got tt m₁ ≡ alignment_byte x (aligned before m) → got tt m₂ ≡ chunk_changes x space (length x.payload - m₁.at) m₁ → out ≡ allocate x space bytes o m₂ → out ≡ after_map x before space bytes o m
     after_first t e f h = rw (sym g ∙ t, ← e, ← f) h
@@ -245,15 +245,15 @@ module _ (x : Input) where
   other_ref (Attached i) h = refl
 
   module _ {v : SlotValue} {r : Ref} (e : v ≡ IsRef r) where
-    pub flagged-no-root : OneOf (0 ∷ 2 ∷ 3 ∷ []) (tag_of ref-type r) → false ≡ flags x v
-    flagged-no-root h = rw e (other_ref r h)
+    pub flagged_no_root : OneOf (0 ∷ 2 ∷ 3 ∷ []) (tag_of ref-type r) → false ≡ flags x v
+    flagged_no_root h = rw e (other_ref r h)
 
     module _ {i : ℕ} (f : r ≡ Root i) where
-      pub flagged-root : not (eqb (get_or x.trusted i 0) 0) ≡ flags x v
-      flagged-root = rw (e, f)
+      pub flagged_root : not (eqb (get_or x.trusted i 0) 0) ≡ flags x v
+      flagged_root = rw (e, f)
 
-      pub flagged-past : length x.trusted ≤ i → false ≡ flags x v
-      flagged-past h = rw (e, f, get_or-eq_default x.trusted 0 h)
+      pub flagged_past : length x.trusted ≤ i → false ≡ flags x v
+      flagged_past h = rw (e, f, get_or-eq_default x.trusted 0 h)
 
 -- ---- slot 0
 

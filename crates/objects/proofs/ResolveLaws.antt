@@ -31,7 +31,7 @@ use Rattle.readers.specs.declared.state.Count.TheVariants.{Is, Refused}
 use Rattle.readers.specs.Views.{Lent, input, mem, seen_count, slots_is}
 use Rattle.readers.proofs.ViewLaws.{count_is, count_no, nothing}
 use Rattle.objects.specs.Index.{Indexed}
-use Rattle.objects.proofs.WaiterLaws.{by_case, waiter_no, waiter_yes, waiter_zero, waiter_found, indexed-filled}
+use Rattle.objects.proofs.WaiterLaws.{by_case, waiter_no, waiter_yes, waiter_zero, waiter_found, indexed_filled}
 
 -- ---- the search, from the newest slot on
 
@@ -67,22 +67,22 @@ module _ (s : State) (st : List ℕ) (n o : ℕ) where
     found : waiter st n s.slots ≡ suc (k - 1)
     found = let z : k ≡ suc (k - 1) = omega arith in sym e ∙ z
 
-    pub resolve-below : s.slots ≤ room 6 st → k - 1 < room 6 st
-    resolve-below h = omega (arith, (waiter_found st n s.slots (k - 1) found).0)
+    pub resolve_below : s.slots ≤ room 6 st → k - 1 < room 6 st
+    resolve_below h = omega (arith, (waiter_found st n s.slots (k - 1) found).0)
 
-    pub resolve-waits : Waits st s.slots s.pending s.waiting → 1 ≤ s.waiting
-    resolve-waits w = let f = waits-found st n s.slots (k - 1) found in some_wait w (k - 1) f.0 f.1
+    pub resolve_waits : Waits st s.slots s.pending s.waiting → 1 ≤ s.waiting
+    resolve_waits w = let f = waits-found st n s.slots (k - 1) found in some_wait w (k - 1) f.0 f.1
 
     module _ {st' : List ℕ} (f : st' ≡ filled st (k - 1) o) where
-      pub resolve-fill : {pending : ℕ} → pending ≡ renumbered s.pending (s.waiting - 1) → (l : Lent) → mem (counts pending (s.waiting - 1) s) (slots_is st' l) ≡ resolved n o (mem s (slots_is st l))
+      pub resolve_fill : {pending : ℕ} → pending ≡ renumbered s.pending (s.waiting - 1) → (l : Lent) → mem (counts pending (s.waiting - 1) s) (slots_is st' l) ≡ resolved n o (mem s (slots_is st l))
       unfolding resolved
-      resolve-fill p l = rw (found, f, p)
+      resolve_fill p l = rw (found, f, p)
 
-      pub resolve-length : length st' ≡ length st
-      resolve-length = rw f (filled_length st (k - 1) o)
+      pub resolve_length : length st' ≡ length st
+      resolve_length = rw f (filled_length st (k - 1) o)
 
-      pub resolve-index : (sc : List ℕ) → s.slots ≤ room 6 st → Indexed st s.slots sc → Waits st s.slots s.pending s.waiting → Indexed st' s.slots sc
-      resolve-index sc h x w = rw f (indexed-filled st s.slots h n (k - 1) o found w sc x)
+      pub resolve_index : (sc : List ℕ) → s.slots ≤ room 6 st → Indexed st s.slots sc → Waits st s.slots s.pending s.waiting → Indexed st' s.slots sc
+      resolve_index sc h x w = rw f (indexed_filled st s.slots h n (k - 1) o found w sc x)
 
 fill_at : (k o : ℕ) (m : Mem) → (fill_waiter k o m).at ≡ m.at
 fill_at zero o m = refl
@@ -131,9 +131,9 @@ module _ (x : Input) (o : ℕ) (m : Mem) where
     unfolding resolves byte
     resolves-cut i = rw (e, lt-ltb m.at (length x.payload) h, ← i)
 
-    resolves-turn : {number : ℕ} → got number m' ≡ int x (moved (m.at + 1) m) → resolves x o n (resolved number o m') ≡ resolves x o (suc n) m
+    resolves_turn : {number : ℕ} → got number m' ≡ int x (moved (m.at + 1) m) → resolves x o n (resolved number o m') ≡ resolves x o (suc n) m
     unfolding resolves byte
-    resolves-turn i = rw (e, lt-ltb m.at (length x.payload) h, ← i)
+    resolves_turn i = rw (e, lt-ltb m.at (length x.payload) h, ← i)
 
 -- the code's test of the byte at the cursor
 pub tag_test : (v p : List ℕ) (at : ℕ) {b : ℕ} {t u : Bool} → t ≡ eqb (number v k_resolve_pending_forward_ref) b → b ≡ peek_at p at → t ≡ u → is_resolve v (peek_at p at) ≡ u
@@ -191,12 +191,12 @@ module _ (v p : List ℕ) (o : ℕ) (sc : List ℕ) (s₀ : State) (st₀ : List
       record { left = length p - s₀.at; enough = omega arith; within = h; fits = g; slots_length = refl; same = λ tr sp l. refl; indexed = x; waits = w }
 
   module _ (s : State) (st : List ℕ) (k : Resolving v p o sc s₀ st₀ s st) where
-    pub resolving-stop : is_resolve v (peek_at p s.at) ≡ false → (tr : List ℕ) (sp : ℕ) (l : Lent) → got tt (mem s (slots_is st l)) ≡ resolves (input v p sp tr) o (length p - s₀.at) (mem s₀ (slots_is st₀ l))
-    resolving-stop e tr sp l = resolves_stop (input v p sp tr) o (mem s (slots_is st l)) k.left e ∙ k.same tr sp l
+    pub resolving_stop : is_resolve v (peek_at p s.at) ≡ false → (tr : List ℕ) (sp : ℕ) (l : Lent) → got tt (mem s (slots_is st l)) ≡ resolves (input v p sp tr) o (length p - s₀.at) (mem s₀ (slots_is st₀ l))
+    resolving_stop e tr sp l = resolves_stop (input v p sp tr) o (mem s (slots_is st l)) k.left e ∙ k.same tr sp l
 
     -- what a resolve of the number asks
-    pub resolving-asks : {r : Count} → ((v tr : List ℕ) (sp : ℕ) (l : Lent) → seen_count r l ≡ int (input v p sp tr) (mem (passed s) l)) → {n : ℕ} {t : State} → r ≡ Is n t → (t.slots ≤ room 6 st) × Indexed st t.slots (take (length p) sc) × Waits st t.slots t.pending t.waiting
-    resolving-asks i g =
+    pub resolving_asks : {r : Count} → ((v tr : List ℕ) (sp : ℕ) (l : Lent) → seen_count r l ≡ int (input v p sp tr) (mem (passed s) l)) → {n : ℕ} {t : State} → r ≡ Is n t → (t.slots ≤ room 6 st) × Indexed st t.slots (take (length p) sc) × Waits st t.slots t.pending t.waiting
+    resolving_asks i g =
         let b = numbered p s i g in
         rw (b.slots_same, b.pending_same, b.waiting_same) (k.fits, k.indexed, k.waits)
 
@@ -205,8 +205,8 @@ module _ (v p : List ℕ) (o : ℕ) (sc : List ℕ) (s₀ : State) (st₀ : List
     one_more h = omega (arith, k.enough)
 
     module _ (h : s.at < length p) (e : is_resolve v (peek_at p s.at) ≡ true) {r : Count} (i : (v tr : List ℕ) (sp : ℕ) (l : Lent) → seen_count r l ≡ int (input v p sp tr) (mem (passed s) l)) where
-      pub resolving-cut : {n q : ℕ} {t : State} → r ≡ Refused n q t → (tr : List ℕ) (sp : ℕ) (l : Lent) → no n q (mem t (slots_is st l)) ≡ resolves (input v p sp tr) o (length p - s₀.at) (mem s₀ (slots_is st₀ l))
-      resolving-cut {n} {q} {t} g tr sp l =
+      pub resolving_cut : {n q : ℕ} {t : State} → r ≡ Refused n q t → (tr : List ℕ) (sp : ℕ) (l : Lent) → no n q (mem t (slots_is st l)) ≡ resolves (input v p sp tr) o (length p - s₀.at) (mem s₀ (slots_is st₀ l))
+      resolving_cut {n} {q} {t} g tr sp l =
           let x = input v p sp tr in
           resolves-cut x o (mem s (slots_is st l)) (k.left - 1) h e (mem t (slots_is st l)) (count_no (slots_is st l) g (i v tr sp (slots_is st l)))
           ∙ ap (λ (n : ℕ). resolves x o n (mem s (slots_is st l))) (sym (one_more h))
@@ -216,26 +216,26 @@ module _ (v p : List ℕ) (o : ℕ) (sc : List ℕ) (s₀ : State) (st₀ : List
         turn_at : s'.at ≡ t.at
         turn_at = ap (λ (m : Mem). m.at) (a nothing) ∙ resolved_at n o (mem t (slots_is st nothing))
 
-        turn-count : s'.slots ≡ t.slots
-        turn-count = ap (λ (m : Mem). m.slots.count) (a nothing) ∙ resolved_count n o (mem t (slots_is st nothing))
+        turn_count : s'.slots ≡ t.slots
+        turn_count = ap (λ (m : Mem). m.slots.count) (a nothing) ∙ resolved_count n o (mem t (slots_is st nothing))
 
-        pub resolving-less : length p - s'.at < length p - s.at
-        resolving-less = let b = numbered p s i g in omega (arith, b.more, b.within, turn_at)
+        pub resolving_less : length p - s'.at < length p - s.at
+        resolving_less = let b = numbered p s i g in omega (arith, b.more, b.within, turn_at)
 
-        pub resolving-turn : length st' ≡ length st → Indexed st' s'.slots (take (length p) sc) → Resolving v p o sc s₀ st₀ s' st'
-        resolving-turn et x =
+        pub resolving_turn : length st' ≡ length st → Indexed st' s'.slots (take (length p) sc) → Resolving v p o sc s₀ st₀ s' st'
+        resolving_turn et x =
             let b = numbered p s i g in
-            let c = resolving-asks i g in
+            let c = resolving_asks i g in
             record {
               left = k.left - 1;
               enough = omega (arith, b.more, turn_at, k.enough);
               within = omega (arith, b.within, turn_at);
-              fits = rw (turn-count, b.slots_same, et) k.fits;
+              fits = rw (turn_count, b.slots_same, et) k.fits;
               slots_length = et ∙ k.slots_length;
               same =
                   λ tr sp l. let y = input v p sp tr in
                   ap (resolves y o (k.left - 1)) (a l)
-                  ∙ resolves-turn y o (mem s (slots_is st l)) (k.left - 1) h e (mem t (slots_is st l)) (count_is (slots_is st l) g (i v tr sp (slots_is st l)))
+                  ∙ resolves_turn y o (mem s (slots_is st l)) (k.left - 1) h e (mem t (slots_is st l)) (count_is (slots_is st l) g (i v tr sp (slots_is st l)))
                   ∙ ap (λ (n : ℕ). resolves y o n (mem s (slots_is st l))) (sym (one_more h))
                   ∙ k.same tr sp l;
               indexed = x;

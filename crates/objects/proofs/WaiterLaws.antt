@@ -133,42 +133,42 @@ module _ (st : List ℕ) (c o i : ℕ) (f : Fields) (w : ℕ) where
   row_waiter n = waiter_agree st after n c (λ j h. row_same n j h)
 
   module _ (fits : c < room 6 st) where
-    row-waits : field 6 after c 5 ≡ w
-    row-waits = written_same st row c 5 (omega arith) fits
+    row_waits : field 6 after c 5 ≡ w
+    row_waits = written_same st row c 5 (omega arith) fits
 
     row_number : field 6 after c 3 ≡ f.a
     row_number = written_same st row c 3 (omega arith) fits
 
     -- one that does not wait
     module _ (off : w ≡ 0) where
-      plain-off : field 6 after c 5 ≢ 1
-      plain-off e = let z = sym row-waits ∙ e in omega (arith, z)
+      plain_off : field 6 after c 5 ≢ 1
+      plain_off e = let z = sym row_waits ∙ e in omega (arith, z)
 
       plain-waiter : (n : ℕ) → waiter after n (suc c) ≡ waiter st n c
-      plain-waiter n = waiter_no after n c (waits_off after n c plain-off) ∙ row_waiter n
+      plain-waiter n = waiter_no after n c (waits_off after n c plain_off) ∙ row_waiter n
 
       pub added-plain : (n : ℕ) → waiter after n (c + 1) ≡ waiter st n c
       added-plain n = rw (add-one c) (plain-waiter n)
 
-      pub indexed-plain : (sc : List ℕ) → Indexed st c sc → Indexed after (c + 1) sc
-      indexed-plain sc x n h = rw (added-plain n) (x n h)
+      pub indexed_plain : (sc : List ℕ) → Indexed st c sc → Indexed after (c + 1) sc
+      indexed_plain sc x n h = rw (added-plain n) (x n h)
 
     -- one that waits
     module _ (on : w ≡ 1) where
-      added-yes : waiter after f.a (suc c) ≡ suc c
-      added-yes = waiter_yes after f.a c (waits_on after f.a c (row-waits ∙ on) row_number)
+      added_yes : waiter after f.a (suc c) ≡ suc c
+      added_yes = waiter_yes after f.a c (waits_on after f.a c (row_waits ∙ on) row_number)
 
-      pub added-own : waiter after f.a (c + 1) ≡ c + 1
-      added-own = rw (add-one c) added-yes
+      pub added_own : waiter after f.a (c + 1) ≡ c + 1
+      added_own = rw (add-one c) added_yes
 
-      pub added-others : (n : ℕ) → n ≢ f.a → waiter after n (c + 1) ≡ waiter st n c
-      added-others n ne = rw (add-one c) (waiter_no after n c (waits_other after n c (λ e. ne (sym e ∙ row_number))) ∙ row_waiter n)
+      pub added_others : (n : ℕ) → n ≢ f.a → waiter after n (c + 1) ≡ waiter st n c
+      added_others n ne = rw (add-one c) (waiter_no after n c (waits_other after n c (λ e. ne (sym e ∙ row_number))) ∙ row_waiter n)
 
-      pub indexed-waits : (sc : List ℕ) → Indexed st c sc → Indexed after (c + 1) (set sc f.a (c + 1))
-      indexed-waits sc x n h =
+      pub indexed_waits : (sc : List ℕ) → Indexed st c sc → Indexed after (c + 1) (set sc f.a (c + 1))
+      indexed_waits sc x n h =
           same_or _ n f.a
-          (λ y w. rw y (get_or-set_same sc f.a (c + 1) 0 (omega (arith, length-set sc f.a (c + 1))) ∙ sym added-own))
-          (λ ne. rw (added-others n ne, get_or-set_other sc f.a n (c + 1) 0 ne) (x n (omega (arith, length-set sc f.a (c + 1)))))
+          (λ y w. rw y (get_or-set_same sc f.a (c + 1) 0 (omega (arith, length-set sc f.a (c + 1))) ∙ sym added_own))
+          (λ ne. rw (added_others n ne, get_or-set_other sc f.a n (c + 1) 0 ne) (x n (omega (arith, length-set sc f.a (c + 1)))))
 
 -- ---- a slot is filled
 
@@ -180,8 +180,8 @@ module _ (st : List ℕ) (j o : ℕ) where
     fill_at : field 6 (filled st j o) j 5 ≢ 1
     fill_at e = let z = sym (filled_same st j o 3 (omega arith) fits) ∙ e in omega (arith, z)
 
-    fill-off : (n : ℕ) → waits_for (filled st j o) n j ≡ false
-    fill-off n = waits_off (filled st j o) n j fill_at
+    fill_off : (n : ℕ) → waits_for (filled st j o) n j ≡ false
+    fill_off n = waits_off (filled st j o) n j fill_at
 
 module _ (st : List ℕ) (c : ℕ) (fits : c ≤ room 6 st) (n j o : ℕ) (e : waiter st n c ≡ suc j) where
   below : j < room 6 st
@@ -193,21 +193,21 @@ module _ (st : List ℕ) (c : ℕ) (fits : c ≤ room 6 st) (n j o : ℕ) (e : w
   pub filled_other : (m : ℕ) → m ≢ n → waiter (filled st j o) m c ≡ waiter st m c
   filled_other m h =
       waiter_agree st (filled st j o) m c (λ i l. same_or _ i j
-      (λ y. rw y (fill-off st j o below m ∙ sym (waits_other st m j (λ z. h (sym z ∙ said.1)))))
+      (λ y. rw y (fill_off st j o below m ∙ sym (waits_other st m j (λ z. h (sym z ∙ said.1)))))
       (λ ne. fill_same st j o m i ne))
 
   module _ {pending waiting : ℕ} (w : Waits st c pending waiting) where
-    pub filled-gone : waiter (filled st j o) n c ≡ 0
-    filled-gone =
+    pub filled_gone : waiter (filled st j o) n c ≡ 0
+    filled_gone =
         waiter_none (filled st j o) n c (λ i l. same_or _ i j
-        (λ y. rw y (fill-off st j o below n))
+        (λ y. rw y (fill_off st j o below n))
         (λ ne. by_case _ (waits_for st n i)
         (λ t. absurd (let z : suc i ≡ suc j = waiter_one w n i l t ∙ e in ne (omega arith)))
         (λ t. fill_same st j o n i ne ∙ t)))
 
     -- the entry of the number stays, and is no longer the number of a slot that waits
-    pub indexed-filled : (sc : List ℕ) → Indexed st c sc → Indexed (filled st j o) c sc
-    indexed-filled sc x m h =
+    pub indexed_filled : (sc : List ℕ) → Indexed st c sc → Indexed (filled st j o) c sc
+    indexed_filled sc x m h =
         same_or _ m n
-        (λ y w. absurd (let z : waiter (filled st j o) m c ≡ 0 = rw y filled-gone in omega arith))
+        (λ y w. absurd (let z : waiter (filled st j o) m c ≡ 0 = rw y filled_gone in omega arith))
         (λ ne. rw (filled_other m ne) (x m h))

@@ -26,23 +26,23 @@ module _ (bytes : ℕ) (slots : List ℕ) (count k : ℕ) where
   view_count h = rw (lt-ltb (room 6 slots) count h)
 
   module _ (h : count ≤ room 6 slots) where
-    pub view-unlisted : count ≤ k → Refused 17 ≡ view_of bytes slots count k
+    pub view_unlisted : count ≤ k → Refused 17 ≡ view_of bytes slots count k
     unfolding view_of
-    view-unlisted l = rw (le-ltb (room 6 slots) count h, le-leb count k l)
+    view_unlisted l = rw (le-ltb (room 6 slots) count h, le-leb count k l)
 
     module _ (l : k < count) where
-      pub view-other : (field 6 slots k 2 ≡ 5 → ⊥) → not (eqb (field 6 slots k 2) 6) ≡ true → Refused 17 ≡ view_of bytes slots count k
+      pub view_other : (field 6 slots k 2 ≡ 5 → ⊥) → not (eqb (field 6 slots k 2) 6) ≡ true → Refused 17 ≡ view_of bytes slots count k
       unfolding view_of
-      view-other n5 n6 = rw (le-ltb (room 6 slots) count h, lt-leb count k l, ne_eqb (field 6 slots k 2) 5 n5, not-true (eqb (field 6 slots k 2) 6) n6)
+      view_other n5 n6 = rw (le-ltb (room 6 slots) count h, lt-leb count k l, ne_eqb (field 6 slots k 2) 5 n5, not-true (eqb (field 6 slots k 2) 6) n6)
 
       module _ (raw : is_raw slots k ≡ true) where
-        pub view-past : bytes < field 6 slots k 3 + field 6 slots k 4 → Refused 17 ≡ view_of bytes slots count k
+        pub view_past : bytes < field 6 slots k 3 + field 6 slots k 4 → Refused 17 ≡ view_of bytes slots count k
         unfolding view_of
-        view-past g = rw (le-ltb (room 6 slots) count h, lt-leb count k l, raw, lt-leb (field 6 slots k 3 + field 6 slots k 4) bytes g)
+        view_past g = rw (le-ltb (room 6 slots) count h, lt-leb count k l, raw, lt-leb (field 6 slots k 3 + field 6 slots k 4) bytes g)
 
-        pub view-is : field 6 slots k 3 + field 6 slots k 4 ≤ bytes → Is (field 6 slots k 3) (field 6 slots k 4) ≡ view_of bytes slots count k
+        pub view_is : field 6 slots k 3 + field 6 slots k 4 ≤ bytes → Is (field 6 slots k 3) (field 6 slots k 4) ≡ view_of bytes slots count k
         unfolding view_of
-        view-is g = rw (le-ltb (room 6 slots) count h, lt-leb count k l, raw, le-leb (field 6 slots k 3 + field 6 slots k 4) bytes g)
+        view_is g = rw (le-ltb (room 6 slots) count h, lt-leb count k l, raw, le-leb (field 6 slots k 3 + field 6 slots k 4) bytes g)
 
 -- a view that is not refused lies in the payload
 module _ {off len : ℕ} where

@@ -38,17 +38,17 @@ module _ (m : Mem) where
   hot_entered r e = rw e
 
   module _ (i : ℕ) where
-    pub backref-in : {hot : List ℕ} → i < m.objects.count → hot ≡ entered m.hot (ref_fields (Object i)) → got (IsRef (Object i)) (with_hot hot m) ≡ backref_to i m
+    pub backref_in : {hot : List ℕ} → i < m.objects.count → hot ≡ entered m.hot (ref_fields (Object i)) → got (IsRef (Object i)) (with_hot hot m) ≡ backref_to i m
     unfolding backref_to
-    backref-in h e = rw (lt-ltb i m.objects.count h) (hot_entered (Object i) e)
+    backref_in h e = rw (lt-ltb i m.objects.count h) (hot_entered (Object i) e)
 
-    pub backref-past : m.objects.count ≤ i → refuse 8 m ≡ backref_to i m
+    pub backref_past : m.objects.count ≤ i → refuse 8 m ≡ backref_to i m
     unfolding backref_to
-    backref-past h = rw (le-ltb i m.objects.count h)
+    backref_past h = rw (le-ltb i m.objects.count h)
 
     module _ {h : Hot} (e : h ≡ hot_at m.hot i) where
-      pub hot-is : {r : Ref} → h ≡ Is r → got (IsRef r) m ≡ hot_place i m
-      hot-is k = rw (← e, k)
+      pub hot_is_lem : {r : Ref} → h ≡ Is r → got (IsRef r) m ≡ hot_place i m
+      hot_is_lem k = rw (← e, k)
 
       pub hot-empty : h ≡ Empty → refuse 9 m ≡ hot_place i m
       hot-empty k = rw (← e, k)
@@ -137,19 +137,19 @@ module _ (kind : ℕ) where
   of_ints_rest a b h = let f = none_at kind (17 ∷ 12 ∷ []) h in rw (f 1, f 0)
 
   module _ (x : Input) (a : ℕ) (m : Mem) where
-    pub skipped-kind : {key : ℕ} {o : Out SlotValue} → kind ≡ key → o ≡ skipped_to x key a m → o ≡ skipped_to x kind a m
-    skipped-kind = keyed (λ k. skipped_to x k a m)
+    pub skipped_kind : {key : ℕ} {o : Out SlotValue} → kind ≡ key → o ≡ skipped_to x key a m → o ≡ skipped_to x kind a m
+    skipped_kind = keyed (λ k. skipped_to x k a m)
 
-    pub skipped-rest : {o : Out SlotValue} → NoneOf kind (11 ∷ 8 ∷ 4 ∷ []) → o ≡ read_int x kind m → o ≡ skipped_to x kind a m
-    skipped-rest h e = let f = none_at kind (11 ∷ 8 ∷ 4 ∷ []) h in rw (f 2, f 1, f 0) e
+    pub skipped_rest : {o : Out SlotValue} → NoneOf kind (11 ∷ 8 ∷ 4 ∷ []) → o ≡ read_int x kind m → o ≡ skipped_to x kind a m
+    skipped_rest h e = let f = none_at kind (11 ∷ 8 ∷ 4 ∷ []) h in rw (f 2, f 1, f 0) e
 
     module _ (inner : Reader SlotValue) (tag : ℕ) where
       pub by_kind : {key : ℕ} {o : Out SlotValue} → kind ≡ key → o ≡ by_head x inner tag key a m → o ≡ by_head x inner tag kind a m
       by_kind = keyed (λ k. by_head x inner tag k a m)
 
-      pub by-none : Simple kind a → NoneOf kind (37 ∷ 35 ∷ 33 ∷ 30 ∷ 29 ∷ 28 ∷ 27 ∷ 24 ∷ 23 ∷ 22 ∷ 21 ∷ 20 ∷ 19 ∷ 18 ∷ 17 ∷ 16 ∷ 15 ∷ 14 ∷ 13 ∷ 12 ∷ 11 ∷ 10 ∷ 9 ∷ 8 ∷ 7 ∷ 4 ∷ 3 ∷ 2 ∷ []) → refuse_at 10 tag m ≡ by_head x inner tag kind a m
+      pub by_none : Simple kind a → NoneOf kind (37 ∷ 35 ∷ 33 ∷ 30 ∷ 29 ∷ 28 ∷ 27 ∷ 24 ∷ 23 ∷ 22 ∷ 21 ∷ 20 ∷ 19 ∷ 18 ∷ 17 ∷ 16 ∷ 15 ∷ 14 ∷ 13 ∷ 12 ∷ 11 ∷ 10 ∷ 9 ∷ 8 ∷ 7 ∷ 4 ∷ 3 ∷ 2 ∷ []) → refuse_at 10 tag m ≡ by_head x inner tag kind a m
       unfolding by_head
-      by-none s h =
+      by_none s h =
           let f = none_at kind (37 ∷ 35 ∷ 33 ∷ 30 ∷ 29 ∷ 28 ∷ 27 ∷ 24 ∷ 23 ∷ 22 ∷ 21 ∷ 20 ∷ 19 ∷ 18 ∷ 17 ∷ 16 ∷ 15 ∷ 14 ∷ 13 ∷ 12 ∷ 11 ∷ 10 ∷ 9 ∷ 8 ∷ 7 ∷ 4 ∷ 3 ∷ 2 ∷ []) h in
           rw (ne_eqb kind 1 s.no_object, f 27, f 26, f 25, ne_eqb kind 5 s.no_chunk, ne_eqb kind 6 s.no_alignment, f 24, f 23, f 22, f 21, f 20, f 19, f 18, f 17, f 16, f 15, f 14, f 13, f 12, f 11, f 10, f 9, f 8, f 7, ne_eqb kind 25 s.no_weak, ne_eqb kind 26 s.no_pointer, f 6, f 5, f 4, f 3, ne_eqb kind 31 s.no_repeat, ne_eqb kind 32 s.no_root, f 2, ne_eqb kind 34 s.no_count, f 1, ne_eqb kind 36 s.no_counted, f 0)
 

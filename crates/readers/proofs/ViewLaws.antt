@@ -19,8 +19,8 @@ use Rattle.readers.specs.Views.{Lent, mem, seen, seen_count, seen_went, Below}
 
 module _ {t : State} (l : Lent) where
   module _ {r : Step} {o : Out SlotValue} where
-    pub seen-got : {v : SlotValue} → r ≡ Got v t → seen r l ≡ o → got v (mem t l) ≡ o
-    seen-got e h = rw e at h
+    pub seen_got : {v : SlotValue} → r ≡ Got v t → seen r l ≡ o → got v (mem t l) ≡ o
+    seen_got e h = rw e at h
 
     pub seen_no : {n q : ℕ} → r ≡ StepRefused n q t → seen r l ≡ o → no n q (mem t l) ≡ o
     seen_no e h = rw e at h
@@ -36,8 +36,8 @@ module _ {t : State} (l : Lent) where
     pub went_on : r ≡ On t → seen_went r l ≡ o → got tt (mem t l) ≡ o
     went_on e h = rw e at h
 
-    pub went-no : {n q : ℕ} → r ≡ WentRefused n q t → seen_went r l ≡ o → no n q (mem t l) ≡ o
-    went-no e h = rw e at h
+    pub went_no : {n q : ℕ} → r ≡ WentRefused n q t → seen_went r l ≡ o → no n q (mem t l) ≡ o
+    went_no e h = rw e at h
 
 pub count_below : {r : Count} {n : ℕ} {t : State} (bound : ℕ) → r ≡ Is n t → Below bound r → n < bound
 count_below bound e h = rw e at h

@@ -53,17 +53,17 @@ module _ (v : List ℕ) (b : ℕ) where
   not_aligned = pick-zero (in_span v k_alignment_prefix 3 b) (b - number v k_alignment_prefix)
 
   module _ (s : eqb (number v k_synchronize) b ≡ false) {a : ℕ} (q : a ≡ alignment_of v b) where
-    pub closes-aligned : (a ≡ 0 → ⊥) → Alignment a ≡ closing_of v b
+    pub closes_aligned : (a ≡ 0 → ⊥) → Alignment a ≡ closing_of v b
     unfolding closing_of
-    closes-aligned h =
+    closes_aligned h =
         let t : in_span v k_alignment_prefix 3 b ≡ true = aligned (λ z. h (q ∙ z)) in
         rw (s, t, q, ← alignment_in refl t)
 
     module _ (z : a ≡ 0) where
-      pub closes-deferred : {x : ℕ} → is_entry v b ≡ true → x ≡ number v k_new_object → Deferred (b - x) ≡ closing_of v b
+      pub closes_deferred : {x : ℕ} → is_entry v b ≡ true → x ≡ number v k_new_object → Deferred (b - x) ≡ closing_of v b
       unfolding closing_of
-      closes-deferred e n = rw (s, not_aligned (sym q ∙ z), e, n)
+      closes_deferred e n = rw (s, not_aligned (sym q ∙ z), e, n)
 
-      pub closes-other : is_entry v b ≡ false → Reference ≡ closing_of v b
+      pub closes_other : is_entry v b ≡ false → Reference ≡ closing_of v b
       unfolding closing_of
-      closes-other e = rw (s, not_aligned (sym q ∙ z), e)
+      closes_other e = rw (s, not_aligned (sym q ∙ z), e)

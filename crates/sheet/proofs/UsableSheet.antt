@@ -89,15 +89,15 @@ module _ (v : List ℕ) where
   abbrev spans : List Bool
   spans = span_fits v k_hot_object 8 ∷ span_fits v k_hot_object_with_skip 8 ∷ span_fits v k_root_array_constants (root_mask v + 1) ∷ span_fits v k_root_array_constants_with_skip (root_mask v + 1) ∷ span_fits v k_fixed_raw_data 32 ∷ span_fits v k_fixed_repeat 16 ∷ span_fits v k_fixed_repeat_root 16 ∷ span_fits v k_alignment_prefix 3 ∷ []
 
-  abbrev legacySpans : List Bool
-  legacySpans = span_fits v k_new_object (number_of_spaces v) ∷ span_fits v k_backref (number_of_spaces v) ∷ span_fits v k_backref_with_skip (number_of_spaces v) ∷ []
+  abbrev legacy_spans : List Bool
+  legacy_spans = span_fits v k_new_object (number_of_spaces v) ∷ span_fits v k_backref (number_of_spaces v) ∷ span_fits v k_backref_with_skip (number_of_spaces v) ∷ []
 
   pub usable_gives : usable v ≡ true → Usable v
   unfolding usable
   usable_gives u =
       let e = parts clauses u in
       let s = parts spans (e 7) in
-      let l : is_legacy v ≡ true → (k : ℕ) → get_or legacySpans k true ≡ true = λ h. parts legacySpans (implies (is_legacy v) (all_of true legacySpans) (e 8) h) in
+      let l : is_legacy v ≡ true → (k : ℕ) → get_or legacy_spans k true ≡ true = λ h. parts legacy_spans (implies (is_legacy v) (all_of true legacy_spans) (e 8) h) in
       let n : (k : ℕ) → k < 56 → (number v k ≤ 255) ⊎ (number v k ≡ 65535) = λ k h. bounded_or_absent 255 (number v k) (within_at v 255 true 56 0 k k (e 3) h (omega arith)) in
       let r : (k : ℕ) → k < 9 → number v k ≤ 65534 = λ k h. bounded 65534 (number v k) (within_at v 65534 false 9 0 k k (e 2) h (omega arith)) in
       record {

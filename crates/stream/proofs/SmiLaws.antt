@@ -50,24 +50,24 @@ module _ (d : List ℕ) where
   word_below bs e = rw e (le_below d 0 4 bs)
 
   module _ (l : length d ≡ 8) {raw : ℕ} (e : raw ≡ little_endian d 0 8) where
-    pub smi8-is : {z : ℤ} → raw % 4294967296 ≡ 0 → raw / 4294967296 < 2 ^ 32 → z ≡ signed (raw / 4294967296) → Is (to_z w64 (of_z w64 z)) ≡ smi_of d
+    pub smi8_is : {z : ℤ} → raw % 4294967296 ≡ 0 → raw / 4294967296 < 2 ^ 32 → z ≡ signed (raw / 4294967296) → Is (to_z w64 (of_z w64 z)) ≡ smi_of d
     unfolding smi_of
-    smi8-is h f r =
+    smi8_is h f r =
         rw (eq-eqb (length d) 8 l, ← e, eq-eqb (raw % 4294967296) 0 h, read_back r (signed_fits (raw / 4294967296) f))
 
-    pub smi8-no : (raw % 4294967296 ≡ 0 → ⊥) → No ≡ smi_of d
+    pub smi8_no : (raw % 4294967296 ≡ 0 → ⊥) → No ≡ smi_of d
     unfolding smi_of
-    smi8-no h = rw (eq-eqb (length d) 8 l, ← e, ne_eqb (raw % 4294967296) 0 h)
+    smi8_no h = rw (eq-eqb (length d) 8 l, ← e, ne_eqb (raw % 4294967296) 0 h)
 
   module _ (l : length d ≡ 4) {raw : ℕ} (e : raw ≡ little_endian d 0 4) where
-    pub smi4-is : {z : ℤ} → raw % 2 ≡ 0 → raw < 2 ^ 32 → z ≡ signed raw → Is (to_z w64 (of_z w64 (shr_z (to_z w64 (of_z w64 z)) 2))) ≡ smi_of d
+    pub smi4_is : {z : ℤ} → raw % 2 ≡ 0 → raw < 2 ^ 32 → z ≡ signed raw → Is (to_z w64 (of_z w64 (shr_z (to_z w64 (of_z w64 z)) 2))) ≡ smi_of d
     unfolding smi_of
-    smi4-is h f r =
+    smi4_is h f r =
         rw (l, ← e, eq-eqb (raw % 2) 0 h, read_back r (signed_fits raw f), to_z-of_z (half_fits (signed_fits raw f)))
 
-    pub smi4-no : (raw % 2 ≡ 0 → ⊥) → No ≡ smi_of d
+    pub smi4_no : (raw % 2 ≡ 0 → ⊥) → No ≡ smi_of d
     unfolding smi_of
-    smi4-no h = rw (l, ← e, ne_eqb (raw % 2) 0 h)
+    smi4_no h = rw (l, ← e, ne_eqb (raw % 2) 0 h)
 
   pub smi_no : (length d ≡ 8 → ⊥) → (length d ≡ 4 → ⊥) → No ≡ smi_of d
   unfolding smi_of

@@ -43,8 +43,8 @@ module _ (t₀ row : List ℕ) (n : ℕ) where
   put_full h = record { roomy = sym (le-ltb n (room (length row) t₀) h); table = rw (le-ltb n (room (length row) t₀) h) }
 
   module _ (t : List ℕ) (i : ℕ) (e : t ≡ paste t₀ (n * length row) row i) where
-    pub put-more : n * length row + i < length t₀ → i < length row → set t (n * length row + i) (get_or row i 0) ≡ paste t₀ (n * length row) row (i + 1)
-    put-more l b = rw (e, add-one i) (paste-suc t₀ (n * length row) row i 0 l b)
+    pub put_more : n * length row + i < length t₀ → i < length row → set t (n * length row + i) (get_or row i 0) ≡ paste t₀ (n * length row) row (i + 1)
+    put_more l b = rw (e, add-one i) (paste-suc t₀ (n * length row) row i 0 l b)
 
     pub put_done : 0 < length row → n < room (length row) t₀ → i ≡ length row → Put t₀ n row true t
     unfolding written

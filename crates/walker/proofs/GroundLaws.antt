@@ -26,7 +26,7 @@ use Rattle.readers.specs.declared.state.Went.TheVariants.{On, Refused as WentRef
 use Rattle.readers.specs.Views.{Lent, mem, seen_count, seen_went}
 use Rattle.objects.specs.Index.{Indexed, CountIndexed, WentIndexed}
 use Rattle.walker.specs.Ready.{OutIndex}
-use Rattle.walker.proofs.SameLaws.{Same, Leaves, same_choose, then-leaves, next-leaves}
+use Rattle.walker.proofs.SameLaws.{Same, Leaves, same_choose, then_leaves, next_leaves}
 
 pub record Ground : Type 0 where
   pub addresses : Table
@@ -69,7 +69,7 @@ module _ (x : Input) where
 
   pub keep_map_ground : (o : ℕ) (v : SlotValue) → Leaves ground_of (keep_map x o v)
   unfolding keep_map
-  keep_map_ground o v = then-leaves ground_of (flag_object x o v >> add_slot o 0 (fields_of v) 0 _) _ (next-leaves ground_of (flag_object x o v) _ (flag_ground o v) (slot_ground o 0 (fields_of v) 0 _)) (λ k m. refl)
+  keep_map_ground o v = then_leaves ground_of (flag_object x o v >> add_slot o 0 (fields_of v) 0 _) _ (next_leaves ground_of (flag_object x o v) _ (flag_ground o v) (slot_ground o 0 (fields_of v) 0 _)) (λ k m. refl)
 
   -- ---- resolves
 
@@ -86,8 +86,8 @@ module _ (x : Input) where
   resolves_ground o zero m = refl
   resolves_ground o (suc n) m =
       same_choose ground_of (is_resolve x.sheet (peek x m)) _ _ m
-      (λ _. next-leaves ground_of (byte x >> int x >>= (λ number. change (resolved number o))) (resolves x o n)
-      (then-leaves ground_of (byte x >> int x) _ (next-leaves ground_of (byte x) (int x) byte_ground int_ground) (λ number m. resolved_ground number o m))
+      (λ _. next_leaves ground_of (byte x >> int x >>= (λ number. change (resolved number o))) (resolves x o n)
+      (then_leaves ground_of (byte x >> int x) _ (next_leaves ground_of (byte x) (int x) byte_ground int_ground) (λ number m. resolved_ground number o m))
       (resolves_ground o n) m) refl
 
   -- ---- an item
@@ -95,15 +95,15 @@ module _ (x : Input) where
   keep_ground : (o done : ℕ) (v : SlotValue) → Leaves ground_of (keep_item x o done v)
   unfolding keep_item
   keep_ground o done v m =
-      next-leaves ground_of (add_slot o _ (fields_of v) (waits_of v) in_slot >>= _ >> change (with_skip 0)) _
-      (next-leaves ground_of (add_slot o _ (fields_of v) (waits_of v) in_slot >>= _) (change (with_skip 0))
-      (then-leaves ground_of (add_slot o _ (fields_of v) (waits_of v) in_slot) _ (slot_ground o _ (fields_of v) (waits_of v) in_slot) (λ k m. refl)) (λ m. refl)) (λ m. refl) m
+      next_leaves ground_of (add_slot o _ (fields_of v) (waits_of v) in_slot >>= _ >> change (with_skip 0)) _
+      (next_leaves ground_of (add_slot o _ (fields_of v) (waits_of v) in_slot >>= _) (change (with_skip 0))
+      (then_leaves ground_of (add_slot o _ (fields_of v) (waits_of v) in_slot) _ (slot_ground o _ (fields_of v) (waits_of v) in_slot) (λ k m. refl)) (λ m. refl)) (λ m. refl) m
 
   pub place_item_ground : (o done : ℕ) (v : SlotValue) → Leaves ground_of (place_item x o done v)
   unfolding place_item
   place_item_ground o done (Skip n) m = refl
   place_item_ground o done (StreamBytes n) m = refl
-  place_item_ground o done (RepeatPrev n) m = then-leaves ground_of repeat_previous _ (λ m. value_ground _ m) (λ k. keep_ground o done (Repeat n k)) m
+  place_item_ground o done (RepeatPrev n) m = then_leaves ground_of repeat_previous _ (λ m. value_ground _ m) (λ k. keep_ground o done (Repeat n k)) m
   place_item_ground o done (Ref r) m = keep_ground o done (Ref r) m
   place_item_ground o done (Repeat n k) m = keep_ground o done (Repeat n k) m
   place_item_ground o done (Raw r) m = keep_ground o done (Raw r) m

@@ -22,10 +22,10 @@ use Rattle.definition.specs.Reference.{ref_at}
 use Rattle.laws.specs.Sound.{Proper, Sound, Counted, Referred}
 use Rattle.laws.specs.Leaves.{tag_inside}
 use Rattle.laws.specs.Keeps.{sheet_gives, word_low, Placed}
-use Rattle.laws.specs.Theorems.{ref_keeps, placeItem-keeps}
-use Rattle.laws.specs.Numbered.{Numbered, FreshValue, placeItem-numbered}
+use Rattle.laws.specs.Theorems.{ref_keeps, place_item_keeps}
+use Rattle.laws.specs.Numbered.{Numbered, FreshValue, place_item-numbered}
 use Rattle.laws.specs.Addresses.{Ascending}
-use Rattle.laws.specs.Fuel.{items-fuel}
+use Rattle.laws.specs.Fuel.{items_fuel}
 use Rattle.readers.proofs.ViewLaws.{then_got, then_no}
 use Rattle.objects.specs.Index.{Indexed}
 use Rattle.levels.specs.declared.level.Item.{Item}
@@ -75,7 +75,7 @@ module _ {x : Input} {h sc : List ℕ} {m : Mem} (g : Ready x h m sc) (d o done 
 module _ {x : Input} {m : Mem} (s : Sound x m) (c : Counted m) (u : Numbered m) (a : Ascending x m.addresses m.alloc) (p : Proper x) where
   pub place_went : (o done : ℕ) → o < m.objects.count → (v : SlotValue) → width_of (word x) v ≤ 2 ^ 34 → FreshValue m v → {d1 : ℕ} {m1 : Mem} → got d1 m1 ≡ place_item x o done v m → Went x m (Placed done m) None d1 m1
   place_went o done b v narrow fresh f =
-      went (placeItem-keeps p m s c o b done v narrow) (placeItem-numbered p m s c u o (done + 1) done b v fresh narrow (omega arith)) (ground_ascends x m a (place_item x o done v m) (place_item_ground x o done v m)) f
+      went (place_item_keeps p m s c o b done v narrow) (place_item-numbered p m s c u o (done + 1) done b v fresh narrow (omega arith)) (ground_ascends x m a (place_item x o done v m) (place_item_ground x o done v m)) f
 
 -- what an item keeps, of an object of n bytes
 pub record Added (done n : ℕ) (m : Mem) (d : ℕ) (m' : Mem) : Type 0 where
@@ -117,13 +117,13 @@ module _ (x : Input) (r : Reader SlotValue) (o n done : ℕ) (m : Mem) where
   item_slot e f = rw e f
 
   module _ (l : done < n) where
-    items-deferred : is_deferred x.sheet (peek x m) ≡ true → m.at < length x.payload → items_from x r o n done m ≡ got n (moved (m.at + 1) m)
+    items_deferred : is_deferred x.sheet (peek x m) ≡ true → m.at < length x.payload → items_from x r o n done m ≡ got n (moved (m.at + 1) m)
     unfolding items byte
-    items-deferred e b = rw (one_more, lt-leb n done l, e, lt-ltb m.at (length x.payload) b)
+    items_deferred e b = rw (one_more, lt-leb n done l, e, lt-ltb m.at (length x.payload) b)
 
-    items-slot : is_deferred x.sheet (peek x m) ≡ false → and_then (slot_in x r o done m) (items x r o n (length x.payload - m.at)) ≡ items_from x r o n done m
+    items_slot : is_deferred x.sheet (peek x m) ≡ false → and_then (slot_in x r o done m) (items x r o n (length x.payload - m.at)) ≡ items_from x r o n done m
     unfolding items
-    items-slot e = rw (one_more, lt-leb n done l, e)
+    items_slot e = rw (one_more, lt-leb n done l, e)
 
 pub deferred_inside : {x : Input} {h sc : List ℕ} {m : Mem} → Ready x h m sc → is_deferred x.sheet (peek x m) ≡ true → m.at < length x.payload
 deferred_inside {x} {m = m} g e = tag_inside x.sheet (sheet_gives g.proper) k_deferred (omega arith) x.payload m.at e
@@ -139,14 +139,14 @@ module _ {x : Input} {h sc : List ℕ} {m : Mem} (g : Ready x h m sc) (d o n don
   enough : (u : Out ℕ) → u ≡ slot_in x r o done m → and_then u (items_from x r o n) ≡ and_then u (items x r o n (length x.payload - m.at))
   enough (got d1 m1) e =
       let z = slot_went e in
-      items-fuel g.proper r (ref_keeps g.proper (64 - d)) o n _ _ d1 m1 z.kept.sound z.kept.counted (omega (arith, b, z.kept.onward.objects_up)) (omega arith) (omega (arith, z.more.reads, z.kept.sound.within))
+      items_fuel g.proper r (ref_keeps g.proper (64 - d)) o n _ _ d1 m1 z.kept.sound z.kept.counted (omega (arith, b, z.kept.onward.objects_up)) (omega arith) (omega (arith, z.more.reads, z.kept.sound.within))
   enough (no k q m1) e = refl
 
   by_tag : (t : Bool) → is_deferred x.sheet (peek x m) ≡ t → and_then (item_in x r o n done m) (items_from x r o n) ≡ items_from x r o n done m
   by_tag true e =
       let i = deferred_inside g e in
-      rw (← item_deferred x r o n done m e i, items_full x r o n n (moved (m.at + 1) m) (omega arith), items-deferred x r o n done m low e i)
-  by_tag false e = rw (← item_slot x r o n done m e refl) (enough (slot_in x r o done m) refl ∙ items-slot x r o n done m low e)
+      rw (← item_deferred x r o n done m e i, items_full x r o n n (moved (m.at + 1) m) (omega arith), items_deferred x r o n done m low e i)
+  by_tag false e = rw (← item_slot x r o n done m e refl) (enough (slot_in x r o done m) refl ∙ items_slot x r o n done m low e)
 
   -- the items are one and the rest
   pub items_one : and_then (item_in x r o n done m) (items_from x r o n) ≡ items_from x r o n done m

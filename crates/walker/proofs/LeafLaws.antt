@@ -18,7 +18,7 @@ use Rattle.readers.specs.declared.state.State.{State}
 use Rattle.readers.specs.declared.state.Step.{Step}
 use Rattle.readers.specs.Views.{Lent, input, mem, seen, objects_is, slots_is, hot_is}
 use Rattle.readers.proofs.HeadFacts.{head_fits}
-use Rattle.objects.proofs.WaiterLaws.{indexed-plain}
+use Rattle.objects.proofs.WaiterLaws.{indexed_plain}
 use Rattle.leaves.specs.declared.leaf.Leaf.{Leaf}
 use Rattle.leaves.specs.Leaf.{HeadsFit, ring, after, value_of, Stands, FoundIn, Placed}
 use Rattle.walker.specs.Ready.{Index, OutIndex, Ready, slot_in}
@@ -38,7 +38,7 @@ place_leaf_asks g o few = (omega (arith, g.counted.count_low o, g.sound.slots_fi
 -- a slot record that does not wait leaves scratch right
 pub plain_index : {x : Input} {h sc : List ℕ} {s : State} {l : Lent} → Ready x h (mem s l) sc → (o index : ℕ) (f : Fields) → s.slots < room 6 l.slots → {st : List ℕ} → st ≡ written l.slots s.slots (slot_row o index f 0) → Index (length x.payload) (table st (s.slots + 1)) (table l.addresses s.addresses) sc
 plain_index {x} {sc = sc} {s = s} {l = l} g o index f b e =
-    record { pending = rw e (indexed-plain l.slots s.slots o index f 0 b refl (take (length x.payload) sc) g.index.pending); linked = g.index.linked }
+    record { pending = rw e (indexed_plain l.slots s.slots o index f 0 b refl (take (length x.payload) sc) g.index.pending); linked = g.index.linked }
 
 -- the state after a leaf's slot
 abbrev pub stepped : Leaf → State → State
@@ -90,11 +90,11 @@ module _ (v p : List ℕ) (sp : ℕ) (tr h sc : List ℕ) (s : State) (l : Lent)
         let k₁ : got (done + s.skip + leaf.width) (mem (stepped leaf s) l₁) ≡ keep_item x o done stands.value m₁ = rw (placed.rings some) k in
         k₁ ∙ stands.kept o done m₁
 
-    pub leaf-item : got (done + s.skip + leaf.width) (mem (stepped leaf s) l₁) ≡ slot_in x (ref_at x (64 - d)) o done (mem s l)
-    leaf-item = slot_got x d o done (mem s l) read is_kept
+    pub leaf_item : got (done + s.skip + leaf.width) (mem (stepped leaf s) l₁) ≡ slot_in x (ref_at x (64 - d)) o done (mem s l)
+    leaf_item = slot_got x d o done (mem s l) read is_kept
 
-    pub leaf-index : Index (length p) (table st (s.slots + 1)) (table l.addresses s.addresses) sc
-    leaf-index = plain_index g o index (triple leaf.kind leaf.a leaf.b) (placed.roomy some) (placed.slot some)
+    pub leaf_index : Index (length p) (table st (s.slots + 1)) (table l.addresses s.addresses) sc
+    leaf_index = plain_index g o index (triple leaf.kind leaf.a leaf.b) (placed.roomy some) (placed.slot some)
 
 -- where none was placed, all stays
 pub unplaced : (s : State) (l : Lent) {k o index : ℕ} {r : Leaf} {ot st hot : List ℕ} → Placed k o index r l.objects l.slots l.hot ot st hot → r.kind ≡ 0 → mem s (objects_is ot (slots_is st (hot_is hot l))) ≡ mem s l

@@ -124,50 +124,50 @@ module _ (x : Input) (h : List ℕ) (d : ℕ) where
     -- ---- the head
 
     module _ (e : l.done ≡ 0) where
-      is-object : reading x (d + k) l m ≡ object x (ref_at x (64 - (d + k))) l.space l.tag m
-      is-object = rw (eq-eqb l.done 0 e)
+      is_object : reading x (d + k) l m ≡ object x (ref_at x (64 - (d + k))) l.space l.tag m
+      is_object = rw (eq-eqb l.done 0 e)
 
-      pub nest-headless : {n q : ℕ} {m1 : Mem} → no n q m1 ≡ headed x (ref_at x (64 - (d + k))) l.space l.tag m → no n q m1 ≡ whole
-      nest-headless f = ends (head_no x (ref_at x (64 - (d + k))) l.space l.tag m f ∙ sym is-object)
+      pub nest_headless : {n q : ℕ} {m1 : Mem} → no n q m1 ≡ headed x (ref_at x (64 - (d + k))) l.space l.tag m → no n q m1 ≡ whole
+      nest_headless f = ends (head_no x (ref_at x (64 - (d + k))) l.space l.tag m f ∙ sym is_object)
 
-      pub nest-headed : {n : ℕ} {m1 : Mem} → got n m1 ≡ headed x (ref_at x (64 - (d + k))) l.space l.tag m → n < 2 ^ 33 → {sc1 : List ℕ} → Index (length x.payload) m1.slots m1.addresses sc1 → (o v : ℕ) → o ≡ m.objects.count → v ≡ word x
+      pub nest_headed : {n : ℕ} {m1 : Mem} → got n m1 ≡ headed x (ref_at x (64 - (d + k))) l.space l.tag m → n < 2 ^ 33 → {sc1 : List ℕ} → Index (length x.payload) m1.slots m1.addresses sc1 → (o v : ℕ) → o ≡ m.objects.count → v ≡ word x
           → (Nest x h d whole m₀ ls k (record { object = o; size = n; done = v; tag = l.tag; space = l.space }) m1 sc1) × (m.at ≤ m1.at)
-      nest-headed {n} {m1} f small i o v eo ev =
+      nest_headed {n} {m1} f small i o v eo ev =
           let r = headed_ready w.ready (64 - (d + k)) l.space l.tag (w.spaced e) f i in
           let some : 0 < v = omega (arith, (word_some w.ready).1, ev) in
           let z : filling x (d + k) (record { object = m.objects.count; size = n; done = word x; tag = l.tag; space = l.space }) m1 ≡ object x (ref_at x (64 - (d + k))) l.space l.tag m = head_on x (ref_at x (64 - (d + k))) l.space l.tag m f refl in
-          (record { ready = r.0; same = goes (rw (ne_eqb v 0 (λ e. omega (arith, e, some)), eo, ev) z ∙ sym is-object); onward = omega (arith, w.onward, r.3); deep = w.deep; few = w.few; eight = w.eight; kept = still r.3; spaced = λ e. absurd (omega (arith, e, some)); held = λ _. (record { below = omega (arith, eo, r.1); some = r.2; small = small }, omega (arith, ev, (word_some w.ready).0)) }, r.3.at_up)
+          (record { ready = r.0; same = goes (rw (ne_eqb v 0 (λ e. omega (arith, e, some)), eo, ev) z ∙ sym is_object); onward = omega (arith, w.onward, r.3); deep = w.deep; few = w.few; eight = w.eight; kept = still r.3; spaced = λ e. absurd (omega (arith, e, some)); held = λ _. (record { below = omega (arith, eo, r.1); some = r.2; small = small }, omega (arith, ev, (word_some w.ready).0)) }, r.3.at_up)
 
     -- ---- the items
 
     module _ (b : 0 < l.done) where
-      is-filling : reading x (d + k) l m ≡ filling x (d + k) l m
-      is-filling = rw (ne_eqb l.done 0 (λ e. omega (arith, e, b)))
+      is_filling : reading x (d + k) l m ≡ filling x (d + k) l m
+      is_filling = rw (ne_eqb l.done 0 (λ e. omega (arith, e, b)))
 
       -- all have been read
-      pub nest-over : l.size ≤ l.done → (l.done ≡ l.size → ⊥) → no 12 l.tag m ≡ whole
-      nest-over low e =
+      pub nest_over : l.size ≤ l.done → (l.done ≡ l.size → ⊥) → no 12 l.tag m ≡ whole
+      nest_over low e =
           let z : no 12 l.tag m ≡ filling x (d + k) l m = rw (items_full x (ref_at x (64 - (d + k))) l.object l.size l.done m low, ne_eqb l.done l.size e) in
-          ends (z ∙ sym is-filling)
+          ends (z ∙ sym is_filling)
 
       full : l.done ≡ l.size → resumed x d ls k (got (Ref (Object l.object)) m) ≡ whole
       full e =
           let z : got (Ref (Object l.object)) m ≡ filling x (d + k) l m = rw (items_full x (ref_at x (64 - (d + k))) l.object l.size l.done m (omega (arith, e)), eq-eqb l.done l.size e) in
-          goes (z ∙ sym is-filling)
+          goes (z ∙ sym is_filling)
 
-      pub nest-whole : l.done ≡ l.size → k ≡ 0 → got (Ref (Object l.object)) m ≡ whole
+      pub nest_whole : l.done ≡ l.size → k ≡ 0 → got (Ref (Object l.object)) m ≡ whole
       unfolding resumed
-      nest-whole e z = let f = full e in rw z at f
+      nest_whole e z = let f = full e in rw z at f
 
       module _ (low : l.done < l.size) where
         items : {u : Out SlotValue} → u ≡ and_then (and_then (item_in x (ref_at x (64 - (d + k))) l.object l.size l.done m) (items_from x (ref_at x (64 - (d + k))) l.object l.size)) (closed l.object l.tag l.size) → u ≡ reading x (d + k) l m
-        items f = f ∙ ap (λ (u : Out ℕ). and_then u (closed l.object l.tag l.size)) (items_one w.ready (d + k) l.object l.size l.done (w.held b).0.below low) ∙ sym is-filling
+        items f = f ∙ ap (λ (u : Out ℕ). and_then u (closed l.object l.tag l.size)) (items_one w.ready (d + k) l.object l.size l.done (w.held b).0.below low) ∙ sym is_filling
 
-        pub nest-no : {n q : ℕ} {m1 : Mem} → no n q m1 ≡ item_in x (ref_at x (64 - (d + k))) l.object l.size l.done m → no n q m1 ≡ whole
-        nest-no f = ends (items (then_no (closed l.object l.tag l.size) (then_no (items_from x (ref_at x (64 - (d + k))) l.object l.size) f)))
+        pub nest_no : {n q : ℕ} {m1 : Mem} → no n q m1 ≡ item_in x (ref_at x (64 - (d + k))) l.object l.size l.done m → no n q m1 ≡ whole
+        nest_no f = ends (items (then_no (closed l.object l.tag l.size) (then_no (items_from x (ref_at x (64 - (d + k))) l.object l.size) f)))
 
-        pub nest-item : {n : ℕ} {m1 : Mem} → got n m1 ≡ item_in x (ref_at x (64 - (d + k))) l.object l.size l.done m → {sc1 : List ℕ} → Index (length x.payload) m1.slots m1.addresses sc1 → (Nest x h d whole m₀ ls k (done_is n l) m1 sc1) × (m.at < m1.at)
-        nest-item {n} {m1} f i =
+        pub nest_item : {n : ℕ} {m1 : Mem} → got n m1 ≡ item_in x (ref_at x (64 - (d + k))) l.object l.size l.done m → {sc1 : List ℕ} → Index (length x.payload) m1.slots m1.addresses sc1 → (Nest x h d whole m₀ ls k (done_is n l) m1 sc1) × (m.at < m1.at)
+        nest_item {n} {m1} f i =
             let z = item_went w.ready (d + k) l.object l.size l.done (w.held b).0.below low f in
             let u = z.kept.onward in
             let some : 0 < n = omega (arith, z.more.rises, b) in
@@ -181,15 +181,15 @@ module _ (x : Input) (h : List ℕ) (d : ℕ) where
           abbrev child : Out SlotValue
           child = object x (ref_at x (64 - (d + (k + 1)))) space m.at (moved (m.at + 1) m)
 
-          is-reference : child ≡ ref_at x (64 - (d + k)) m
-          is-reference =
+          is_reference : child ≡ ref_at x (64 - (d + k)) m
+          is_reference =
               let z : d + (k + 1) ≡ d + k + 1 = omega arith in
               rw (z, ← one_less (d + k)) (ref_object w.ready s.inside (get_or x.payload m.at 0) (refl, c) (d + k + 1) (omega (arith, s.deep)) s.kind)
 
           goes_on : goes_on x (d + k) l child ≡ reading x (d + k) l m
           goes_on =
               items (ap (λ (u : Out ℕ). and_then (and_then u (items_from x (ref_at x (64 - (d + k))) l.object l.size)) (closed l.object l.tag l.size))
-              (item_slot x (ref_at x (64 - (d + k))) l.object l.size l.done m s.not_deferred (ap (λ (u : Out SlotValue). and_then u (place_item x l.object l.done)) is-reference)))
+              (item_slot x (ref_at x (64 - (d + k))) l.object l.size l.done m s.not_deferred (ap (λ (u : Out SlotValue). and_then u (place_item x l.object l.done)) is_reference)))
 
           begun : resumed x d (set ls k l) (k + 1) child ≡ whole
           begun =
@@ -202,8 +202,8 @@ module _ (x : Input) (h : List ℕ) (d : ℕ) where
           kept_more i low₁ true e = let z = eqb-true i k e in rw (z, get_or-set_same ls k l nowhere (omega (arith, w.eight, s.roomy))) (held_on (omega arith) (w.held b).0, b, low)
           kept_more i low₁ false e = let z = eqb-false i k e in rw (get_or-set_other ls k i l nowhere z) (still (omega arith) i (omega (arith, low₁, z)))
 
-          pub nest-begins : {next : Level} → next ≡ unread_at m.at space → Nest x h d whole m₀ (set ls k l) (k + 1) next (moved (m.at + 1) m) sc
-          nest-begins e =
+          pub nest_begins : {next : Level} → next ≡ unread_at m.at space → Nest x h d whole m₀ (set ls k l) (k + 1) next (moved (m.at + 1) m) sc
+          nest_begins e =
               rw e (record { ready = moved_ready w.ready s.inside; same = begun; onward = omega (arith, w.onward); deep = omega (arith, s.deep); few = omega (arith, s.roomy); eight = length-set ls k l ∙ w.eight; kept = λ i low₁. kept_more i low₁ (eqb i k) refl; spaced = λ _. space_low w.ready s.inside (get_or x.payload m.at 0) (refl, c) s.kind; held = λ b. absurd (omega (arith, b)) })
 
       -- an object that is full, in the level kept before it
@@ -217,16 +217,16 @@ module _ (x : Input) (h : List ℕ) (d : ℕ) where
         left : resumed x d ls j (rest (place_item x outer.object outer.done (Ref (Object l.object)) m)) ≡ whole
         left = sym (resumed_suc x d ls z (got (Ref (Object l.object)) m)) ∙ full e
 
-        pub nest-roomless : {n q : ℕ} {m1 : Mem} → no n q m1 ≡ place_item x outer.object outer.done (Ref (Object l.object)) m → no n q m1 ≡ whole
-        nest-roomless {n} {q} {m1} f = sym (resumed_no x d ls j n q m1) ∙ ap (λ (u : Out ℕ). resumed x d ls j (rest u)) f ∙ left
+        pub nest_roomless : {n q : ℕ} {m1 : Mem} → no n q m1 ≡ place_item x outer.object outer.done (Ref (Object l.object)) m → no n q m1 ≡ whole
+        nest_roomless {n} {q} {m1} f = sym (resumed_no x d ls j n q m1) ∙ ap (λ (u : Out ℕ). resumed x d ls j (rest u)) f ∙ left
 
-        pub outer-held : (Held m outer) × (0 < outer.done) × (outer.done < outer.size)
-        outer-held = w.kept j (omega (arith, z))
+        pub outer_held : (Held m outer) × (0 < outer.done) × (outer.done < outer.size)
+        outer_held = w.kept j (omega (arith, z))
 
-        pub nest-ends : {n : ℕ} {m1 : Mem} → got n m1 ≡ place_item x outer.object outer.done (Ref (Object l.object)) m → {sc1 : List ℕ} → Index (length x.payload) m1.slots m1.addresses sc1 → Nest x h d whole m₀ ls j (done_is n outer) m1 sc1
-        nest-ends {n} {m1} f i =
+        pub nest_ends : {n : ℕ} {m1 : Mem} → got n m1 ≡ place_item x outer.object outer.done (Ref (Object l.object)) m → {sc1 : List ℕ} → Index (length x.payload) m1.slots m1.addresses sc1 → Nest x h d whole m₀ ls j (done_is n outer) m1 sc1
+        nest_ends {n} {m1} f i =
             let g = w.ready in
-            let q = outer-held in
+            let q = outer_held in
             let y = place_went g.sound g.counted g.numbered g.ascending g.proper outer.object outer.done q.0.below (Ref (Object l.object)) (omega (arith, (word_some g).0)) tt f in
             let u = y.kept.onward in
             let some : 0 < n = omega (arith, y.more.rises, q.1) in
@@ -244,9 +244,9 @@ module _ (x : Input) (o done child : ℕ) (s : State) (l : Lent) {v : ℕ} (ev :
   object_roomless e = let z = p.full e in rw (z.1, z.2, le-ltb s.slots (room 6 l.slots) z.0)
 
   module _ (e : t ≡ true) where
-    pub object-item : got (done + s.skip + v) (mem (stepped (leaf_of child v s.at) s) (objects_is ot (slots_is st l))) ≡ place_item x o done (Ref (Object child)) (mem s l)
+    pub object_item : got (done + s.skip + v) (mem (stepped (leaf_of child v s.at) s) (objects_is ot (slots_is st l))) ≡ place_item x o done (Ref (Object child)) (mem s l)
     unfolding place_item
-    object-item = let z = p.placed e in leaf_kept x o done s l (leaf_of child v s.at) (Ref (Object child)) (sym ev) refl refl refl z.0 z.1 z.2
+    object_item = let z = p.placed e in leaf_kept x o done s l (leaf_of child v s.at) (Ref (Object child)) (sym ev) refl refl refl z.0 z.1 z.2
 
-    pub object-index : {h sc : List ℕ} → Ready x h (mem s l) sc → Index (length x.payload) (table st (s.slots + 1)) (table l.addresses s.addresses) sc
-    object-index g = let z = p.placed e in plain_index g o ((done + s.skip) / v) (triple 1 child 0) z.0 z.1
+    pub object_index : {h sc : List ℕ} → Ready x h (mem s l) sc → Index (length x.payload) (table st (s.slots + 1)) (table l.addresses s.addresses) sc
+    object_index g = let z = p.placed e in plain_index g o ((done + s.skip) / v) (triple 1 child 0) z.0 z.1

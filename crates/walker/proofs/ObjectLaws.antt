@@ -24,9 +24,9 @@ use Rattle.laws.specs.Sound.{Proper, Sound, Counted, Onward, Kept, Holds, Referr
 use Rattle.laws.specs.Steps.{kept_trans}
 use Rattle.laws.specs.Keeps.{Appended}
 use Rattle.laws.specs.Waiting.{Waits}
-use Rattle.laws.specs.Theorems.{byte_keeps, int_keeps, add_object_keeps, keepMap-keeps, resolves-keep}
+use Rattle.laws.specs.Theorems.{byte_keeps, int_keeps, add_object_keeps, keep_map_keeps, resolves_keep}
 use Rattle.laws.specs.Addresses.{Ascending}
-use Rattle.laws.specs.Numbered.{Numbered, keepMap-numbered, resolves-numbered}
+use Rattle.laws.specs.Numbered.{Numbered, keep_map-numbered, resolves-numbered}
 use Rattle.readers.specs.declared.state.State.{State}
 use Rattle.readers.specs.declared.state.Went.{Went as Answer}
 use Rattle.readers.specs.declared.state.Went.TheVariants.{On}
@@ -36,11 +36,11 @@ use Rattle.objects.specs.Index.{Indexed, WentLinked}
 use Rattle.objects.specs.Map.{after_map}
 use Rattle.objects.proofs.ItemLaws.{slot_added}
 use Rattle.objects.proofs.MapSteps.{map_no, map_got, object_no, object_got}
-use Rattle.objects.proofs.WaiterLaws.{indexed-plain}
+use Rattle.objects.proofs.WaiterLaws.{indexed_plain}
 use Rattle.walker.specs.Ready.{Index, Ready, mapped, headed, filled_from}
-use Rattle.walker.proofs.SameLaws.{Same, Leaves, same_choose, next-leaves, same_got}
+use Rattle.walker.proofs.SameLaws.{Same, Leaves, same_choose, next_leaves, same_got}
 use Rattle.walker.proofs.GroundLaws.{Ground, ground_of, ground_ascends, keep_map_ground, resolves_ground}
-use Rattle.walker.proofs.ReadyLaws.{one_less, Went, went, Free, ready_after, ref_went, map-went, keepMap-went}
+use Rattle.walker.proofs.ReadyLaws.{one_less, Went, went, Free, ready_after, ref_went, map_went, keep_map_went}
 
 -- ---- what follows a map leaves the slots
 
@@ -62,7 +62,7 @@ module _ (x : Input) where
   unfolding chunk_changes
   chunks_leave space zero m = refl
   chunks_leave space (suc n) m =
-      same_choose slots_of (is_next_chunk x.sheet (peek x m) && eqb (peek_at x.payload (m.at + 1)) space) _ _ m (λ _. next-leaves slots_of (change (λ m. change_chunk x space (moved (m.at + 2) m))) (chunk_changes x space n) (λ m. refl) (chunks_leave space n) m) refl
+      same_choose slots_of (is_next_chunk x.sheet (peek x m) && eqb (peek_at x.payload (m.at + 1)) space) _ _ m (λ _. next_leaves slots_of (change (λ m. change_chunk x space (moved (m.at + 2) m))) (chunk_changes x space n) (λ m. refl) (chunks_leave space n) m) refl
 
   module _ (before space bytes o : ℕ) where
     abbrev aligns : Reader (Unit {0})
@@ -71,17 +71,17 @@ module _ (x : Input) where
     abbrev chunks : Reader (Unit {0})
     chunks m = chunk_changes x space (length x.payload - m.at) m
 
-    aligns-leave : Leaves slots_of aligns
-    aligns-leave = next-leaves slots_of (change (aligned before)) (alignment_byte x) (λ m. refl) (λ m. same_choose slots_of (eqb (alignment_of x.sheet (peek x m)) 0) _ _ m (λ _. refl) refl)
+    aligns_leave : Leaves slots_of aligns
+    aligns_leave = next_leaves slots_of (change (aligned before)) (alignment_byte x) (λ m. refl) (λ m. same_choose slots_of (eqb (alignment_of x.sheet (peek x m)) 0) _ _ m (λ _. refl) refl)
 
-    followed-leaves : (m : Mem) (first legacy : Bool) → Same slots_of m (choose first (aligns >> chunks >> allocate x space bytes o) (choose legacy (allocate x space bytes o) (give tt)) m)
-    followed-leaves m true legacy =
-        next-leaves slots_of (aligns >> chunks) (allocate x space bytes o) (next-leaves slots_of aligns chunks aligns-leave (λ m. chunks_leave space (length x.payload - m.at) m)) (allocate_leaves space bytes o) m
-    followed-leaves m false true = allocate_leaves space bytes o m
-    followed-leaves m false false = refl
+    followed_leaves : (m : Mem) (first legacy : Bool) → Same slots_of m (choose first (aligns >> chunks >> allocate x space bytes o) (choose legacy (allocate x space bytes o) (give tt)) m)
+    followed_leaves m true legacy =
+        next_leaves slots_of (aligns >> chunks) (allocate x space bytes o) (next_leaves slots_of aligns chunks aligns_leave (λ m. chunks_leave space (length x.payload - m.at) m)) (allocate_leaves space bytes o) m
+    followed_leaves m false true = allocate_leaves space bytes o m
+    followed_leaves m false false = refl
 
-    after-still : (m : Mem) {m' : Mem} → got tt m' ≡ after_map x before space bytes o m → m'.slots ≡ m.slots
-    after-still m e = same_got slots_of {m = m} e (followed-leaves m (is_map_first x.sheet) (is_legacy x.sheet))
+    after_still : (m : Mem) {m' : Mem} → got tt m' ≡ after_map x before space bytes o m → m'.slots ≡ m.slots
+    after_still m e = same_got slots_of {m = m} e (followed_leaves m (is_map_first x.sheet) (is_legacy x.sheet))
 
 -- ---- the map
 
@@ -96,7 +96,7 @@ module _ (x : Input) (o : ℕ) (v : SlotValue) (m : Mem) {m' : Mem} (sc : List �
       let d = slot_added o 0 (fields_of v) 0 in_map m₁ e in
       let i₁ : Indexed m₁.slots.rows m₁.slots.count sc = rw s i in
       let z : m'.slots ≡ m₂.slots = ap table_of f in
-      rw (z, d.rows_are, d.count_is) (indexed-plain m₁.slots.rows m₁.slots.count o 0 (fields_of v) 0 d.roomy refl sc i₁)
+      rw (z, d.rows_are, d.count_is) (indexed_plain m₁.slots.rows m₁.slots.count o 0 (fields_of v) 0 d.roomy refl sc i₁)
   slot_indexed m₁ s (no n q m₂) e f = absurd (let z : ◌≡◌ {A = ℕ} 0 1 = cc in omega arith)
 
   flag_indexed : (t : Bool) → got tt m' ≡ (choose t (change (λ m. with_objects (flagged o m.objects) m)) (give tt) >> add_slot o 0 (fields_of v) 0 in_map >>= (λ k. tell (item o 0 (word x) k))) m → Indexed m'.slots.rows m'.slots.count sc
@@ -126,43 +126,43 @@ module _ {x : Input} {h sc : List ℕ} {m : Mem} (g : Ready x h m sc) (d space b
   mapped_no e = then_no _ (then_no (keep_map x o) (sym (map_no x (ref_at x (64 - d)) space bytes o m (sym (rw (one_less d) at e)))))
 
   module _ {v : SlotValue} {m₁ : Mem} (e : got v m₁ ≡ ref_at x (65 - (d + 1)) m) where
-    pub after-asks : (sc₁ : List ℕ) → Index (length x.payload) m₁.slots m₁.addresses sc₁ → space < 256 → bytes < 2 ^ 33
+    pub after_asks : (sc₁ : List ℕ) → Index (length x.payload) m₁.slots m₁.addresses sc₁ → space < 256 → bytes < 2 ^ 33
         → ((usable x.sheet ≡ true) × (space < 256) × (bytes < 2 ^ 33) × (m₁.at ≤ length x.payload) × (length x.payload ≤ 16777216)) × ((get_or m₁.alloc.cur space 0 ≤ m₁.at) × Linked m₁.addresses.rows m₁.addresses.count (drop (length x.payload) sc₁))
-    after-asks sc₁ i l b = let w = ref_went g (65 - (d + 1)) e in ((g.proper.sheet_usable, l, b, w.kept.sound.within, g.proper.short), (w.kept.counted.chunk_low space, i.linked))
+    after_asks sc₁ i l b = let w = ref_went g (65 - (d + 1)) e in ((g.proper.sheet_usable, l, b, w.kept.sound.within, g.proper.short), (w.kept.counted.chunk_low space, i.linked))
 
-    followed-by : {out : Out SlotValue} → out ≡ (after_map x m.alignment space bytes o >> give v) m₁ → out ≡ read_map x (ref_at x (64 - d)) space bytes o m
-    followed-by f = f ∙ sym (map_got x (ref_at x (64 - d)) space bytes o m v (sym (rw (one_less d) at e)))
+    followed_by : {out : Out SlotValue} → out ≡ (after_map x m.alignment space bytes o >> give v) m₁ → out ≡ read_map x (ref_at x (64 - d)) space bytes o m
+    followed_by f = f ∙ sym (map_got x (ref_at x (64 - d)) space bytes o m v (sym (rw (one_less d) at e)))
 
-    pub mapped-bad : {n q : ℕ} {m₂ : Mem} → no n q m₂ ≡ after_map x m.alignment space bytes o m₁ → no n q m₂ ≡ mapped x (ref_at x (64 - d)) space bytes o m
-    mapped-bad f = then_no _ (then_no (keep_map x o) (followed-by (then_no (λ _. give v) f)))
+    pub mapped_bad : {n q : ℕ} {m₂ : Mem} → no n q m₂ ≡ after_map x m.alignment space bytes o m₁ → no n q m₂ ≡ mapped x (ref_at x (64 - d)) space bytes o m
+    mapped_bad f = then_no _ (then_no (keep_map x o) (followed_by (then_no (λ _. give v) f)))
 
     module _ {m₂ : Mem} (f : got tt m₂ ≡ after_map x m.alignment space bytes o m₁) where
       map_read : got v m₂ ≡ read_map x (ref_at x (64 - d)) space bytes o m
-      map_read = followed-by (then_got (λ _. give v) f refl)
+      map_read = followed_by (then_got (λ _. give v) f refl)
 
-      pub mapped-full : {n q : ℕ} {m₃ : Mem} → no n q m₃ ≡ keep_map x o v m₂ → no n q m₃ ≡ mapped x (ref_at x (64 - d)) space bytes o m
-      mapped-full k = then_no _ (then_got (keep_map x o) map_read k)
+      pub mapped_full : {n q : ℕ} {m₃ : Mem} → no n q m₃ ≡ keep_map x o v m₂ → no n q m₃ ≡ mapped x (ref_at x (64 - d)) space bytes o m
+      mapped_full k = then_no _ (then_got (keep_map x o) map_read k)
 
-      pub mapped-on : {m₃ : Mem} {out : Out (Unit {0})} → got tt m₃ ≡ keep_map x o v m₂ → out ≡ resolves x o (length x.payload - m₃.at) m₃ → out ≡ mapped x (ref_at x (64 - d)) space bytes o m
-      mapped-on k r = then_got _ (then_got (keep_map x o) map_read k) r
+      pub mapped_on : {m₃ : Mem} {out : Out (Unit {0})} → got tt m₃ ≡ keep_map x o v m₂ → out ≡ resolves x o (length x.payload - m₃.at) m₃ → out ≡ mapped x (ref_at x (64 - d)) space bytes o m
+      mapped_on k r = then_got _ (then_got (keep_map x o) map_read k) r
 
       module _ (b : o < m.objects.count) (l : space < 256) (u : bytes % word x ≡ 0) where
         map_kept_lem : Went x m (Referred x m) Free v m₂
-        map_kept_lem = map-went g o b (64 - d) space bytes l u map_read
+        map_kept_lem = map_went g o b (64 - d) space bytes l u map_read
 
-        pub keep-asks : length m.slots.rows < 2 ^ 61 → (o < room 4 m₂.objects.rows) × (field 4 m₂.objects.rows o 3 < 2 ^ 62) × (m₂.waiting < 2 ^ 63)
-        keep-asks few =
+        pub keep_asks : length m.slots.rows < 2 ^ 61 → (o < room 4 m₂.objects.rows) × (field 4 m₂.objects.rows o 3 < 2 ^ 62) × (m₂.waiting < 2 ^ 63)
+        keep_asks few =
             let w = map_kept_lem in let s = w.kept.sound in let u = w.kept.onward in let c = w.kept.counted.count_low o in
             (omega (arith, s.objects_fit, u.objects_up), omega (arith, s.slots_fit, u.slots_size, c), omega (arith, s.slots_fit, s.waiting_low, u.slots_size))
 
         -- what holds before the resolves
-        pub kept-ready : (sc₁ sc₂ : List ℕ) → Index (length x.payload) m₁.slots m₁.addresses sc₁ → take (length x.payload) sc₂ ≡ take (length x.payload) sc₁
+        pub kept_ready : (sc₁ sc₂ : List ℕ) → Index (length x.payload) m₁.slots m₁.addresses sc₁ → take (length x.payload) sc₂ ≡ take (length x.payload) sc₁
             → Linked m₂.addresses.rows m₂.addresses.count (drop (length x.payload) sc₂) → {m₃ : Mem} → got tt m₃ ≡ keep_map x o v m₂ → Ready x h m₃ sc₂
-        kept-ready sc₁ sc₂ i same k₂ k =
+        kept_ready sc₁ sc₂ i same k₂ k =
             let w = map_kept_lem in
-            let i₂ : Indexed m₂.slots.rows m₂.slots.count (take (length x.payload) sc₂) = rw (same, after-still x m.alignment space bytes o m₁ f) i.pending in
+            let i₂ : Indexed m₂.slots.rows m₂.slots.count (take (length x.payload) sc₂) = rw (same, after_still x m.alignment space bytes o m₁ f) i.pending in
             let g₂ : Ready x h m₂ sc₂ = ready_after g w.kept w.numbered w.ascending (record { pending = i₂; linked = k₂ }) in
-            let w₃ = keepMap-went g₂ o (omega (arith, b, w.kept.onward.objects_up)) v w.fresh k in
+            let w₃ = keep_map_went g₂ o (omega (arith, b, w.kept.onward.objects_up)) v w.fresh k in
             let z = same_got ground_of {m = m₂} k (keep_map_ground x o v m₂) in
             ready_after g₂ w₃.kept w₃.numbered w₃.ascending
             (record { pending = map_indexed x o v m₂ (take (length x.payload) sc₂) i₂ k; linked = subst (λ (g : Ground). Linked g.addresses.rows g.addresses.count (drop (length x.payload) sc₂)) (sym z) k₂ })
@@ -204,29 +204,29 @@ module _ (x : Input) where
   passes_then m n k (no r q m') f h g = h
 
   module _ (p : Proper x) where
-    int-passes : (m : Mem) → Sound x m → Counted m → Passes m 0 (int x m)
-    int-passes m s c = passes_by m 0 (int x m) (int_keeps p m s c) (λ v m' k h. (ap rest_of h.only, omega (arith, k.onward.objects_up)))
+    int_passes : (m : Mem) → Sound x m → Counted m → Passes m 0 (int x m)
+    int_passes m s c = passes_by m 0 (int x m) (int_keeps p m s c) (λ v m' k h. (ap rest_of h.only, omega (arith, k.onward.objects_up)))
 
-    byte-passes : (m : Mem) → Sound x m → Counted m → Passes m 0 (byte x m)
-    byte-passes m s c = passes_by m 0 (byte x m) (byte_keeps p m s c) (λ v m' k h. (ap rest_of h.only, omega (arith, k.onward.objects_up)))
+    byte_passes : (m : Mem) → Sound x m → Counted m → Passes m 0 (byte x m)
+    byte_passes m s c = passes_by m 0 (byte x m) (byte_keeps p m s c) (λ v m' k h. (ap rest_of h.only, omega (arith, k.onward.objects_up)))
 
-    large-passes : (m : Mem) → Sound x m → Counted m → (t : Bool) → Passes m 0 (choose t (byte x >> give (tt {0})) (give (tt {0})) m)
-    large-passes m s c true = passes_then m 0 0 (byte x m) (λ _. give (tt {0})) (byte-passes m s c) (λ _ m' s c. passes_here m' (tt {0}) s c)
-    large-passes m s c false = passes_here m (tt {0}) s c
+    large_passes : (m : Mem) → Sound x m → Counted m → (t : Bool) → Passes m 0 (choose t (byte x >> give (tt {0})) (give (tt {0})) m)
+    large_passes m s c true = passes_then m 0 0 (byte x m) (λ _. give (tt {0})) (byte_passes m s c) (λ _ m' s c. passes_here m' (tt {0}) s c)
+    large_passes m s c false = passes_here m (tt {0}) s c
 
-    object-leaves : (tag words : ℕ) → Leaves rest_of (add_object x tag words)
+    object_leaves : (tag words : ℕ) → Leaves rest_of (add_object x tag words)
     unfolding add_object
-    object-leaves tag words m = same_choose rest_of (has_room 4 m.objects) _ _ m (λ _. refl) refl
+    object_leaves tag words m = same_choose rest_of (has_room 4 m.objects) _ _ m (λ _. refl) refl
 
-    object-passes : (m : Mem) (o : Out ℕ) → Holds x m (Appended (λ m. m.objects) m) o → Same rest_of m o → Passes m 1 o
-    object-passes m (got k m') h s = (h.0, (s, omega (arith, h.1.one.more)))
-    object-passes m (no n q m') h s = h
+    object_passes : (m : Mem) (o : Out ℕ) → Holds x m (Appended (λ m. m.objects) m) o → Same rest_of m o → Passes m 1 o
+    object_passes m (got k m') h s = (h.0, (s, omega (arith, h.1.one.more)))
+    object_passes m (no n q m') h s = h
 
-    opening-passes : (space tag : ℕ) (m : Mem) → Sound x m → Counted m → Passes m 1 (opening x space tag m)
-    opening-passes space tag m s c =
-        passes_then m 0 1 (int x m) (λ words. large_byte x space >> recording x tag words) (int-passes m s c)
-        (λ words m₁ s c. passes_then m₁ 0 1 (large_byte x space m₁) (λ _. recording x tag words) (large-passes m₁ s c (is_six_x x.sheet && eqb space (lo_space x.sheet)))
-        (λ _ m₂ s c. passes_then m₂ 1 0 (add_object x tag words m₂) (λ _. give words) (object-passes m₂ (add_object x tag words m₂) (add_object_keeps p tag words m₂ s c) (object-leaves tag words m₂))
+    opening_passes : (space tag : ℕ) (m : Mem) → Sound x m → Counted m → Passes m 1 (opening x space tag m)
+    opening_passes space tag m s c =
+        passes_then m 0 1 (int x m) (λ words. large_byte x space >> recording x tag words) (int_passes m s c)
+        (λ words m₁ s c. passes_then m₁ 0 1 (large_byte x space m₁) (λ _. recording x tag words) (large_passes m₁ s c (is_six_x x.sheet && eqb space (lo_space x.sheet)))
+        (λ _ m₂ s c. passes_then m₂ 1 0 (add_object x tag words m₂) (λ _. give words) (object_passes m₂ (add_object x tag words m₂) (add_object_keeps p tag words m₂ s c) (object_leaves tag words m₂))
         (λ _ m₃ s c. passes_here m₃ words s c)))
 
 -- a reading that two readers make one after the other
@@ -244,26 +244,26 @@ module _ {x : Input} {h sc : List ℕ} {m : Mem} (g : Ready x h m sc) where
   -- what holds after an object's head
   pub opened_ready : (space tag : ℕ) {words : ℕ} {m₁ : Mem} → got words m₁ ≡ opening x space tag m → (Ready x h m₁ sc) × (m.objects.count < m₁.objects.count) × (Onward m m₁)
   opened_ready space tag {words} {m₁} e =
-      let p : Passes x m 1 (got words m₁) = subst (Passes x m 1) (sym e) (opening-passes x g.proper space tag m g.sound g.counted) in
+      let p : Passes x m 1 (got words m₁) = subst (Passes x m 1) (sym e) (opening_passes x g.proper space tag m g.sound g.counted) in
       let s : rest_of m ≡ rest_of m₁ = sym p.1.0 in
       (ready_after g p.0 (subst (λ (r : Rest). Waits r.slots.rows r.slots.count r.pending r.waiting) s g.numbered) (subst (λ (r : Rest). Ascending x r.addresses r.alloc) s g.ascending) (subst (λ (r : Rest). Index (length x.payload) r.slots r.addresses sc) s g.index), omega (arith, p.1.1), p.0.onward)
 
   -- and after its map and its resolves
   module _ (k space bytes o : ℕ) (b : o < m.objects.count) (l : space < 256) (u : bytes % word x ≡ 0) where
-    mapped-kept : {m₃ : Mem} → got tt m₃ ≡ mapped x (ref_at x k) space bytes o m → (Kept x m m₃) × (Numbered m₃) × (Ascending x m₃.addresses m₃.alloc) × (0 < m₃.slots.count)
-    mapped-kept e =
+    mapped_kept : {m₃ : Mem} → got tt m₃ ≡ mapped x (ref_at x k) space bytes o m → (Kept x m m₃) × (Numbered m₃) × (Ascending x m₃.addresses m₃.alloc) × (0 < m₃.slots.count)
+    mapped_kept e =
         let t = through ((read_map x (ref_at x k) space bytes o >>= keep_map x o) m) (λ _ m. resolves x o (length x.payload - m.at) m) e in
         let n : ℕ = length x.payload - t.between.at in
         let r = through (read_map x (ref_at x k) space bytes o m) (keep_map x o) t.first in
-        let w = map-went g o b k space bytes l u r.first in
+        let w = map_went g o b k space bytes l u r.first in
         let b₁ : o < r.between.objects.count = omega (arith, b, w.kept.onward.objects_up) in
-        let w₁ = went (keepMap-keeps g.proper r.between w.kept.sound w.kept.counted o b₁ r.value) (keepMap-numbered g.proper r.between w.kept.sound w.kept.counted w.numbered o 0 0 b₁ r.value w.fresh) (ground_ascends x r.between w.ascending (keep_map x o r.value r.between) (keep_map_ground x o r.value r.between)) r.second in
+        let w₁ = went (keep_map_keeps g.proper r.between w.kept.sound w.kept.counted o b₁ r.value) (keep_map-numbered g.proper r.between w.kept.sound w.kept.counted w.numbered o 0 0 b₁ r.value w.fresh) (ground_ascends x r.between w.ascending (keep_map x o r.value r.between) (keep_map_ground x o r.value r.between)) r.second in
         let b₂ : o < t.between.objects.count = omega (arith, b₁, w₁.kept.onward.objects_up) in
-        let w₂ = went (resolves-keep g.proper t.between w₁.kept.sound w₁.kept.counted o b₂ _) (resolves-numbered g.proper t.between w₁.kept.sound w₁.kept.counted w₁.numbered o 0 0 b₂ _) (ground_ascends x t.between w₁.ascending (resolves x o n t.between) (resolves_ground x o n t.between)) t.second in
+        let w₂ = went (resolves_keep g.proper t.between w₁.kept.sound w₁.kept.counted o b₂ _) (resolves-numbered g.proper t.between w₁.kept.sound w₁.kept.counted w₁.numbered o 0 0 b₂ _) (ground_ascends x t.between w₁.ascending (resolves x o n t.between) (resolves_ground x o n t.between)) t.second in
         (kept_trans w.kept (kept_trans w₁.kept w₂.kept), w₂.numbered, w₂.ascending, omega (arith, w₁.more.more, w₂.kept.onward.slots_up))
 
-    pub mapped-ready : {m₃ : Mem} → got tt m₃ ≡ mapped x (ref_at x k) space bytes o m → {sc₃ : List ℕ} → Index (length x.payload) m₃.slots m₃.addresses sc₃ → (Ready x h m₃ sc₃) × (o < m₃.objects.count) × (0 < m₃.slots.count) × (Onward m m₃)
-    mapped-ready e i = let w = mapped-kept e in (ready_after g w.0 w.1 w.2 i, omega (arith, b, w.0.onward.objects_up), w.3, w.0.onward)
+    pub mapped_ready : {m₃ : Mem} → got tt m₃ ≡ mapped x (ref_at x k) space bytes o m → {sc₃ : List ℕ} → Index (length x.payload) m₃.slots m₃.addresses sc₃ → (Ready x h m₃ sc₃) × (o < m₃.objects.count) × (0 < m₃.slots.count) × (Onward m m₃)
+    mapped_ready e i = let w = mapped_kept e in (ready_after g w.0 w.1 w.2 i, omega (arith, b, w.0.onward.objects_up), w.3, w.0.onward)
 
 -- ---- the head with the map, as one reading
 
@@ -275,11 +275,11 @@ module _ (x : Input) (r : Reader SlotValue) (space tag : ℕ) (m : Mem) where
     after-head : {out : Out ℕ} → out ≡ (mapped x r space (words * word x) m.objects.count >> give (words * word x)) m₁ → out ≡ headed x r space tag m
     after-head h = then_got (λ words. mapped x r space (words * word x) m.objects.count >> give (words * word x)) e h
 
-    pub headed-bad : {n q : ℕ} {m₂ : Mem} → no n q m₂ ≡ mapped x r space bytes m.objects.count m₁ → no n q m₂ ≡ headed x r space tag m
-    headed-bad f = after-head (then_no (λ _. give (words * word x)) (rw b at f))
+    pub headed_bad : {n q : ℕ} {m₂ : Mem} → no n q m₂ ≡ mapped x r space bytes m.objects.count m₁ → no n q m₂ ≡ headed x r space tag m
+    headed_bad f = after-head (then_no (λ _. give (words * word x)) (rw b at f))
 
-    pub headed-on : {m₂ : Mem} → got tt m₂ ≡ mapped x r space bytes m.objects.count m₁ → got bytes m₂ ≡ headed x r space tag m
-    headed-on f = after-head (then_got (λ _. give (words * word x)) (rw b at f) (rw b))
+    pub headed_on : {m₂ : Mem} → got tt m₂ ≡ mapped x r space bytes m.objects.count m₁ → got bytes m₂ ≡ headed x r space tag m
+    headed_on f = after-head (then_got (λ _. give (words * word x)) (rw b at f) (rw b))
 
 abbrev mem_of : Out ℕ → Mem
 mem_of (got n m) = m
@@ -294,7 +294,7 @@ headed_ready {x} {m = m} g k space tag l {m₂ = m₂} e i =
     let z : m₂ ≡ u.between = ap mem_of u.second in
     let f : got tt m₂ ≡ mapped x (ref_at x k) space bytes m.objects.count t.between = subst (λ (m₃ : Mem). got tt m₃ ≡ mapped x (ref_at x k) space bytes m.objects.count t.between) (sym z) u.first in
     let r = opened_ready g space tag t.first in
-    let q = mapped-ready r.0 k space bytes m.objects.count r.1 l (bytes_whole t.value refl) f i in
+    let q = mapped_ready r.0 k space bytes m.objects.count r.1 l (bytes_whole t.value refl) f i in
     (q.0, q.1, q.2, omega (arith, r.2, q.3))
 
 -- ---- the object, from its head and its map
@@ -310,19 +310,19 @@ module _ (x : Input) (r : Reader SlotValue) (space tag : ℕ) (m : Mem) where
     goes_on : {out : Out SlotValue} → out ≡ body x r space tag words o m₁ → out ≡ object x r space tag m
     goes_on h = h ∙ sym (object_got x r space tag m (sym e))
 
-    object-bad : {n q : ℕ} {m₂ : Mem} → no n q m₂ ≡ mapped x r space bytes o m₁ → no n q m₂ ≡ object x r space tag m
+    object_bad : {n q : ℕ} {m₂ : Mem} → no n q m₂ ≡ mapped x r space bytes o m₁ → no n q m₂ ≡ object x r space tag m
     unfolding body
-    object-bad f = goes_on (then_no (closed o tag (words * word x)) (then_no _ (rw b at f)))
+    object_bad f = goes_on (then_no (closed o tag (words * word x)) (then_no _ (rw b at f)))
 
-    object-on : {m₂ : Mem} {out : Out SlotValue} → got tt m₂ ≡ mapped x r space bytes o m₁ → out ≡ filled_from x r o tag bytes m₂ → out ≡ object x r space tag m
+    object_on : {m₂ : Mem} {out : Out SlotValue} → got tt m₂ ≡ mapped x r space bytes o m₁ → out ≡ filled_from x r o tag bytes m₂ → out ≡ object x r space tag m
     unfolding body
-    object-on f h = goes_on (rw (← (rw b at f)) (rw b at h))
+    object_on f h = goes_on (rw (← (rw b at f)) (rw b at h))
 
   -- the same from the head with the map
   module _ {words : ℕ} {m₁ : Mem} (e : got words m₁ ≡ opening x space tag m) where
     mapped-object : (out : Out (Unit {0})) → out ≡ mapped x r space (words * word x) m.objects.count m₁ → and_then (and_then out (λ _. give (words * word x))) (λ n. filled_from x r m.objects.count tag n) ≡ object x r space tag m
-    mapped-object (got tt m₂) f = object-on e refl f refl
-    mapped-object (no n q m₂) f = object-bad e refl f
+    mapped-object (got tt m₂) f = object_on e refl f refl
+    mapped-object (no n q m₂) f = object_bad e refl f
 
   headed_object : (out : Out ℕ) → out ≡ opening x space tag m → and_then (and_then out (λ words. mapped x r space (words * word x) m.objects.count >> give (words * word x))) (λ n. filled_from x r m.objects.count tag n) ≡ object x r space tag m
   headed_object (got words m₁) e = mapped-object e (mapped x r space (words * word x) m.objects.count m₁) refl

@@ -30,7 +30,7 @@ use Rattle.opened_leaves.specs.declared.opening.Opened.{Opened}
 use Rattle.opened_leaves.specs.Opening.{MapAt, Opens, Addressed, Unopened}
 use Rattle.walker.specs.Ready.{Index, Ready, mapped, headed}
 use Rattle.walker.proofs.LeafLaws.{plain_index, stands, read}
-use Rattle.walker.proofs.ObjectLaws.{bytes_whole, kept-ready, opened_ready, mapped-on, headed-bad, headed-on}
+use Rattle.walker.proofs.ObjectLaws.{bytes_whole, kept_ready, opened_ready, mapped_on, headed_bad, headed_on}
 
 -- the code's test of the byte at the cursor
 pub resolve_not : (v p : List ℕ) (at : ℕ) {b : ℕ} {t : Bool} → b ≡ peek_at p at → t ≡ eqb (number v k_resolve_pending_forward_ref) b → t ≡ false → is_resolve v (peek_at p at) ≡ false
@@ -96,8 +96,8 @@ module _ (v p : List ℕ) (sp : ℕ) (tr h sc : List ℕ) (s : State) (l : Lent)
   map_found : FoundIn v p l₁.addresses l₁.hot s₁.objects s₁.addresses s₁.alignment (word_bytes v) (s₁.at + 1) (get_or h (get_or p s₁.at 0) 0) (get_or h (256 + get_or p s₁.at 0) 0) r.map
   map_found = found_in v p l₁.addresses l₁.hot s₁.objects s₁.addresses s₁.alignment (word_bytes v) (s₁.at + 1) _ _ r.map a.found
 
-  abbrev map-value : SlotValue
-  map-value = (stands v p sp tr h sc s₁ l₁ g₁ d low r.map some (λ _. a.there) (word_bytes v) refl map_found).value
+  abbrev map_value : SlotValue
+  map_value = (stands v p sp tr h sc s₁ l₁ g₁ d low r.map some (λ _. a.there) (word_bytes v) refl map_found).value
 
   abbrev s₂ : State
   s₂ = after r.map s₁
@@ -105,7 +105,7 @@ module _ (v p : List ℕ) (sp : ℕ) (tr h sc : List ℕ) (s : State) (l : Lent)
   abbrev l₂ : Lent
   l₂ = hot_is (ring r.map l.hot) l₁
 
-  map_read : got map-value (mem s₂ l₂) ≡ ref_at x (65 - (d + 1)) (mem s₁ l₁)
+  map_read : got map_value (mem s₂ l₂) ≡ ref_at x (65 - (d + 1)) (mem s₁ l₁)
   map_read = read v p sp tr h sc s₁ l₁ g₁ d low r.map some (λ _. a.there) (word_bytes v) refl map_found
 
   -- its address, in a legacy sheet
@@ -125,31 +125,31 @@ module _ (v p : List ℕ) (sp : ℕ) (tr h sc : List ℕ) (s : State) (l : Lent)
   abbrev l₄ : Lent
   l₄ = objects_is ot (slots_is st (addresses_is dt (hot_is hot (counters_is l.cur used l))))
 
-  slot_kept : got tt (mem (opened_state r s) l₄) ≡ keep_map x s.objects map-value (mem s₃ l₃)
+  slot_kept : got tt (mem (opened_state r s) l₄) ≡ keep_map x s.objects map_value (mem s₃ l₃)
   slot_kept =
       let q = stands v p sp tr h sc s₁ l₁ g₁ d low r.map some (λ _. a.there) (word_bytes v) refl map_found in
-      let f : flags x map-value ≡ false = rw (← q.valued) (a.unflagged v p sp) in
-      let es : st ≡ written l.slots s.slots (slot_row s.objects 0 (fields_of map-value) 0) = rw (← q.fields) k.slot in
-      subst (λ (hot : List ℕ). got tt (mem (opened_state r s) (objects_is ot (slots_is st (addresses_is dt (hot_is hot (counters_is l.cur used l)))))) ≡ keep_map x s.objects map-value (mem s₃ l₃)) (sym k.rings) (map_kept_lem x s.objects map-value s₃ l₃ f k.slot_room k.object es)
+      let f : flags x map_value ≡ false = rw (← q.valued) (a.unflagged v p sp) in
+      let es : st ≡ written l.slots s.slots (slot_row s.objects 0 (fields_of map_value) 0) = rw (← q.fields) k.slot in
+      subst (λ (hot : List ℕ). got tt (mem (opened_state r s) (objects_is ot (slots_is st (addresses_is dt (hot_is hot (counters_is l.cur used l)))))) ≡ keep_map x s.objects map_value (mem s₃ l₃)) (sym k.rings) (map_kept_lem x s.objects map_value s₃ l₃ f k.slot_room k.object es)
 
   mapped_by : {out : Out (Unit {0})} → out ≡ resolves x s.objects (length p - r.map.next) (mem (opened_state r s) l₄) → out ≡ mapped x (ref_at x (64 - d)) space bytes s.objects (mem s₁ l₁)
-  mapped_by f = mapped-on g₁ d space bytes s.objects map_read (by_sheet (is_legacy v) refl) slot_kept f
+  mapped_by f = mapped_on g₁ d space bytes s.objects map_read (by_sheet (is_legacy v) refl) slot_kept f
 
   -- with the resolves that follow it, or none
   module _ {n w : ℕ} (ew : w ≡ word_bytes v) (e : n ≡ r.words * w) where
     pub resolved-headed : {m₃ : Mem} → got tt m₃ ≡ resolves x s.objects (length p - r.map.next) (mem (opened_state r s) l₄) → got n m₃ ≡ headed x (ref_at x (64 - d)) space tag (mem s l)
-    resolved-headed f = let z = headed-on x (ref_at x (64 - d)) space tag (mem s l) is_opened refl (mapped_by f) in rw (e, ew) z
+    resolved-headed f = let z = headed_on x (ref_at x (64 - d)) space tag (mem s l) is_opened refl (mapped_by f) in rw (e, ew) z
 
-    pub unresolved-headed : {k q : ℕ} {m₃ : Mem} → no k q m₃ ≡ resolves x s.objects (length p - r.map.next) (mem (opened_state r s) l₄) → no k q m₃ ≡ headed x (ref_at x (64 - d)) space tag (mem s l)
-    unresolved-headed f = headed-bad x (ref_at x (64 - d)) space tag (mem s l) is_opened refl (mapped_by f)
+    pub unresolved_headed : {k q : ℕ} {m₃ : Mem} → no k q m₃ ≡ resolves x s.objects (length p - r.map.next) (mem (opened_state r s) l₄) → no k q m₃ ≡ headed x (ref_at x (64 - d)) space tag (mem s l)
+    unresolved_headed f = headed_bad x (ref_at x (64 - d)) space tag (mem s l) is_opened refl (mapped_by f)
 
-    pub leaf-headed : is_resolve v (peek_at p r.map.next) ≡ false → got n (mem (opened_state r s) l₄) ≡ headed x (ref_at x (64 - d)) space tag (mem s l)
-    leaf-headed f = resolved-headed (resolves-none x s.objects (length p - r.map.next) (mem (opened_state r s) l₄) f)
+    pub leaf_headed : is_resolve v (peek_at p r.map.next) ≡ false → got n (mem (opened_state r s) l₄) ≡ headed x (ref_at x (64 - d)) space tag (mem s l)
+    leaf_headed f = resolved-headed (resolves-none x s.objects (length p - r.map.next) (mem (opened_state r s) l₄) f)
 
   -- what holds before the resolves
   pub leaf_ready : space < 256 → Ready x h (mem (opened_state r s) l₄) sc'
   leaf_ready low₁ =
-      kept-ready g₁ d space bytes s.objects map_read (by_sheet (is_legacy v) refl) (omega arith) low₁ (bytes_whole r.words refl) sc sc' (record { pending = g.index.pending; linked = g.index.linked }) y.front y.linked slot_kept
+      kept_ready g₁ d space bytes s.objects map_read (by_sheet (is_legacy v) refl) (omega arith) low₁ (bytes_whole r.words refl) sc sc' (record { pending = g.index.pending; linked = g.index.linked }) y.front y.linked slot_kept
 
   pub opened_index : Index (length p) (table st (s.slots + 1)) (table dt r.records) sc'
   opened_index =

@@ -11,9 +11,9 @@ use Rattle.definition.specs.Object.{read_map, keep_map, object}
 use Rattle.definition.specs.Reference.{ref_at}
 use Rattle.laws.specs.Sound.{Kept, Holds, Referred}
 use Rattle.laws.specs.Keeps.{More}
-use Rattle.laws.specs.Theorems.{ref_keeps, object-keeps, map_keeps, keepMap-keeps}
-use Rattle.laws.specs.Numbered.{Numbered, FreshValue, Ordered, ref-numbered, object-numbered, map-numbered, keepMap-numbered}
-use Rattle.laws.specs.Addresses.{Ascending, StaysAscending, ref-ascending, object-ascending, map-ascending}
+use Rattle.laws.specs.Theorems.{ref_keeps, object_keeps, map_keeps, keep_map_keeps}
+use Rattle.laws.specs.Numbered.{Numbered, FreshValue, Ordered, ref_numbered, object-numbered, map_numbered, keep_map-numbered}
+use Rattle.laws.specs.Addresses.{Ascending, StaysAscending, ref_ascending, object_ascending, map_ascending}
 use Rattle.walker.specs.Ready.{Index, OutIndex, Ready}
 use Rattle.walker.proofs.GroundLaws.{ground_ascends, keep_map_ground}
 
@@ -65,18 +65,18 @@ module _ {x : Input} {h sc : List ℕ} {m : Mem} (g : Ready x h m sc) where
   -- ---- what each reader keeps
 
   pub ref_went : (k : ℕ) {v : SlotValue} {m' : Mem} → got v m' ≡ ref_at x k m → Went x m (Referred x m) Free v m'
-  ref_went k e = went (ref_keeps g.proper k m g.sound g.counted) (ref-numbered g.proper m g.sound g.counted g.numbered k) (ref-ascending g.proper m g.sound g.counted g.ascending k) e
+  ref_went k e = went (ref_keeps g.proper k m g.sound g.counted) (ref_numbered g.proper m g.sound g.counted g.numbered k) (ref_ascending g.proper m g.sound g.counted g.ascending k) e
 
   pub object_went : (k space tag : ℕ) → space < 256 → {v : SlotValue} {m' : Mem} → got v m' ≡ object x (ref_at x k) space tag m → Went x m (Referred x m) Free v m'
   object_went k space tag l e =
-      went (object-keeps g.proper (ref_at x k) (ref_keeps g.proper k) space tag l m g.sound g.counted) (object-numbered g.proper m g.sound g.counted g.numbered k space tag l) (object-ascending g.proper m g.sound g.counted g.ascending k space tag l) e
+      went (object_keeps g.proper (ref_at x k) (ref_keeps g.proper k) space tag l m g.sound g.counted) (object-numbered g.proper m g.sound g.counted g.numbered k space tag l) (object_ascending g.proper m g.sound g.counted g.ascending k space tag l) e
 
   -- of an object o that has a record
   module _ (o : ℕ) (b : o < m.objects.count) where
-    pub map-went : (k space bytes : ℕ) → space < 256 → bytes % word x ≡ 0 → {v : SlotValue} {m' : Mem} → got v m' ≡ read_map x (ref_at x k) space bytes o m → Went x m (Referred x m) Free v m'
-    map-went k space bytes l w e =
-        went (map_keeps g.proper m g.sound g.counted o b (ref_at x k) (ref_keeps g.proper k) space bytes l) (map-numbered g.proper m g.sound g.counted g.numbered o 0 0 b k space bytes l) (map-ascending g.proper m g.sound g.counted g.ascending o bytes k space b w l) e
+    pub map_went : (k space bytes : ℕ) → space < 256 → bytes % word x ≡ 0 → {v : SlotValue} {m' : Mem} → got v m' ≡ read_map x (ref_at x k) space bytes o m → Went x m (Referred x m) Free v m'
+    map_went k space bytes l w e =
+        went (map_keeps g.proper m g.sound g.counted o b (ref_at x k) (ref_keeps g.proper k) space bytes l) (map_numbered g.proper m g.sound g.counted g.numbered o 0 0 b k space bytes l) (map_ascending g.proper m g.sound g.counted g.ascending o bytes k space b w l) e
 
-    pub keepMap-went : (v : SlotValue) → FreshValue m v → {u : Unit {0}} {m' : Mem} → got u m' ≡ keep_map x o v m → Went x m (λ _ m'. More (λ m. m.slots) m m') None u m'
-    keepMap-went v f e =
-        went (keepMap-keeps g.proper m g.sound g.counted o b v) (keepMap-numbered g.proper m g.sound g.counted g.numbered o 0 0 b v f) (ground_ascends x m g.ascending (keep_map x o v m) (keep_map_ground x o v m)) e
+    pub keep_map_went : (v : SlotValue) → FreshValue m v → {u : Unit {0}} {m' : Mem} → got u m' ≡ keep_map x o v m → Went x m (λ _ m'. More (λ m. m.slots) m m') None u m'
+    keep_map_went v f e =
+        went (keep_map_keeps g.proper m g.sound g.counted o b v) (keep_map-numbered g.proper m g.sound g.counted g.numbered o 0 0 b v f) (ground_ascends x m g.ascending (keep_map x o v m) (keep_map_ground x o v m)) e

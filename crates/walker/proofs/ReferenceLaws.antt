@@ -38,8 +38,8 @@ use Rattle.definition.specs.Object.{change_chunk, object}
 use Rattle.definition.specs.Reference.{skip_amount, backref_to, of_hot, hot_place, of_backref, legacy_reference, pending_reference, after_raw, raw_data, repeat_root, by_head, reference, ref_at}
 use Rattle.laws.specs.Sound.{Kept, Holds, Referred}
 use Rattle.laws.specs.Theorems.{ref_keeps}
-use Rattle.laws.specs.Numbered.{Numbered, Ordered, ref-numbered}
-use Rattle.laws.specs.Addresses.{StaysAscending, ascending_sorted, ref-ascending}
+use Rattle.laws.specs.Numbered.{Numbered, Ordered, ref_numbered}
+use Rattle.laws.specs.Addresses.{StaysAscending, ascending_sorted, ref_ascending}
 use Rattle.readers.specs.declared.state.State.{State}
 use Rattle.readers.specs.declared.state.Step.{Step}
 use Rattle.readers.specs.declared.state.Step.TheVariants.{Got, Refused as StepRefused}
@@ -51,7 +51,7 @@ use Rattle.readers.specs.Prefix.{held, Holdless, Begins, HeldSmall}
 use Rattle.readers.proofs.ViewLaws.{then_got, then_no}
 use Rattle.readers.proofs.HeadFacts.{head_fits, head_simple}
 use Rattle.walker.specs.Ready.{Index, OutIndex, Ready}
-use Rattle.walker.proofs.SameLaws.{Same, Leaves, same_choose, then-leaves, next-leaves, same_no}
+use Rattle.walker.proofs.SameLaws.{Same, Leaves, same_choose, then_leaves, next_leaves, same_no}
 use Rattle.walker.proofs.ReadyLaws.{one_less, Free, ready_after, moved_ready}
 
 -- ---- readers that leave the slots and the address records as they are
@@ -85,7 +85,7 @@ module _ (x : Input) where
   int_still m = int_of (int_at x.payload m.at) m
 
   amount_still : Still (skip_amount x)
-  amount_still = then-leaves records_of (int x) _ int_still (λ n m. refl)
+  amount_still = then_leaves records_of (int x) _ int_still (λ n m. refl)
 
   backref_of_lem : (b : Backref) → Still (of_backref x b)
   backref_of_lem (To r next) m = refl
@@ -125,11 +125,11 @@ value_still f m = same_choose records_of (has_room 3 m.values) _ _ m (λ _. refl
 
 pub held_still : (h : ℕ) (v : SlotValue) → Still (held h v)
 held_still zero v m = refl
-held_still (suc zero) v m = then-leaves records_of (add_value (fields_of v)) _ (value_still (fields_of v)) (λ k m. refl) m
-held_still (suc (suc n)) v m = then-leaves records_of (add_value (fields_of v)) _ (value_still (fields_of v)) (λ k m. refl) m
+held_still (suc zero) v m = then_leaves records_of (add_value (fields_of v)) _ (value_still (fields_of v)) (λ k m. refl) m
+held_still (suc (suc n)) v m = then_leaves records_of (add_value (fields_of v)) _ (value_still (fields_of v)) (λ k m. refl) m
 
 root_still : (x : Input) (n : ℕ) → Still (repeat_root x n)
-root_still x n = then-leaves records_of (byte x) _ (byte_still x) (λ i. held_still (suc (suc n)) (IsRef (Root i)))
+root_still x n = then_leaves records_of (byte x) _ (byte_still x) (λ i. held_still (suc (suc n)) (IsRef (Root i)))
 
 -- no levels left
 none_still : (x : Input) → Still (ref_at x 0)
@@ -143,41 +143,41 @@ module _ (x : Input) (r : Reader SlotValue) (s : Still r) (tag kind a : ℕ) (ot
   unfolding by_head
   by_head_still m =
       by new_object _ _ (λ e. absurd (other e))
-      (by backref _ _ (λ _. then-leaves records_of (int x) _ (int_still x) backref_to_still m)
+      (by backref _ _ (λ _. then_leaves records_of (int x) _ (int_still x) backref_to_still m)
       (by legacy_backref _ _ (λ _. legacy_still x a m)
-      (by legacy_backref_with_skip _ _ (λ _. next-leaves records_of (skip_amount x) _ (amount_still x) (legacy_still x a) m)
-      (by next_chunk _ _ (λ _. next-leaves records_of (byte x >>= (λ space. change (change_chunk x space))) r (then-leaves records_of (byte x) (λ space. change (change_chunk x space)) (byte_still x) (λ space m. refl)) s m)
-      (by alignment _ _ (λ _. next-leaves records_of (change (aligned a)) r (λ m. refl) s m)
+      (by legacy_backref_with_skip _ _ (λ _. next_leaves records_of (skip_amount x) _ (amount_still x) (legacy_still x a) m)
+      (by next_chunk _ _ (λ _. next_leaves records_of (byte x >>= (λ space. change (change_chunk x space))) r (then_leaves records_of (byte x) (λ space. change (change_chunk x space)) (byte_still x) (λ space m. refl)) s m)
+      (by alignment _ _ (λ _. next_leaves records_of (change (aligned a)) r (λ m. refl) s m)
       (by hot _ _ (λ _. hot_still a m)
-      (by hot_with_skip _ _ (λ _. next-leaves records_of (skip_amount x) _ (amount_still x) (hot_still a) m)
-      (by root_array _ _ (λ _. then-leaves records_of (int x) _ (int_still x) (λ i m. refl) m)
+      (by hot_with_skip _ _ (λ _. next_leaves records_of (skip_amount x) _ (amount_still x) (hot_still a) m)
+      (by root_array _ _ (λ _. then_leaves records_of (int x) _ (int_still x) (λ i m. refl) m)
       (by root_constant _ _ (λ _. refl)
-      (by root_constant_with_skip _ _ (λ _. next-leaves records_of (skip_amount x) _ (amount_still x) (λ m. refl) m)
-      (by read_only _ _ (λ _. then-leaves records_of (int x) _ (int_still x) (λ c. then-leaves records_of (int x) _ (int_still x) (λ o m. refl)) m)
-      (by attached _ _ (λ _. then-leaves records_of (int x) _ (int_still x) (λ i m. refl) m)
-      (by builtin _ _ (λ _. then-leaves records_of (int x) _ (int_still x) (λ i m. refl) m)
-      (by external _ _ (λ _. then-leaves records_of (int x) _ (int_still x) (λ i m. refl) m)
-      (by api _ _ (λ _. next-leaves records_of (skip_amount x) _ (amount_still x) (then-leaves records_of (int x) _ (int_still x) (λ i m. refl)) m)
-      (by internal _ _ (λ _. next-leaves records_of (int x >> int x) _ (next-leaves records_of (int x) (int x) (int_still x) (int_still x)) (λ m. refl) m)
-      (by deoptimizer _ _ (λ _. next-leaves records_of (int x) _ (int_still x) (λ m. refl) m)
-      (by stream_bytes _ _ (λ _. then-leaves records_of (int x) _ (int_still x) (λ n m. refl) m)
-      (by embedder_fields _ _ (λ _. then-leaves records_of (int x >> int x) _ (next-leaves records_of (int x) (int x) (int_still x) (int_still x)) (λ n m. refl) m)
-      (by off_heap_target _ _ (λ _. next-leaves records_of (skip_amount x >> int x) _ (next-leaves records_of (skip_amount x) (int x) (amount_still x) (int_still x)) (λ m. refl) m)
-      (by cache _ _ (λ _. then-leaves records_of (int x) _ (int_still x) (λ i m. refl) m)
+      (by root_constant_with_skip _ _ (λ _. next_leaves records_of (skip_amount x) _ (amount_still x) (λ m. refl) m)
+      (by read_only _ _ (λ _. then_leaves records_of (int x) _ (int_still x) (λ c. then_leaves records_of (int x) _ (int_still x) (λ o m. refl)) m)
+      (by attached _ _ (λ _. then_leaves records_of (int x) _ (int_still x) (λ i m. refl) m)
+      (by builtin _ _ (λ _. then_leaves records_of (int x) _ (int_still x) (λ i m. refl) m)
+      (by external _ _ (λ _. then_leaves records_of (int x) _ (int_still x) (λ i m. refl) m)
+      (by api _ _ (λ _. next_leaves records_of (skip_amount x) _ (amount_still x) (then_leaves records_of (int x) _ (int_still x) (λ i m. refl)) m)
+      (by internal _ _ (λ _. next_leaves records_of (int x >> int x) _ (next_leaves records_of (int x) (int x) (int_still x) (int_still x)) (λ m. refl) m)
+      (by deoptimizer _ _ (λ _. next_leaves records_of (int x) _ (int_still x) (λ m. refl) m)
+      (by stream_bytes _ _ (λ _. then_leaves records_of (int x) _ (int_still x) (λ n m. refl) m)
+      (by embedder_fields _ _ (λ _. then_leaves records_of (int x >> int x) _ (next_leaves records_of (int x) (int x) (int_still x) (int_still x)) (λ n m. refl) m)
+      (by off_heap_target _ _ (λ _. next_leaves records_of (skip_amount x >> int x) _ (next_leaves records_of (skip_amount x) (int x) (amount_still x) (int_still x)) (λ m. refl) m)
+      (by cache _ _ (λ _. then_leaves records_of (int x) _ (int_still x) (λ i m. refl) m)
       (by register_pending _ _ (λ _. pending_still m)
       (by cleared_weak _ _ (λ _. refl)
-      (by weak_prefix _ _ (λ _. then-leaves records_of r _ s (held_still 1) m)
+      (by weak_prefix _ _ (λ _. then_leaves records_of r _ s (held_still 1) m)
       (by pointer_prefix _ _ (λ _. s m)
-      (by dispatch_entry _ _ (λ _. next-leaves records_of (int x) _ (int_still x) (λ m. refl) m)
+      (by dispatch_entry _ _ (λ _. next_leaves records_of (int x) _ (int_still x) (λ m. refl) m)
       (by fixed_raw _ _ (λ _. raw_still x _ _ m)
-      (by variable_raw _ _ (λ _. then-leaves records_of (int x) _ (int_still x) (λ n. raw_still x _ _) m)
-      (by skip _ _ (λ _. then-leaves records_of (int x) _ (int_still x) (λ n m. refl) m)
-      (by fixed_repeat _ _ (λ _. then-leaves records_of r _ s (held_still (suc (suc a))) m)
+      (by variable_raw _ _ (λ _. then_leaves records_of (int x) _ (int_still x) (λ n. raw_still x _ _) m)
+      (by skip _ _ (λ _. then_leaves records_of (int x) _ (int_still x) (λ n m. refl) m)
+      (by fixed_repeat _ _ (λ _. then_leaves records_of r _ s (held_still (suc (suc a))) m)
       (by fixed_repeat_root _ _ (λ _. root_still x a m)
       (by repeat_previous _ _ (λ _. refl)
-      (by variable_repeat _ _ (λ _. then-leaves records_of (int x) _ (int_still x) (λ n. then-leaves records_of r _ s (held_still (suc (suc (n + 18))))) m)
-      (by variable_repeat_previous _ _ (λ _. then-leaves records_of (int x) _ (int_still x) (λ n m. refl) m)
-      (by variable_repeat_root _ _ (λ _. then-leaves records_of (int x) _ (int_still x) (λ n. root_still x (n + 18)) m)
+      (by variable_repeat _ _ (λ _. then_leaves records_of (int x) _ (int_still x) (λ n. then_leaves records_of r _ s (held_still (suc (suc (n + 18))))) m)
+      (by variable_repeat_previous _ _ (λ _. then_leaves records_of (int x) _ (int_still x) (λ n m. refl) m)
+      (by variable_repeat_root _ _ (λ _. then_leaves records_of (int x) _ (int_still x) (λ n. root_still x (n + 18)) m)
       (by meta_map _ _ (λ _. refl)
       refl))))))))))))))))))))))))))))))))))))
     where
@@ -212,17 +212,17 @@ module _ (x : Input) (d : ℕ) (m : Mem) where
   ref_deep h = let e : 65 - d ≡ 0 = omega arith in rw e
 
   module _ (h : d ≤ 64) where
-    ref-on : reference x (ref_at x (64 - d)) m ≡ ref_at x (65 - d) m
+    ref_on : reference x (ref_at x (64 - d)) m ≡ ref_at x (65 - d) m
     unfolding ref_at
-    ref-on = let e : 65 - d ≡ suc (64 - d) = omega arith in rw e
+    ref_on = let e : 65 - d ≡ suc (64 - d) = omega arith in rw e
 
-    pub ref-end : length x.payload ≤ m.at → no 4 (length x.payload) (moved (length x.payload) m) ≡ ref_at x (65 - d) m
+    pub ref_end : length x.payload ≤ m.at → no 4 (length x.payload) (moved (length x.payload) m) ≡ ref_at x (65 - d) m
     unfolding reference byte
-    ref-end g = rw (← ref-on, le-ltb m.at (length x.payload) g)
+    ref_end g = rw (← ref_on, le-ltb m.at (length x.payload) g)
 
-    ref-byte : m.at < length x.payload → (b : ℕ) → b ≡ get_or x.payload m.at 0 → by_head x (ref_at x (64 - d)) m.at (head_of x.sheet b).kind (head_of x.sheet b).argument (moved (m.at + 1) m) ≡ ref_at x (65 - d) m
+    ref_byte : m.at < length x.payload → (b : ℕ) → b ≡ get_or x.payload m.at 0 → by_head x (ref_at x (64 - d)) m.at (head_of x.sheet b).kind (head_of x.sheet b).argument (moved (m.at + 1) m) ≡ ref_at x (65 - d) m
     unfolding reference byte
-    ref-byte l b e = rw (← ref-on, lt-ltb m.at (length x.payload) l, e)
+    ref_byte l b e = rw (← ref_on, lt-ltb m.at (length x.payload) l, e)
 
 head-object : (x : Input) (r : Reader SlotValue) (tag kind a : ℕ) (m : Mem) → kind ≡ new_object → object x r a tag m ≡ by_head x r tag kind a m
 unfolding by_head
@@ -231,7 +231,7 @@ head-object x r tag kind a m e = rw e
 module _ {x : Input} {h sc : List ℕ} {m : Mem} (g : Ready x h m sc) (l : m.at < length x.payload) (b : ℕ) (e : (b ≡ get_or x.payload m.at 0) × (b < 256)) where
   -- the head byte's kind and argument
   pub ref_head : (d : ℕ) → d ≤ 64 → by_head x (ref_at x (64 - d)) m.at (get_or h b 0) (get_or h (256 + b) 0) (moved (m.at + 1) m) ≡ ref_at x (65 - d) m
-  ref_head d low = rw (g.decoded.kind b e.1, g.decoded.argument b e.1) (ref-byte x d m low l b e.0)
+  ref_head d low = rw (g.decoded.kind b e.1, g.decoded.argument b e.1) (ref_byte x d m low l b e.0)
 
   pub ref_object : (d : ℕ) → d ≤ 64 → get_or h b 0 ≡ new_object → object x (ref_at x (64 - d)) (get_or h (256 + b) 0) m.at (moved (m.at + 1) m) ≡ ref_at x (65 - d) m
   ref_object d low k = head-object x (ref_at x (64 - d)) m.at _ _ (moved (m.at + 1) m) k ∙ ref_head d low
@@ -243,8 +243,8 @@ module _ {x : Input} {h sc : List ℕ} {m : Mem} (g : Ready x h m sc) (l : m.at 
   argument_low = rw (g.decoded.argument b e.1) (head_fits x.sheet b e.1).small
 
   module _ (other : get_or h b 0 ≡ new_object → ⊥) where
-    pub is-simple : Holdless (get_or h b 0) → Simple (get_or h b 0) (get_or h (256 + b) 0)
-    is-simple k =
+    pub is_simple : Holdless (get_or h b 0) → Simple (get_or h b 0) (get_or h (256 + b) 0)
+    is_simple k =
         rw (g.decoded.kind b e.1, g.decoded.argument b e.1)
         (head_simple x.sheet b e.1 (λ z. other (g.decoded.kind b e.1 ∙ z)) (rw (g.decoded.kind b e.1) at k))
 
@@ -252,18 +252,18 @@ module _ {x : Input} {h sc : List ℕ} {m : Mem} (g : Ready x h m sc) (l : m.at 
     pub head-idle : Idle (moved (m.at + 1) m) (by_head x (ref_at x 0) m.at (get_or h b 0) (get_or h (256 + b) 0) (moved (m.at + 1) m))
     head-idle = by_head_still x (ref_at x 0) (none_still x) m.at _ _ other (moved (m.at + 1) m)
 
-    pub head-indexed : {r : Out SlotValue} → r ≡ by_head x (ref_at x 0) m.at (get_or h b 0) (get_or h (256 + b) 0) (moved (m.at + 1) m) → OutIndex (length x.payload) r sc
-    head-indexed q = idle_index (length x.payload) (moved (m.at + 1) m) sc (moved_ready g l).index q head-idle
+    pub head_indexed : {r : Out SlotValue} → r ≡ by_head x (ref_at x 0) m.at (get_or h b 0) (get_or h (256 + b) 0) (moved (m.at + 1) m) → OutIndex (length x.payload) r sc
+    head_indexed q = idle_index (length x.payload) (moved (m.at + 1) m) sc (moved_ready g l).index q head-idle
 
     -- an inner reference may start where a prefix has been read: with no levels left it is refused there
-    pub inner-ready : (k : ℕ) (m' : Mem) → ((r : Reader SlotValue) → (r >>= held k) m' ≡ by_head x r m.at (get_or h b 0) (get_or h (256 + b) 0) (moved (m.at + 1) m)) → Ready x h m' sc
+    pub inner_ready : (k : ℕ) (m' : Mem) → ((r : Reader SlotValue) → (r >>= held k) m' ≡ by_head x r m.at (get_or h b 0) (get_or h (256 + b) 0) (moved (m.at + 1) m)) → Ready x h m' sc
     unfolding ref_at
-    inner-ready k m' q =
+    inner_ready k m' q =
         let z : no 6 m'.at m' ≡ by_head x (ref_at x 0) m.at (get_or h b 0) (get_or h (256 + b) 0) (moved (m.at + 1) m) = q (ref_at x 0) in
         let w : no 6 m'.at m' ≡ ref_at x 1 m = z ∙ ref_head 64 (omega arith) in
         ready_after g (subst (Holds x m (Referred x m)) (sym w) (ref_keeps g.proper 1 m g.sound g.counted))
-        (subst (Ordered Free) (sym w) (ref-numbered g.proper m g.sound g.counted g.numbered 1))
-        (subst (StaysAscending x) (sym w) (ref-ascending g.proper m g.sound g.counted g.ascending 1))
+        (subst (Ordered Free) (sym w) (ref_numbered g.proper m g.sound g.counted g.numbered 1))
+        (subst (StaysAscending x) (sym w) (ref_ascending g.proper m g.sound g.counted g.ascending 1))
         (idle_of (length x.payload) (moved (m.at + 1) m) sc (moved_ready g l).index m' (same_no records_of z head-idle))
 
 -- ---- kinds are small, by one computed test over the order of heads
@@ -298,8 +298,8 @@ module _ {x : Input} {h sc : List ℕ} {m : Mem} (g : Ready x h m sc) where
 
   -- once the head byte was read
   module _ (l : m.at < length x.payload) where
-    pub simple-fits : (m.addresses.count ≤ room 5 m.addresses.rows) × (usable x.sheet ≡ true) × (m.skip < 2 ^ 63) × (m.pending < 2 ^ 63)
-    simple-fits = (omega (arith, g.sound), g.proper.sheet_usable, omega (arith, g.sound, g.proper), omega (arith, g.sound, g.proper))
+    pub simple_fits : (m.addresses.count ≤ room 5 m.addresses.rows) × (usable x.sheet ≡ true) × (m.skip < 2 ^ 63) × (m.pending < 2 ^ 63)
+    simple_fits = (omega (arith, g.sound), g.proper.sheet_usable, omega (arith, g.sound, g.proper), omega (arith, g.sound, g.proper))
 
   -- legacy addresses may be looked up
   pub found_by : Linked m.addresses.rows m.addresses.count (drop (length x.payload) sc) × Sorted m.addresses.rows m.addresses.count
@@ -330,38 +330,38 @@ module _ (x : Input) (h sc : List ℕ) (s : State) (l : Lent) (g : Ready x h (me
 
   -- a head that is no prefix
   pub other_simple : p ≡ Other → Simple (get_or h b 0) (get_or h (256 + b) 0)
-  other_simple q = is-simple g low b e other (is Other q).0
+  other_simple q = is_simple g low b e other (is Other q).0
 
   -- a prefix before an inner reference
   pub inner_starts : {k : ℕ} {t : State} → p ≡ Inner k t → Ready x h (mem t l') sc
-  inner_starts {k} {t} q = inner-ready g low b e other k (mem t l') (is (Inner k t) q)
+  inner_starts {k} {t} q = inner_ready g low b e other k (mem t l') (is (Inner k t) q)
 
   module _ (d : ℕ) (deep : d ≤ 64) where
-    pub ref-refused : {n i : ℕ} {t : State} → p ≡ Refused n i t → no n i (mem t l') ≡ ref_at x (65 - d) (mem s l)
-    ref-refused {n} {i} {t} q = is (Refused n i t) q (ref_at x (64 - d)) ∙ ref_head g low b e d deep
+    pub ref_refused : {n i : ℕ} {t : State} → p ≡ Refused n i t → no n i (mem t l') ≡ ref_at x (65 - d) (mem s l)
+    ref_refused {n} {i} {t} q = is (Refused n i t) q (ref_at x (64 - d)) ∙ ref_head g low b e d deep
 
-    pub ref-simple : (r : Step) (ring : List ℕ) → p ≡ Other
+    pub ref_simple : (r : Step) (ring : List ℕ) → p ≡ Other
         → ((l₁ : Lent) (inner : Reader SlotValue) → seen r (addresses_is l.addresses (hot_is ring l₁)) ≡ by_head x inner s.at (get_or h b 0) (get_or h (256 + b) 0) (mem (next s) (addresses_is l.addresses (hot_is l.hot l₁))))
         → (seen r (hot_is ring l') ≡ ref_at x (65 - d) (mem s l)) × OutIndex (length x.payload) (seen r (hot_is ring l')) sc
-    ref-simple r ring q w =
+    ref_simple r ring q w =
         let w' : (inner : Reader SlotValue) → seen r (hot_is ring l') ≡ by_head x inner s.at (get_or h b 0) (get_or h (256 + b) 0) (mem (next s) l) = subst (λ (l₁ : Lent). (inner : Reader SlotValue) → seen r (hot_is ring l') ≡ by_head x inner s.at (get_or h b 0) (get_or h (256 + b) 0) (mem (next s) l₁)) (is Other q).1 (w l') in
-        (w' (ref_at x (64 - d)) ∙ ref_head g low b e d deep, head-indexed g low b e other (w' (ref_at x 0)))
+        (w' (ref_at x (64 - d)) ∙ ref_head g low b e d deep, head_indexed g low b e other (w' (ref_at x 0)))
 
     pub ref_value : (r : Step) (values : List ℕ) {k i : ℕ} {t : State} → p ≡ Value k i t → ((l₁ : Lent) → seen r (values_is values l₁) ≡ held k (IsRef (Root i)) (mem t (values_is l.values l₁)))
         → (seen r (values_is values l') ≡ ref_at x (65 - d) (mem s l)) × OutIndex (length x.payload) (seen r (values_is values l')) sc
     ref_value r values {k} {i} {t} q w =
         let v = is (Value k i t) q in
-        (w l' ∙ v (ref_at x (64 - d)) ∙ ref_head g low b e d deep, head-indexed g low b e other (w l' ∙ v (ref_at x 0)))
+        (w l' ∙ v (ref_at x (64 - d)) ∙ ref_head g low b e d deep, head_indexed g low b e other (w l' ∙ v (ref_at x 0)))
 
     module _ {k : ℕ} {t : State} (q : p ≡ Inner k t) where
-      ref-inner : {out : Out SlotValue} → out ≡ and_then (ref_at x (65 - (d + 1)) (mem t l')) (held k) → out ≡ ref_at x (65 - d) (mem s l)
-      ref-inner w = w ∙ ap (λ (n : ℕ). and_then (ref_at x n (mem t l')) (held k)) (one_less d) ∙ is (Inner k t) q (ref_at x (64 - d)) ∙ ref_head g low b e d deep
+      ref_inner : {out : Out SlotValue} → out ≡ and_then (ref_at x (65 - (d + 1)) (mem t l')) (held k) → out ≡ ref_at x (65 - d) (mem s l)
+      ref_inner w = w ∙ ap (λ (n : ℕ). and_then (ref_at x n (mem t l')) (held k)) (one_less d) ∙ is (Inner k t) q (ref_at x (64 - d)) ∙ ref_head g low b e d deep
 
-      pub ref-inner-no : {n i : ℕ} {m' : Mem} → no n i m' ≡ ref_at x (65 - (d + 1)) (mem t l') → no n i m' ≡ ref_at x (65 - d) (mem s l)
-      ref-inner-no w = ref-inner (then_no (held k) w)
+      pub ref_inner_no : {n i : ℕ} {m' : Mem} → no n i m' ≡ ref_at x (65 - (d + 1)) (mem t l') → no n i m' ≡ ref_at x (65 - d) (mem s l)
+      ref_inner_no w = ref_inner (then_no (held k) w)
 
       -- what is held is that of the inner reference, or a value record
-      pub ref-inner-got : (r : Step) (values : List ℕ) (l₂ : Lent) (sc' : List ℕ) {v : SlotValue} {t₂ : State} → got v (mem t₂ l₂) ≡ ref_at x (65 - (d + 1)) (mem t l') → Index (length x.payload) (mem t₂ l₂).slots (mem t₂ l₂).addresses sc'
+      pub ref_inner_got : (r : Step) (values : List ℕ) (l₂ : Lent) (sc' : List ℕ) {v : SlotValue} {t₂ : State} → got v (mem t₂ l₂) ≡ ref_at x (65 - (d + 1)) (mem t l') → Index (length x.payload) (mem t₂ l₂).slots (mem t₂ l₂).addresses sc'
           → ((l₁ : Lent) → seen r (values_is values l₁) ≡ held k v (mem t₂ (values_is l₂.values l₁))) → (seen r (values_is values l₂) ≡ ref_at x (65 - d) (mem s l)) × OutIndex (length x.payload) (seen r (values_is values l₂)) sc'
-      ref-inner-got r values l₂ sc' {v} {t₂} w i f =
-          (ref-inner (then_got (held k) w (f l₂)), idle_index (length x.payload) (mem t₂ l₂) sc' i (f l₂) (held_still k v (mem t₂ l₂)))
+      ref_inner_got r values l₂ sc' {v} {t₂} w i f =
+          (ref_inner (then_got (held k) w (f l₂)), idle_index (length x.payload) (mem t₂ l₂) sc' i (f l₂) (held_still k v (mem t₂ l₂)))

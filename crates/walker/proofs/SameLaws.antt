@@ -36,11 +36,11 @@ module _ {B : Type 0} (view : Mem → B) where
   same_choose false f g m h k = k
 
   module _ {A C : Type 0} where
-    pub then-leaves : (r : Reader A) (f : A → Reader C) → Leaves r → ((a : A) → Leaves (f a)) → Leaves (r >>= f)
-    then-leaves r f h k m = same_then m f (r m) (h m) k
+    pub then_leaves : (r : Reader A) (f : A → Reader C) → Leaves r → ((a : A) → Leaves (f a)) → Leaves (r >>= f)
+    then_leaves r f h k m = same_then m f (r m) (h m) k
 
-    pub next-leaves : (r : Reader A) (s : Reader C) → Leaves r → Leaves s → Leaves (r >> s)
-    next-leaves r s h k m = same_then m (λ _. s) (r m) (h m) (λ _. k)
+    pub next_leaves : (r : Reader A) (s : Reader C) → Leaves r → Leaves s → Leaves (r >> s)
+    next_leaves r s h k m = same_then m (λ _. s) (r m) (h m) (λ _. k)
 
   -- of what was given or refused
   pub same_got : {A : Type 0} {m m' : Mem} {v : A} {o : Out A} → got v m' ≡ o → Same m o → view m' ≡ view m

@@ -2,7 +2,7 @@ use borrow.Author.Rules.{rules}
 use native.Mathlib.Omega.{arith}
 use borrow.Author.Tests.{not-true}
 use Rattle.address_index.specs.Sorted.{Seeks}
-use Rattle.address_index.proofs.FindLaws.{seeks_end, seeks-found, seeks-nothing, seeks-next}
+use Rattle.address_index.proofs.FindLaws.{seeks_end, seeks_found, seeks_nothing, seeks_next}
 use Rattle.address_index.proofs.find.find.Statement.{statement}
 use Rattle.address_index.proofs.find.find.Tie as tie
 
@@ -37,13 +37,13 @@ shared-slice-read-t16 : tie.Need-shared-slice-read-t16 invariant-loop decreases-
 shared-slice-read-t16 c = let a = c.before.before.before.before.before.before.before.before.args in let q = c.before.before.before.before.before.before.before.before.requires in let h = c.before.before.before.before.loop.invariant in omega (arith, h.within, q.0, c.before.before.before.loop-test.true)
 
 returns : tie.Need-returns invariant-loop decreases-loop
-returns c = let a = c.before.before.before.before.before.before.before.before.args in let q = c.before.before.before.before.before.before.before.before.requires in let h = c.before.before.before.before.loop.invariant in seeks-found _ h c.before.before.before.loop-test.true c.before.before.is-placed-at.ensures c.before.if1.true
+returns c = let a = c.before.before.before.before.before.before.before.before.args in let q = c.before.before.before.before.before.before.before.before.requires in let h = c.before.before.before.before.loop.invariant in seeks_found _ h c.before.before.before.loop-test.true c.before.before.is-placed-at.ensures c.before.if1.true
 
 is-after-requires : tie.Need-is-after-requires invariant-loop decreases-loop
 is-after-requires c κs = let a = c.before.before.before.before.before.before.before.args in let q = c.before.before.before.before.before.before.before.requires in let h = c.before.before.before.loop.invariant in omega (arith, h.within, q.0, c.before.before.loop-test.true)
 
 returns-2 : tie.Need-returns-2 invariant-loop decreases-loop
-returns-2 c = let a = c.before.before.before.before.before.before.before.before.before.args in let q = c.before.before.before.before.before.before.before.before.before.requires in let h = c.before.before.before.before.before.loop.invariant in seeks-nothing _ h c.before.before.before.before.loop-test.true c.before.before.before.is-placed-at.ensures c.before.before.if1.false q.3 q.4 c.before.is_after_lem.ensures (not-true _ c.if2.true)
+returns-2 c = let a = c.before.before.before.before.before.before.before.before.before.args in let q = c.before.before.before.before.before.before.before.before.before.requires in let h = c.before.before.before.before.before.loop.invariant in seeks_nothing _ h c.before.before.before.before.loop-test.true c.before.before.before.is-placed-at.ensures c.before.before.if1.false q.3 q.4 c.before.is_after_lem.ensures (not-true _ c.if2.true)
 
 next-lower-requires : tie.Need-next-lower-requires invariant-loop decreases-loop
 next-lower-requires c κs = let a = c.before.before.before.before.before.before.before.before.before.args in let q = c.before.before.before.before.before.before.before.before.before.requires in let h = c.before.before.before.before.before.loop.invariant in (q.0, omega (arith, h.within, c.before.before.before.before.loop-test.true), q.2, q.3, q.4)
@@ -52,7 +52,7 @@ loop-less : tie.Need-loop-smaller invariant-loop decreases-loop
 loop-less c = omega (arith, c.next-lower.ensures.before, c.before.before.before.before.before.loop-test.true)
 
 loop-again : tie.Need-loop-preserved invariant-loop decreases-loop
-loop-again c = let a = c.before.before.before.before.before.before.before.before.before.before.args in let q = c.before.before.before.before.before.before.before.before.before.before.requires in let h = c.before.before.before.before.before.before.loop.invariant in seeks-next _ h c.before.before.before.before.before.loop-test.true c.before.before.before.before.is-placed-at.ensures c.before.before.before.if1.false _ c.next-lower.ensures
+loop-again c = let a = c.before.before.before.before.before.before.before.before.before.before.args in let q = c.before.before.before.before.before.before.before.before.before.before.requires in let h = c.before.before.before.before.before.before.loop.invariant in seeks_next _ h c.before.before.before.before.before.loop-test.true c.before.before.before.before.is-placed-at.ensures c.before.before.before.if1.false _ c.next-lower.ensures
 
 returns-3 : tie.Need-returns-3 invariant-loop decreases-loop
 returns-3 c = seeks_end _ c.before.loop.invariant c.loop-test.false

@@ -1,7 +1,7 @@
 use borrow.Author.Rules.{rules}
 use native.Mathlib.Omega.{arith}
 use Rattle.address_index.specs.Sorted.{SeeksOrdinal}
-use Rattle.address_index.proofs.OrdinalLaws.{seeks_end, seeks-found, seeks-nothing, seeks-next}
+use Rattle.address_index.proofs.OrdinalLaws.{seeks_end, seeks_found, seeks_nothing, seeks_next}
 use Rattle.address_index.proofs.find.find_ordinal.Statement.{statement}
 use Rattle.address_index.proofs.find.find_ordinal.Tie as tie
 
@@ -36,10 +36,10 @@ shared-slice-read-t15 : tie.Need-shared-slice-read-t15 invariant-loop decreases-
 shared-slice-read-t15 c = let a = c.before.before.before.before.before.before.before.before.args in let q = c.before.before.before.before.before.before.before.before.requires in let h = c.before.before.before.before.loop.invariant in omega (arith, h.within, q.0, c.before.before.before.loop-test.true)
 
 returns : tie.Need-returns invariant-loop decreases-loop
-returns c = let a = c.before.before.before.before.before.before.before.before.args in let q = c.before.before.before.before.before.before.before.before.requires in let h = c.before.before.before.before.loop.invariant in seeks-found _ h c.before.before.before.loop-test.true q.3 _ c.before.before.ordinal.ensures c.before.if1.true
+returns c = let a = c.before.before.before.before.before.before.before.before.args in let q = c.before.before.before.before.before.before.before.before.requires in let h = c.before.before.before.before.loop.invariant in seeks_found _ h c.before.before.before.loop-test.true q.3 _ c.before.before.ordinal.ensures c.before.if1.true
 
 returns-2 : tie.Need-returns-2 invariant-loop decreases-loop
-returns-2 c = let a = c.before.before.before.before.before.before.before.before.args in let q = c.before.before.before.before.before.before.before.before.requires in let h = c.before.before.before.before.loop.invariant in seeks-nothing _ h c.before.before.before.loop-test.true q.3 _ c.before.before.ordinal.ensures c.if2.true
+returns-2 c = let a = c.before.before.before.before.before.before.before.before.args in let q = c.before.before.before.before.before.before.before.before.requires in let h = c.before.before.before.before.loop.invariant in seeks_nothing _ h c.before.before.before.loop-test.true q.3 _ c.before.before.ordinal.ensures c.if2.true
 
 next-earlier-requires : tie.Need-next-earlier-requires invariant-loop decreases-loop
 next-earlier-requires c κs = let a = c.before.before.before.before.before.before.before.before.args in let q = c.before.before.before.before.before.before.before.before.requires in let h = c.before.before.before.before.loop.invariant in (omega (arith, h.within, c.before.before.before.loop-test.true), q.2, q.3)
@@ -48,7 +48,7 @@ loop-less : tie.Need-loop-smaller invariant-loop decreases-loop
 loop-less c = omega (arith, c.next-earlier.ensures.before, c.before.before.before.before.loop-test.true)
 
 loop-again : tie.Need-loop-preserved invariant-loop decreases-loop
-loop-again c = let a = c.before.before.before.before.before.before.before.before.before.args in let q = c.before.before.before.before.before.before.before.before.before.requires in let h = c.before.before.before.before.before.loop.invariant in seeks-next _ h c.before.before.before.before.loop-test.true q.3 _ c.before.before.before.ordinal.ensures c.before.before.if1.false _ c.next-earlier.ensures
+loop-again c = let a = c.before.before.before.before.before.before.before.before.before.args in let q = c.before.before.before.before.before.before.before.before.before.requires in let h = c.before.before.before.before.before.loop.invariant in seeks_next _ h c.before.before.before.before.loop-test.true q.3 _ c.before.before.before.ordinal.ensures c.before.before.if1.false _ c.next-earlier.ensures
 
 returns-3 : tie.Need-returns-3 invariant-loop decreases-loop
 returns-3 c = seeks_end _ c.before.loop.invariant c.loop-test.false

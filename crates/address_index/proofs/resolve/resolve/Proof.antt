@@ -1,7 +1,7 @@
 use native.Mathlib.Omega.{arith}
 use borrow.Author.Rules.{rules}
 use borrow.Author.Tests.{not-false}
-use Rattle.alloc.proofs.Laws.{fill_bound, exact, no-filler, after-filler}
+use Rattle.alloc.proofs.Laws.{fill_bound, exact, no_filler, after_filler}
 use Rattle.address_index.proofs.FindLaws.{room_test}
 use Rattle.address_index.proofs.resolve.resolve.Statement.{statement}
 use Rattle.address_index.proofs.resolve.resolve.Tie as tie
@@ -37,7 +37,7 @@ fill-to-align-requires c κs = search rules
 returns-3 : tie.Need-returns-3
 returns-3 c =
     let d = c.before in
-    no-filler _ _ _ _ _ _ _ d.before.before.before.find.ensures d.before.enum-told2.given.1 d.fill-to-align.ensures c.if2.true
+    no_filler _ _ _ _ _ _ _ d.before.before.before.find.ensures d.before.enum-told2.given.1 d.fill-to-align.ensures c.if2.true
 
 add-find : tie.Need-overflow-add-find
 add-find c =
@@ -55,7 +55,7 @@ find-requires-2 c κs =
 returns-4 : tie.Need-returns-4
 returns-4 c =
     let d = c.before.before in
-    after-filler _ _ _ _ _ _ _ d.before.before.before.find.ensures d.before.enum-told2.given.1 d.fill-to-align.ensures c.before.if2.false c.find2.ensures
+    after_filler _ _ _ _ _ _ _ d.before.before.before.find.ensures d.before.enum-told2.given.1 d.fill-to-align.ensures c.before.if2.false c.find2.ensures
 
 pub resolve-spec : {M : Type 1} → statement M
 resolve-spec =

@@ -3,7 +3,7 @@ use Prim.Native.Nat.{◌+◌}
 use native.Mathlib.Omega.{arith}
 use borrow.Author.Rules.{rules}
 use borrow.Author.Tests.{ltb-false}
-use Rattle.alloc.proofs.Laws.{fill_bound, advance_bound, no_room, size-over, not-placed, address-over, free-over, is-placed}
+use Rattle.alloc.proofs.Laws.{fill_bound, advance_bound, no_room, size_over, not_placed, address_over, free_over, is_placed}
 use Rattle.alloc.proofs.legacy_alloc.place.Statement.{statement}
 use Rattle.alloc.proofs.legacy_alloc.place.Tie as tie
 
@@ -14,7 +14,7 @@ returns : tie.Need-returns
 returns c = no_room _ _ _ _ _ _ c.if1.true
 
 returns-2 : tie.Need-returns-2
-returns-2 c = size-over _ _ _ _ _ _ c.before.before.if1.false c.if2.true
+returns-2 c = size_over _ _ _ _ _ _ c.before.before.if1.false c.if2.true
 
 add-address-requires : tie.Need-add-address-requires
 add-address-requires c κs = search rules
@@ -25,7 +25,7 @@ same_length c = search rules
 returns-3 : tie.Need-returns-3
 returns-3 c =
     let e = c.before.before.before.before in
-    not-placed _ _ _ _ _ _ e.before.before.before.before.if1.false e.before.before.if2.false e.if3.true
+    not_placed _ _ _ _ _ _ e.before.before.before.before.if1.false e.before.before.if2.false e.if3.true
     c.before.before.add-address.ensures
 
 fill-to-align-requires : tie.Need-fill-to-align-requires
@@ -51,8 +51,8 @@ returns-4 c =
     let e = d.before.before in
     let h = e.before.before.before.before.if1.false in
     ⊎_elim
-    (λ w. address-over _ _ _ _ _ _ h e.before.before.if2.false e.if3.false d.before.fill-to-align.ensures d.advance.ensures w.taken)
-    (λ w. free-over _ _ _ _ _ _ h e.before.before.if2.false e.if3.false d.before.fill-to-align.ensures d.advance.ensures w.0.left w.1.taken)
+    (λ w. address_over _ _ _ _ _ _ h e.before.before.if2.false e.if3.false d.before.fill-to-align.ensures d.advance.ensures w.taken)
+    (λ w. free_over _ _ _ _ _ _ h e.before.before.if2.false e.if3.false d.before.fill-to-align.ensures d.advance.ensures w.0.left w.1.taken)
     c.if4.branch
 
 add-address-requires-2 : tie.Need-add-address-requires-2
@@ -72,7 +72,7 @@ returns-5 c =
     let p = c.before.before.before.before in
     let d = p.before.before in
     let e = d.before.before in
-    is-placed _ _ _ _ _ _ e.before.before.before.before.if1.false e.before.before.if2.false e.if3.false
+    is_placed _ _ _ _ _ _ e.before.before.before.before.if1.false e.before.before.if2.false e.if3.false
     d.before.fill-to-align.ensures d.advance.ensures p.before.if4.false p.if5.false c.before.before.add-address2.ensures
 
 pub place-spec : {M : Type 1} → statement M

@@ -4,7 +4,7 @@ use Prim.Native.Nat.{◌+◌, ◌-◌, ◌≤◌}
 use native.Mathlib.Omega.{arith}
 use lib.ListN.{length, drop}
 use Rattle.alloc.specs.Allocation.{spaces_of}
-use Rattle.alloc.proofs.Laws.{spaces-more, spaces-same, spaces_all}
+use Rattle.alloc.proofs.Laws.{spaces_more, spaces_same, spaces_all}
 use Rattle.alloc.proofs.legacy_alloc.spaces.Statement.{statement}
 use Rattle.alloc.proofs.legacy_alloc.spaces.Tie as tie
 
@@ -35,8 +35,8 @@ loop-less c = omega arith
 loop-again : tie.Need-loop-preserved invariant-loop decreases-loop
 loop-again c =
     ⊎_elim
-    (λ w. (omega arith, omega arith, spaces-more _ _ _ c.before.before.before.loop.invariant.2 c.before.before.loop-test.true w.0.taken w.1))
-    (λ w. (omega arith, omega arith, spaces-same _ _ _ c.before.before.before.loop.invariant.2 c.before.before.loop-test.true w.0.left w.1))
+    (λ w. (omega arith, omega arith, spaces_more _ _ _ c.before.before.before.loop.invariant.2 c.before.before.loop-test.true w.0.taken w.1))
+    (λ w. (omega arith, omega arith, spaces_same _ _ _ c.before.before.before.loop.invariant.2 c.before.before.loop-test.true w.0.left w.1))
     c.if1.branch
 
 returns : tie.Need-returns invariant-loop decreases-loop

@@ -2,7 +2,7 @@ use mathlib.Core.Path.{◌≡◌, refl}
 use Prim.Native.Nat.{◌≤◌}
 use native.Mathlib.Omega.{arith}
 use Rattle.alloc.specs.Resolve.{addressed}
-use Rattle.alloc.proofs.Laws.{address-here, address-older, address-none}
+use Rattle.alloc.proofs.Laws.{address_here, address_older, address_none}
 use Rattle.alloc.proofs.resolve.find_address.Statement.{statement}
 use Rattle.alloc.proofs.resolve.find_address.Tie as tie
 
@@ -35,7 +35,7 @@ shared-slice-read-t13 c = omega arith
 
 returns : tie.Need-returns invariant-loop decreases-loop
 returns c =
-    address-here _ _ _ _ _ _ c.before.before.before.before.loop.invariant.1 c.before.before.before.loop-test.true c.before.before.is_Address.ensures
+    address_here _ _ _ _ _ _ c.before.before.before.before.loop.invariant.1 c.before.before.before.loop-test.true c.before.before.is_Address.ensures
     c.before.if1.true
 
 loop-less : tie.Need-loop-smaller invariant-loop decreases-loop
@@ -44,12 +44,12 @@ loop-less c = omega arith
 loop-again : tie.Need-loop-preserved invariant-loop decreases-loop
 loop-again c = (
   omega arith,
-  address-older _ _ _ _ _ _ c.before.before.before.loop.invariant.1 c.before.before.loop-test.true c.before.is_Address.ensures
+  address_older _ _ _ _ _ _ c.before.before.before.loop.invariant.1 c.before.before.loop-test.true c.before.is_Address.ensures
       c.if1.false,
 )
 
 returns-2 : tie.Need-returns-2 invariant-loop decreases-loop
-returns-2 c = address-none _ _ _ _ _ _ c.before.loop.invariant.1 (omega arith)
+returns-2 c = address_none _ _ _ _ _ _ c.before.loop.invariant.1 (omega arith)
 
 pub find-address-spec : {M : Type 1} → statement M
 find-address-spec =

@@ -1,6 +1,6 @@
 use native.Mathlib.Omega.{arith}
 use borrow.Author.Rules.{rules}
-use Rattle.alloc.proofs.Laws.{fill_bound, exact, no-filler, after-filler}
+use Rattle.alloc.proofs.Laws.{fill_bound, exact, no_filler, after_filler}
 use Rattle.alloc.proofs.resolve.resolve.Statement.{statement}
 use Rattle.alloc.proofs.resolve.resolve.Tie as tie
 
@@ -22,7 +22,7 @@ fill-to-align-requires c κs = search rules
 returns-2 : tie.Need-returns-2
 returns-2 c =
     let d = c.before in
-    no-filler _ _ _ _ _ _ _ d.before.before.before.find-address.ensures d.before.enum-told2.given.1 d.fill-to-align.ensures c.if1.true
+    no_filler _ _ _ _ _ _ _ d.before.before.before.find-address.ensures d.before.enum-told2.given.1 d.fill-to-align.ensures c.if1.true
 
 add-find-address : tie.Need-overflow-add-find-address
 add-find-address c =
@@ -35,7 +35,7 @@ find-address-requires-2 c κs = search rules
 returns-3 : tie.Need-returns-3
 returns-3 c =
     let d = c.before.before in
-    after-filler _ _ _ _ _ _ _ d.before.before.before.find-address.ensures d.before.enum-told2.given.1 d.fill-to-align.ensures
+    after_filler _ _ _ _ _ _ _ d.before.before.before.find-address.ensures d.before.enum-told2.given.1 d.fill-to-align.ensures
     c.before.if1.false c.find-address2.ensures
 
 pub resolve-spec : {M : Type 1} → statement M

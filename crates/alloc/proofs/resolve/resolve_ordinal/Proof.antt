@@ -3,7 +3,7 @@ use mathlib.Core.Path.{◌≡◌}
 use Prim.Native.Nat.{◌-◌, ◌≤◌}
 use native.Mathlib.Omega.{arith}
 use Rattle.alloc.specs.Resolve.{ordinal_from}
-use Rattle.alloc.proofs.Laws.{ordinal_start, ordinal-here, ordinal-less, ordinal-other, ordinal_none}
+use Rattle.alloc.proofs.Laws.{ordinal_start, ordinal_here, ordinal_less, ordinal_other, ordinal_none}
 use Rattle.alloc.proofs.resolve.resolve_ordinal.Statement.{statement}
 use Rattle.alloc.proofs.resolve.resolve_ordinal.Tie as tie
 
@@ -39,7 +39,7 @@ shared-slice-read-t17 c = omega arith
 
 returns : tie.Need-returns invariant-loop decreases-loop
 returns c =
-    ordinal-here _ _ _ _ _ _ c.before.before.before.before.before.loop.invariant.1 c.before.before.before.before.loop-test.true
+    ordinal_here _ _ _ _ _ _ c.before.before.before.before.before.loop.invariant.1 c.before.before.before.before.loop-test.true
     c.before.before.if1.true c.before.if2.true
 
 sub-left : tie.Need-overflow-sub-left invariant-loop decreases-loop
@@ -54,8 +54,8 @@ loop-less c = omega arith
 loop-again : tie.Need-loop-preserved invariant-loop decreases-loop
 loop-again c =
     ⊎_elim
-    (λ w. (omega arith, rw w.2 (ordinal-less _ _ _ _ _ _ c.before.before.before.loop.invariant.1 c.before.before.loop-test.true w.0.taken w.1.left)))
-    (λ w. (omega arith, rw w.1 (ordinal-other _ _ _ _ _ _ c.before.before.before.loop.invariant.1 c.before.before.loop-test.true w.0.left)))
+    (λ w. (omega arith, rw w.2 (ordinal_less _ _ _ _ _ _ c.before.before.before.loop.invariant.1 c.before.before.loop-test.true w.0.taken w.1.left)))
+    (λ w. (omega arith, rw w.1 (ordinal_other _ _ _ _ _ _ c.before.before.before.loop.invariant.1 c.before.before.loop-test.true w.0.left)))
     c.if1.branch
 
 returns-2 : tie.Need-returns-2 invariant-loop decreases-loop

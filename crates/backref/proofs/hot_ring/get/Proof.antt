@@ -1,4 +1,4 @@
-use Rattle.backref.proofs.RingLaws.{hot-kind, hot-empty}
+use Rattle.backref.proofs.RingLaws.{hot_kind, hot-empty}
 use borrow.Author.Rules.{rules}
 use Rattle.backref.proofs.hot_ring.get.Statement.{statement}
 use Rattle.backref.proofs.hot_ring.get.Tie as tie
@@ -37,13 +37,13 @@ element-copy-out-b : tie.Need-element-copy-out-b
 element-copy-out-b c = search rules
 
 returns : tie.Need-returns
-returns c = hot-kind _ _ 1 c.if1.true
+returns c = hot_kind _ _ 1 c.if1.true
 
 returns-2 : tie.Need-returns-2
-returns-2 c = hot-kind _ _ 2 c.if2.true
+returns-2 c = hot_kind _ _ 2 c.if2.true
 
 returns-3 : tie.Need-returns-3
-returns-3 c = hot-kind _ _ 3 c.if3.true
+returns-3 c = hot_kind _ _ 3 c.if3.true
 
 returns-4 : tie.Need-returns-4
 returns-4 c = hot-empty _ _ c.before.before.if1.false c.before.if2.false c.if3.false

@@ -1,4 +1,4 @@
-use Rattle.backref.proofs.BackrefLaws.{as_map, as-large, as_none}
+use Rattle.backref.proofs.BackrefLaws.{as_map, as_large, as_none}
 use borrow.Author.Rules.{rules}
 use Rattle.backref.proofs.legacy.numbered_as.Statement.{statement}
 use Rattle.backref.proofs.legacy.numbered_as.Tie as tie
@@ -13,7 +13,7 @@ lo-space-requires : tie.Need-lo-space-requires
 lo-space-requires c κs = search rules
 
 returns-2 : tie.Need-returns-2
-returns-2 c = as-large c.before.before.before.before.before.args.sheet.now _ c.before.before.before.map-space.ensures.0 c.before.before.if1.false c.before.lo-space.ensures.0 c.if2.true
+returns-2 c = as_large c.before.before.before.before.before.args.sheet.now _ c.before.before.before.map-space.ensures.0 c.before.before.if1.false c.before.lo-space.ensures.0 c.if2.true
 
 returns-3 : tie.Need-returns-3
 returns-3 c = as_none c.before.before.before.before.before.args.sheet.now _ c.before.before.before.map-space.ensures.0 c.before.before.if1.false c.before.lo-space.ensures.0 c.if2.false

@@ -1,5 +1,5 @@
 use native.Mathlib.Omega.{arith}
-use Rattle.backref.proofs.BackrefLaws.{int_end, plain_cut, plain-numbered, plain-cut-second, plain-placed}
+use Rattle.backref.proofs.BackrefLaws.{int_end, plain_cut, plain-numbered, plain-cut_second, plain-placed}
 use borrow.Author.Rules.{rules}
 use Rattle.backref.proofs.legacy.plain_backref.Statement.{statement}
 use Rattle.backref.proofs.legacy.plain_backref.Tie as tie
@@ -41,7 +41,7 @@ enum-told-2 : tie.Need-enum-told-2
 enum-told-2 c = search rules
 
 returns-3 : tie.Need-returns-3
-returns-3 c = plain-cut-second _ _ _ _ _ _ _ c.before.before.before.before.before.before.before.before.putint.ensures.0 c.before.before.before.before.before.before.first.given.1 c.before.before.before.before.numbered-as.ensures c.before.before.before.if1.false c.before.before.putint2.ensures.0 c.enum-told2.given.1
+returns-3 c = plain-cut_second _ _ _ _ _ _ _ c.before.before.before.before.before.before.before.before.putint.ensures.0 c.before.before.before.before.before.before.first.given.1 c.before.before.before.before.numbered-as.ensures c.before.before.before.if1.false c.before.before.putint2.ensures.0 c.enum-told2.given.1
 
 cast-t16 : tie.Need-overflow-cast-t16
 cast-t16 c = search rules

@@ -3,7 +3,7 @@ use mathlib.Core.Path.{◌≡◌, ◌∙◌}
 use mathlib.Core.Logic.{⊎_elim}
 use Prim.Native.Nat.{◌^◌}
 use Rattle.backref.specs.Legacy.{offset_bits}
-use Rattle.backref.proofs.BackrefLaws.{power_some, page_low, page_high, offset_small, size-four, size-eight, unpacked-is}
+use Rattle.backref.proofs.BackrefLaws.{power_some, page_low, page_high, offset_small, size_four, size_eight, unpacked_is}
 use borrow.Author.Rules.{rules}
 use Rattle.backref.proofs.legacy.unpack.Statement.{statement}
 use Rattle.backref.proofs.legacy.unpack.Tie as tie
@@ -33,8 +33,8 @@ power-requires-2 c κs = omega (arith, page_high _ c.before.before.before.before
 size_is : (c : tie.Joined1) → c.if1.size ≡ 2 ^ offset_bits c.before.before.before.args.sheet.now
 size_is c =
     ⊎_elim
-    (λ w. size-four c.before.before.before.args.sheet.now c.before.word_Bytes.ensures.0 w.1.ensures.0 w.0.taken (w.3 ∙ w.2.ensures))
-    (λ w. size-eight c.before.before.before.args.sheet.now c.before.word_Bytes.ensures.0 w.1.ensures.0 w.0.left (w.3 ∙ w.2.ensures))
+    (λ w. size_four c.before.before.before.args.sheet.now c.before.word_Bytes.ensures.0 w.1.ensures.0 w.0.taken (w.3 ∙ w.2.ensures))
+    (λ w. size_eight c.before.before.before.args.sheet.now c.before.word_Bytes.ensures.0 w.1.ensures.0 w.0.left (w.3 ∙ w.2.ensures))
     c.if1.branch
 
 div-t11 : tie.Need-nonzero-div-t11
@@ -47,7 +47,7 @@ mul-t13 : tie.Need-overflow-mul-t13
 mul-t13 c = omega (arith, offset_small _ c.before.before.before.before.requires.0 c.before.before.before.before.args.index (size_is c.before) c.before.before.word_Bytes.ensures.0)
 
 returns : tie.Need-returns
-returns c = (unpacked-is c.before.before.before.before.args.sheet.now c.before.before.word_Bytes.ensures.0 _ (size_is c.before), omega (arith, offset_small _ c.before.before.before.before.requires.0 c.before.before.before.before.args.index (size_is c.before) c.before.before.word_Bytes.ensures.0))
+returns c = (unpacked_is c.before.before.before.before.args.sheet.now c.before.before.word_Bytes.ensures.0 _ (size_is c.before), omega (arith, offset_small _ c.before.before.before.before.requires.0 c.before.before.before.before.args.index (size_is c.before) c.before.before.word_Bytes.ensures.0))
 
 pub unpack-spec : {M : Type 1} → statement M
 unpack-spec =

@@ -4,7 +4,7 @@ use native.Mathlib.Omega.{arith}
 use mathlib.Core.Path.{refl, sym, ◌∙◌}
 use borrow.Author.Tests.{not-true, not-false}
 use Rattle.cache_graph.specs.Promise.{call_of, rooms_of}
-use Rattle.cache_graph.proofs.CallLaws.{reads-unusable, reads-long, reads-refused, reads-accepted, assures, zeros, not_long, walked_call, same_rooms, again}
+use Rattle.cache_graph.proofs.CallLaws.{reads_unusable, reads_long, reads_refused, reads_accepted, assures, zeros, not_long, walked_call, same_rooms, again}
 use borrow.Author.Rules.{rules}
 use Rattle.cache_graph.proofs.parse.parse_with.Statement.{statement}
 use Rattle.cache_graph.proofs.parse.parse_with.Tie as tie
@@ -31,7 +31,7 @@ same-length-4 : tie.Need-same-length-4
 same-length-4 c = search rules
 
 returns : tie.Need-returns
-returns c = let a = c.before.before.before.before.before.before.before.before.before.before.before.before.before.before.before.before.before.before.before.before.before.before.before.before.before.before.args in let call = call_of a.sheet.now a.payload.now a.reservations.now a.trusted.now in let rooms = rooms_of a.objects.now a.slots.now a.values.now a.addresses.now in let bytes : Bytes a.payload.now = λ i. omega (arith, c.before.before.before.before.before.before.before.before.before.before.before.before.before.before.before.before.before.before.before.before.before.before.before.before.shared-slice-known2.given i) in let r = reads-unusable call rooms (sym c.before.before.before.decode.ensures.usable ∙ not-true _ c.before.if1.true) c.refused.ensures c.before.before.before.before.before.before.before.before.before.before.before.before.clear-tables.ensures in (r, assures call rooms r bytes)
+returns c = let a = c.before.before.before.before.before.before.before.before.before.before.before.before.before.before.before.before.before.before.before.before.before.before.before.before.before.before.args in let call = call_of a.sheet.now a.payload.now a.reservations.now a.trusted.now in let rooms = rooms_of a.objects.now a.slots.now a.values.now a.addresses.now in let bytes : Bytes a.payload.now = λ i. omega (arith, c.before.before.before.before.before.before.before.before.before.before.before.before.before.before.before.before.before.before.before.before.before.before.before.before.shared-slice-known2.given i) in let r = reads_unusable call rooms (sym c.before.before.before.decode.ensures.usable ∙ not-true _ c.before.if1.true) c.refused.ensures c.before.before.before.before.before.before.before.before.before.before.before.before.clear-tables.ensures in (r, assures call rooms r bytes)
 
 too-long-requires : tie.Need-too-long-requires
 too-long-requires c κs = search rules
@@ -52,7 +52,7 @@ same-length-8 : tie.Need-same-length-8
 same-length-8 c = search rules
 
 returns-2 : tie.Need-returns-2
-returns-2 c = let a = c.before.before.before.before.before.before.before.before.before.before.before.before.before.before.before.before.before.before.before.before.before.before.before.before.before.before.before.before.args in let call = call_of a.sheet.now a.payload.now a.reservations.now a.trusted.now in let rooms = rooms_of a.objects.now a.slots.now a.values.now a.addresses.now in let bytes : Bytes a.payload.now = λ i. omega (arith, c.before.before.before.before.before.before.before.before.before.before.before.before.before.before.before.before.before.before.before.before.before.before.before.before.before.before.shared-slice-known2.given i) in let u = sym c.before.before.before.before.before.decode.ensures.usable ∙ not-false _ c.before.before.before.if1.false in let s = sym (c.before.before.too_long.ensures a.sheet.now a.trusted.now) ∙ c.before.if2.true in let r = reads-long call rooms u s c.refused2.ensures c.before.before.before.before.before.before.before.before.before.before.before.before.before.before.clear-tables.ensures in (r, assures call rooms r bytes)
+returns-2 c = let a = c.before.before.before.before.before.before.before.before.before.before.before.before.before.before.before.before.before.before.before.before.before.before.before.before.before.before.before.before.args in let call = call_of a.sheet.now a.payload.now a.reservations.now a.trusted.now in let rooms = rooms_of a.objects.now a.slots.now a.values.now a.addresses.now in let bytes : Bytes a.payload.now = λ i. omega (arith, c.before.before.before.before.before.before.before.before.before.before.before.before.before.before.before.before.before.before.before.before.before.before.before.before.before.before.shared-slice-known2.given i) in let u = sym c.before.before.before.before.before.decode.ensures.usable ∙ not-false _ c.before.before.before.if1.false in let s = sym (c.before.before.too_long.ensures a.sheet.now a.trusted.now) ∙ c.before.if2.true in let r = reads_long call rooms u s c.refused2.ensures c.before.before.before.before.before.before.before.before.before.before.before.before.before.before.clear-tables.ensures in (r, assures call rooms r bytes)
 
 spaces-requires : tie.Need-spaces-requires
 spaces-requires c κs = search rules
@@ -79,7 +79,7 @@ same-length-13 : tie.Need-same-length-13
 same-length-13 c = c.before.before.before.before.before.before.before.before.before.before.before.before.before.before.before.before.before.before.before.before.before.before.before.before.before.walk-payload.auto.1.1.1.1.1.1.1.1.0
 
 returns-3 : tie.Need-returns-3
-returns-3 c = let a = c.before.before.before.before.before.before.before.before.before.before.before.before.before.before.before.before.before.before.before.before.before.before.before.before.before.before.before.before.before.before.before.before.before.before.before.before.before.before.before.before.before.before.before.before.before.before.before.before.before.before.before.before.before.before.before.before.before.before.before.before.before.args in let call = call_of a.sheet.now a.payload.now a.reservations.now a.trusted.now in let rooms = rooms_of a.objects.now a.slots.now a.values.now a.addresses.now in let bytes : Bytes a.payload.now = λ i. omega (arith, c.before.before.before.before.before.before.before.before.before.before.before.before.before.before.before.before.before.before.before.before.before.before.before.before.before.before.before.before.before.before.before.before.before.before.before.before.before.before.before.before.before.before.before.before.before.before.before.before.before.before.before.before.before.before.before.before.before.before.before.shared-slice-known2.given i) in let u = sym c.before.before.before.before.before.before.before.before.before.before.before.before.before.before.before.before.before.before.before.before.before.before.before.before.before.before.before.before.before.before.before.before.before.before.before.before.before.before.decode.ensures.usable ∙ not-false _ c.before.before.before.before.before.before.before.before.before.before.before.before.before.before.before.before.before.before.before.before.before.before.before.before.before.before.before.before.before.before.before.before.before.before.before.before.if1.false in let s = sym (c.before.before.before.before.before.before.before.before.before.before.before.before.before.before.before.before.before.before.before.before.before.before.before.before.before.before.before.before.before.before.before.before.before.before.before.too_long.ensures a.sheet.now a.trusted.now) ∙ c.before.before.before.before.before.before.before.before.before.before.before.before.before.before.before.before.before.before.before.before.before.before.before.before.before.before.before.before.before.before.before.before.before.before.if2.false in let w = walked_call call c.before.before.before.before.before.before.before.before.before.before.before.before.before.before.before.before.before.before.before.before.before.before.before.before.before.before.before.before.before.before.before.before.spaces.ensures (same_rooms c.before.before.before.before.before.before.before.before.before.before.before.before.before.before.before.before.before.before.before.before.before.before.before.before.before.before.before.before.before.before.before.before.before.before.before.before.before.before.before.before.before.before.before.before.before.before.before.clear-tables.auto.0 c.before.before.before.before.before.before.before.before.before.before.before.before.before.before.before.before.before.before.before.before.before.before.before.before.before.before.before.before.before.before.before.before.before.before.before.before.before.before.before.before.before.before.before.before.before.before.before.clear-tables.auto.1.0 c.before.before.before.before.before.before.before.before.before.before.before.before.before.before.before.before.before.before.before.before.before.before.before.before.before.before.before.before.before.before.before.before.before.before.before.before.before.before.before.before.before.before.before.before.before.before.before.clear-tables.auto.1.1.0 c.before.before.before.before.before.before.before.before.before.before.before.before.before.before.before.before.before.before.before.before.before.before.before.before.before.before.before.before.before.before.before.before.before.before.before.before.before.before.before.before.before.before.before.before.before.before.before.clear-tables.auto.1.1.1.0) c.before.before.before.before.before.before.before.before.before.before.before.before.before.before.before.before.before.before.before.before.before.before.before.before.before.walk-payload.ensures in let r = reads-refused call rooms u s w c.before.before.before.before.before.before.before.before.before.before.before.before.before.if3.true (again (c.before.before.before.before.before.before.before.before.before.before.before.before.before.before.before.before.before.before.before.before.before.before.before.before.before.walk-payload.auto.1.1.1.1.0 ∙ c.before.before.before.before.before.before.before.before.before.before.before.before.before.before.before.before.before.before.before.before.before.before.before.before.before.before.before.before.before.before.before.before.before.before.before.before.before.before.before.before.before.before.before.before.before.before.before.clear-tables.auto.0) c.before.before.before.before.before.before.before.before.clear-tables2.ensures.0, again (c.before.before.before.before.before.before.before.before.before.before.before.before.before.before.before.before.before.before.before.before.before.before.before.before.before.walk-payload.auto.1.1.1.1.1.0 ∙ c.before.before.before.before.before.before.before.before.before.before.before.before.before.before.before.before.before.before.before.before.before.before.before.before.before.before.before.before.before.before.before.before.before.before.before.before.before.before.before.before.before.before.before.before.before.before.before.clear-tables.auto.1.0) c.before.before.before.before.before.before.before.before.clear-tables2.ensures.1, again (c.before.before.before.before.before.before.before.before.before.before.before.before.before.before.before.before.before.before.before.before.before.before.before.before.before.walk-payload.auto.1.1.1.1.1.1.0 ∙ c.before.before.before.before.before.before.before.before.before.before.before.before.before.before.before.before.before.before.before.before.before.before.before.before.before.before.before.before.before.before.before.before.before.before.before.before.before.before.before.before.before.before.before.before.before.before.before.clear-tables.auto.1.1.0) c.before.before.before.before.before.before.before.before.clear-tables2.ensures.2, again (c.before.before.before.before.before.before.before.before.before.before.before.before.before.before.before.before.before.before.before.before.before.before.before.before.before.walk-payload.auto.1.1.1.1.1.1.1.0 ∙ c.before.before.before.before.before.before.before.before.before.before.before.before.before.before.before.before.before.before.before.before.before.before.before.before.before.before.before.before.before.before.before.before.before.before.before.before.before.before.before.before.before.before.before.before.before.before.before.clear-tables.auto.1.1.1.0) c.before.before.before.before.before.before.before.before.clear-tables2.ensures.3) in (r, assures call rooms r bytes)
+returns-3 c = let a = c.before.before.before.before.before.before.before.before.before.before.before.before.before.before.before.before.before.before.before.before.before.before.before.before.before.before.before.before.before.before.before.before.before.before.before.before.before.before.before.before.before.before.before.before.before.before.before.before.before.before.before.before.before.before.before.before.before.before.before.before.before.args in let call = call_of a.sheet.now a.payload.now a.reservations.now a.trusted.now in let rooms = rooms_of a.objects.now a.slots.now a.values.now a.addresses.now in let bytes : Bytes a.payload.now = λ i. omega (arith, c.before.before.before.before.before.before.before.before.before.before.before.before.before.before.before.before.before.before.before.before.before.before.before.before.before.before.before.before.before.before.before.before.before.before.before.before.before.before.before.before.before.before.before.before.before.before.before.before.before.before.before.before.before.before.before.before.before.before.before.shared-slice-known2.given i) in let u = sym c.before.before.before.before.before.before.before.before.before.before.before.before.before.before.before.before.before.before.before.before.before.before.before.before.before.before.before.before.before.before.before.before.before.before.before.before.before.before.decode.ensures.usable ∙ not-false _ c.before.before.before.before.before.before.before.before.before.before.before.before.before.before.before.before.before.before.before.before.before.before.before.before.before.before.before.before.before.before.before.before.before.before.before.before.if1.false in let s = sym (c.before.before.before.before.before.before.before.before.before.before.before.before.before.before.before.before.before.before.before.before.before.before.before.before.before.before.before.before.before.before.before.before.before.before.before.too_long.ensures a.sheet.now a.trusted.now) ∙ c.before.before.before.before.before.before.before.before.before.before.before.before.before.before.before.before.before.before.before.before.before.before.before.before.before.before.before.before.before.before.before.before.before.before.if2.false in let w = walked_call call c.before.before.before.before.before.before.before.before.before.before.before.before.before.before.before.before.before.before.before.before.before.before.before.before.before.before.before.before.before.before.before.before.spaces.ensures (same_rooms c.before.before.before.before.before.before.before.before.before.before.before.before.before.before.before.before.before.before.before.before.before.before.before.before.before.before.before.before.before.before.before.before.before.before.before.before.before.before.before.before.before.before.before.before.before.before.before.clear-tables.auto.0 c.before.before.before.before.before.before.before.before.before.before.before.before.before.before.before.before.before.before.before.before.before.before.before.before.before.before.before.before.before.before.before.before.before.before.before.before.before.before.before.before.before.before.before.before.before.before.before.clear-tables.auto.1.0 c.before.before.before.before.before.before.before.before.before.before.before.before.before.before.before.before.before.before.before.before.before.before.before.before.before.before.before.before.before.before.before.before.before.before.before.before.before.before.before.before.before.before.before.before.before.before.before.clear-tables.auto.1.1.0 c.before.before.before.before.before.before.before.before.before.before.before.before.before.before.before.before.before.before.before.before.before.before.before.before.before.before.before.before.before.before.before.before.before.before.before.before.before.before.before.before.before.before.before.before.before.before.before.clear-tables.auto.1.1.1.0) c.before.before.before.before.before.before.before.before.before.before.before.before.before.before.before.before.before.before.before.before.before.before.before.before.before.walk-payload.ensures in let r = reads_refused call rooms u s w c.before.before.before.before.before.before.before.before.before.before.before.before.before.if3.true (again (c.before.before.before.before.before.before.before.before.before.before.before.before.before.before.before.before.before.before.before.before.before.before.before.before.before.walk-payload.auto.1.1.1.1.0 ∙ c.before.before.before.before.before.before.before.before.before.before.before.before.before.before.before.before.before.before.before.before.before.before.before.before.before.before.before.before.before.before.before.before.before.before.before.before.before.before.before.before.before.before.before.before.before.before.before.clear-tables.auto.0) c.before.before.before.before.before.before.before.before.clear-tables2.ensures.0, again (c.before.before.before.before.before.before.before.before.before.before.before.before.before.before.before.before.before.before.before.before.before.before.before.before.before.walk-payload.auto.1.1.1.1.1.0 ∙ c.before.before.before.before.before.before.before.before.before.before.before.before.before.before.before.before.before.before.before.before.before.before.before.before.before.before.before.before.before.before.before.before.before.before.before.before.before.before.before.before.before.before.before.before.before.before.before.clear-tables.auto.1.0) c.before.before.before.before.before.before.before.before.clear-tables2.ensures.1, again (c.before.before.before.before.before.before.before.before.before.before.before.before.before.before.before.before.before.before.before.before.before.before.before.before.before.walk-payload.auto.1.1.1.1.1.1.0 ∙ c.before.before.before.before.before.before.before.before.before.before.before.before.before.before.before.before.before.before.before.before.before.before.before.before.before.before.before.before.before.before.before.before.before.before.before.before.before.before.before.before.before.before.before.before.before.before.before.clear-tables.auto.1.1.0) c.before.before.before.before.before.before.before.before.clear-tables2.ensures.2, again (c.before.before.before.before.before.before.before.before.before.before.before.before.before.before.before.before.before.before.before.before.before.before.before.before.before.walk-payload.auto.1.1.1.1.1.1.1.0 ∙ c.before.before.before.before.before.before.before.before.before.before.before.before.before.before.before.before.before.before.before.before.before.before.before.before.before.before.before.before.before.before.before.before.before.before.before.before.before.before.before.before.before.before.before.before.before.before.before.clear-tables.auto.1.1.1.0) c.before.before.before.before.before.before.before.before.clear-tables2.ensures.3) in (r, assures call rooms r bytes)
 
 same-length-14 : tie.Need-same-length-14
 same-length-14 c = c.before.before.before.before.before.before.before.before.before.before.before.before.walk-payload.auto.1.1.1.1.0 ∙ c.before.before.before.before.before.before.before.before.before.before.before.before.before.before.before.before.before.before.before.before.before.before.before.before.before.before.before.before.before.before.before.before.before.before.clear-tables.auto.0
@@ -97,7 +97,7 @@ same-length-18 : tie.Need-same-length-18
 same-length-18 c = c.before.before.before.before.before.before.before.before.before.before.before.before.walk-payload.auto.1.1.1.1.1.1.1.1.0
 
 returns-4 : tie.Need-returns-4
-returns-4 c = let a = c.before.before.before.before.before.before.before.before.before.before.before.before.before.before.before.before.before.before.before.before.before.before.before.before.before.before.before.before.before.before.before.before.before.before.before.before.before.before.before.before.before.before.before.before.before.before.before.before.args in let call = call_of a.sheet.now a.payload.now a.reservations.now a.trusted.now in let rooms = rooms_of a.objects.now a.slots.now a.values.now a.addresses.now in let bytes : Bytes a.payload.now = λ i. omega (arith, c.before.before.before.before.before.before.before.before.before.before.before.before.before.before.before.before.before.before.before.before.before.before.before.before.before.before.before.before.before.before.before.before.before.before.before.before.before.before.before.before.before.before.before.before.before.before.shared-slice-known2.given i) in let u = sym c.before.before.before.before.before.before.before.before.before.before.before.before.before.before.before.before.before.before.before.before.before.before.before.before.before.decode.ensures.usable ∙ not-false _ c.before.before.before.before.before.before.before.before.before.before.before.before.before.before.before.before.before.before.before.before.before.before.before.if1.false in let s = sym (c.before.before.before.before.before.before.before.before.before.before.before.before.before.before.before.before.before.before.before.before.before.before.too_long.ensures a.sheet.now a.trusted.now) ∙ c.before.before.before.before.before.before.before.before.before.before.before.before.before.before.before.before.before.before.before.before.before.if2.false in let w = walked_call call c.before.before.before.before.before.before.before.before.before.before.before.before.before.before.before.before.before.before.before.spaces.ensures (same_rooms c.before.before.before.before.before.before.before.before.before.before.before.before.before.before.before.before.before.before.before.before.before.before.before.before.before.before.before.before.before.before.before.before.before.before.clear-tables.auto.0 c.before.before.before.before.before.before.before.before.before.before.before.before.before.before.before.before.before.before.before.before.before.before.before.before.before.before.before.before.before.before.before.before.before.before.clear-tables.auto.1.0 c.before.before.before.before.before.before.before.before.before.before.before.before.before.before.before.before.before.before.before.before.before.before.before.before.before.before.before.before.before.before.before.before.before.before.clear-tables.auto.1.1.0 c.before.before.before.before.before.before.before.before.before.before.before.before.before.before.before.before.before.before.before.before.before.before.before.before.before.before.before.before.before.before.before.before.before.before.clear-tables.auto.1.1.1.0) c.before.before.before.before.before.before.before.before.before.before.before.before.walk-payload.ensures in let r = reads-accepted call rooms u s w c.if3.false in (r, assures call rooms r bytes)
+returns-4 c = let a = c.before.before.before.before.before.before.before.before.before.before.before.before.before.before.before.before.before.before.before.before.before.before.before.before.before.before.before.before.before.before.before.before.before.before.before.before.before.before.before.before.before.before.before.before.before.before.before.before.args in let call = call_of a.sheet.now a.payload.now a.reservations.now a.trusted.now in let rooms = rooms_of a.objects.now a.slots.now a.values.now a.addresses.now in let bytes : Bytes a.payload.now = λ i. omega (arith, c.before.before.before.before.before.before.before.before.before.before.before.before.before.before.before.before.before.before.before.before.before.before.before.before.before.before.before.before.before.before.before.before.before.before.before.before.before.before.before.before.before.before.before.before.before.before.shared-slice-known2.given i) in let u = sym c.before.before.before.before.before.before.before.before.before.before.before.before.before.before.before.before.before.before.before.before.before.before.before.before.before.decode.ensures.usable ∙ not-false _ c.before.before.before.before.before.before.before.before.before.before.before.before.before.before.before.before.before.before.before.before.before.before.before.if1.false in let s = sym (c.before.before.before.before.before.before.before.before.before.before.before.before.before.before.before.before.before.before.before.before.before.before.too_long.ensures a.sheet.now a.trusted.now) ∙ c.before.before.before.before.before.before.before.before.before.before.before.before.before.before.before.before.before.before.before.before.before.if2.false in let w = walked_call call c.before.before.before.before.before.before.before.before.before.before.before.before.before.before.before.before.before.before.before.spaces.ensures (same_rooms c.before.before.before.before.before.before.before.before.before.before.before.before.before.before.before.before.before.before.before.before.before.before.before.before.before.before.before.before.before.before.before.before.before.before.clear-tables.auto.0 c.before.before.before.before.before.before.before.before.before.before.before.before.before.before.before.before.before.before.before.before.before.before.before.before.before.before.before.before.before.before.before.before.before.before.clear-tables.auto.1.0 c.before.before.before.before.before.before.before.before.before.before.before.before.before.before.before.before.before.before.before.before.before.before.before.before.before.before.before.before.before.before.before.before.before.before.clear-tables.auto.1.1.0 c.before.before.before.before.before.before.before.before.before.before.before.before.before.before.before.before.before.before.before.before.before.before.before.before.before.before.before.before.before.before.before.before.before.before.clear-tables.auto.1.1.1.0) c.before.before.before.before.before.before.before.before.before.before.before.before.walk-payload.ensures in let r = reads_accepted call rooms u s w c.if3.false in (r, assures call rooms r bytes)
 
 pub parse-with-spec : {M : Type 1} → statement M
 parse-with-spec =

@@ -2,7 +2,7 @@ use borrow.Author.Rules.{rules}
 use native.Mathlib.Omega.{arith}
 use mathlib.Core.Path.{◌∙◌}
 use Prim.Native.Nat.{◌-◌}
-use Rattle.deferred.proofs.SlotsLaws.{Adding, adding_start, adding-end, adding-full, adding-turn}
+use Rattle.deferred.proofs.SlotsLaws.{Adding, adding_start, adding_end, adding_full, adding_turn}
 use Rattle.deferred.proofs.entry.add_slots.Statement.{statement}
 use Rattle.deferred.proofs.entry.add_slots.Tie as tie
 
@@ -31,7 +31,7 @@ same-length-2 : tie.Need-same-length-2 invariant-loop decreases-loop
 same-length-2 c = c.before.before.before.before.before.before.before.push-slot.auto.1.0 ∙ c.before.before.before.before.before.before.before.before.before.before.before.loop.invariant.slots_length
 
 returns : tie.Need-returns invariant-loop decreases-loop
-returns c = (adding-full _ _ _ _ _ _ _ _ _ _ _ c.before.before.before.before.before.before.before.before.before.before.before.loop.invariant c.before.before.before.before.before.before.before.before.before.before.loop-test.true _ _ _ c.before.before.before.before.before.before.before.push-slot.ensures c.before.m.given.1, λ sc i. tt)
+returns c = (adding_full _ _ _ _ _ _ _ _ _ _ _ c.before.before.before.before.before.before.before.before.before.before.before.loop.invariant c.before.before.before.before.before.before.before.before.before.before.loop-test.true _ _ _ c.before.before.before.before.before.before.before.push-slot.ensures c.before.m.given.1, λ sc i. tt)
 
 enum-known-y : tie.Need-enum-known-y invariant-loop decreases-loop
 enum-known-y c = search rules
@@ -43,7 +43,7 @@ loop-less : tie.Need-loop-smaller invariant-loop decreases-loop
 loop-less c = omega (arith, c.before.before.before.before.before.before.before.before.before.before.loop-test.true)
 
 loop-again : tie.Need-loop-preserved invariant-loop decreases-loop
-loop-again c = adding-turn _ _ _ _ _ _ _ _ _ _ _ c.before.before.before.before.before.before.before.before.before.before.before.loop.invariant c.before.before.before.before.before.before.before.before.before.before.loop-test.true _ _ _ c.before.before.before.before.before.before.before.push-slot.ensures c.before.y.given.1 c.before.before.before.before.before.before.before.push-slot.auto.0 c.before.before.before.before.before.before.before.push-slot.auto.1.0
+loop-again c = adding_turn _ _ _ _ _ _ _ _ _ _ _ c.before.before.before.before.before.before.before.before.before.before.before.loop.invariant c.before.before.before.before.before.before.before.before.before.before.loop-test.true _ _ _ c.before.before.before.before.before.before.before.push-slot.ensures c.before.y.given.1 c.before.before.before.before.before.before.before.push-slot.auto.0 c.before.before.before.before.before.before.before.push-slot.auto.1.0
 
 same-length-3 : tie.Need-same-length-3 invariant-loop decreases-loop
 same-length-3 c = c.before.loop.invariant.objects_length
@@ -52,7 +52,7 @@ same-length-4 : tie.Need-same-length-4 invariant-loop decreases-loop
 same-length-4 c = c.before.loop.invariant.slots_length
 
 returns-2 : tie.Need-returns-2 invariant-loop decreases-loop
-returns-2 c = let w = c.before.loop.invariant in (adding-end _ _ _ _ _ _ _ _ _ _ _ w c.loop-test.false, w.right)
+returns-2 c = let w = c.before.loop.invariant in (adding_end _ _ _ _ _ _ _ _ _ _ _ w c.loop-test.false, w.right)
 
 pub add-slots-spec : {M : Type 1} → statement M
 add-slots-spec =

@@ -1,4 +1,4 @@
-use Rattle.deferred.proofs.SlotsLaws.{not_skip, skip_count, one_word, many-words}
+use Rattle.deferred.proofs.SlotsLaws.{not_skip, skip_count, one_word, many_words}
 use native.Mathlib.Omega.{arith}
 use mathlib.Core.Path.{◌∙◌}
 use borrow.Author.Rules.{rules}
@@ -18,7 +18,7 @@ returns-2 : tie.Need-returns-2
 returns-2 c = λ x e. one_word x c.before.before.before.args.v c.before.before.before.args.word e c.before.before.width.result c.before.before.width.ensures (not_skip c.before.before.before.args.v c.before.match.keys2) c.if1.true
 
 returns-3 : tie.Need-returns-3
-returns-3 c = λ x e. many-words x c.before.before.before.args.v c.before.before.before.args.word e c.before.before.width.result c.before.before.width.ensures (not_skip c.before.before.before.args.v c.before.match.keys2) c.if1.false
+returns-3 c = λ x e. many_words x c.before.before.before.args.v c.before.before.before.args.word e c.before.before.width.result c.before.before.width.ensures (not_skip c.before.before.before.args.v c.before.match.keys2) c.if1.false
 
 pub entry-count-spec : {M : Type 1} → statement M
 entry-count-spec = tie.close (tie.spec width-requires enum_told returns returns-2 returns-3)

@@ -5,11 +5,11 @@ use mathlib.Core.Path.{◌≡◌}
 use Prim.Native.Nat.{◌-◌}
 use lib.ListN.{length, take}
 use Rattle.readers.specs.Views.{input, mem}
-use Rattle.readers.proofs.ViewLaws.{seen-got, seen_no, went_on, went-no}
+use Rattle.readers.proofs.ViewLaws.{seen_got, seen_no, went_on, went_no}
 use Rattle.laws.specs.Keeps.{word_low}
 use Rattle.walker.specs.Ready.{lent}
 use Rattle.walker.proofs.ReadyLaws.{out_index}
-use Rattle.deferred.proofs.EntryLaws.{Loop, loop_start, loop_end, loop-no, slots-ask, width_low, loop-full, loop-reads, loop-turn, word_fits, went_pending, item_is, count_low}
+use Rattle.deferred.proofs.EntryLaws.{Loop, loop_start, loop_end, loop_no, slots_ask, width_low, loop_full, loop_reads, loop_turn, word_fits, went_pending, item_is, count_low}
 use Rattle.deferred.proofs.entry.entry_items.Statement.{statement}
 use Rattle.deferred.proofs.entry.entry_items.Tie as tie
 
@@ -50,7 +50,7 @@ same-length-5 : tie.Need-same-length-5 invariant-loop decreases-loop
 same-length-5 c = c.before.before.before.before.before.before.before.before.before.before.before.before.before.parse-ref.auto.1.1.1.1.1.1.1.1.1.1.1.0 ∙ c.before.before.before.before.before.before.before.before.before.before.before.before.before.before.before.before.before.before.before.before.before.before.before.loop.invariant.1
 
 returns : tie.Need-returns invariant-loop decreases-loop
-returns c = let w = c.before.before.before.before.before.before.before.before.before.before.before.before.before.before.before.before.before.before.before.before.before.before.before.loop in let y = c.before.before.before.before.before.before.before.before.before.before.before.before.before.before.before.before.before.before.before.before.before.before.before.before.before.before.before.before.before.before.before.before.before.before.before.requires.1.0 in (loop-no _ _ y _ _ _ _ _ w.invariant.0 c.before.before.before.before.before.before.before.before.before.before.before.before.before.before.before.before.before.before.before.before.before.before.loop-test.true (seen_no _ c.before.m.given.1 c.before.before.before.before.before.before.before.before.before.before.before.before.before.parse-ref.ensures.0), tt)
+returns c = let w = c.before.before.before.before.before.before.before.before.before.before.before.before.before.before.before.before.before.before.before.before.before.before.before.loop in let y = c.before.before.before.before.before.before.before.before.before.before.before.before.before.before.before.before.before.before.before.before.before.before.before.before.before.before.before.before.before.before.before.before.before.before.before.requires.1.0 in (loop_no _ _ y _ _ _ _ _ w.invariant.0 c.before.before.before.before.before.before.before.before.before.before.before.before.before.before.before.before.before.before.before.before.before.before.loop-test.true (seen_no _ c.before.m.given.1 c.before.before.before.before.before.before.before.before.before.before.before.before.before.parse-ref.ensures.0), tt)
 
 enum-known-x : tie.Need-enum-known-x invariant-loop decreases-loop
 enum-known-x c = search rules
@@ -62,7 +62,7 @@ entry-fields-requires : tie.Need-entry-fields-requires invariant-loop decreases-
 entry-fields-requires c κs = tt
 
 add-slots-requires : tie.Need-add-slots-requires invariant-loop decreases-loop
-add-slots-requires c κs = let w = c.before.before.before.before.before.before.before.before.before.before.before.before.before.before.before.before.before.before.before.before.before.before.before.before.before.before.before.before.loop in let y = c.before.before.before.before.before.before.before.before.before.before.before.before.before.before.before.before.before.before.before.before.before.before.before.before.before.before.before.before.before.before.before.before.before.before.before.before.before.before.before.before.requires.1.0 in let r = c.before.before.before.before.before.before.before.before.before.before.before.before.before.before.before.before.before.before.parse-ref in let g = c.before.before.before.before.before.before.x.given in let e = seen-got _ g.1 r.ensures.0 in slots-ask _ _ y _ _ _ _ _ w.invariant.0 c.before.before.before.before.before.before.before.before.before.before.before.before.before.before.before.before.before.before.before.before.before.before.before.before.before.before.before.loop-test.true e (omega (arith, c.before.before.before.before.before.before.before.before.before.before.before.before.before.before.before.before.before.before.before.before.before.before.before.before.before.before.before.before.before.before.before.before.before.before.before.before.before.before.before.before.well-formed.1.1.1.1.1.0.0, w.invariant.0.onward.slots_size))
+add-slots-requires c κs = let w = c.before.before.before.before.before.before.before.before.before.before.before.before.before.before.before.before.before.before.before.before.before.before.before.before.before.before.before.before.loop in let y = c.before.before.before.before.before.before.before.before.before.before.before.before.before.before.before.before.before.before.before.before.before.before.before.before.before.before.before.before.before.before.before.before.before.before.before.before.before.before.before.before.requires.1.0 in let r = c.before.before.before.before.before.before.before.before.before.before.before.before.before.before.before.before.before.before.parse-ref in let g = c.before.before.before.before.before.before.x.given in let e = seen_got _ g.1 r.ensures.0 in slots_ask _ _ y _ _ _ _ _ w.invariant.0 c.before.before.before.before.before.before.before.before.before.before.before.before.before.before.before.before.before.before.before.before.before.before.before.before.before.before.before.loop-test.true e (omega (arith, c.before.before.before.before.before.before.before.before.before.before.before.before.before.before.before.before.before.before.before.before.before.before.before.before.before.before.before.before.before.before.before.before.before.before.before.before.before.before.before.before.well-formed.1.1.1.1.1.0.0, w.invariant.0.onward.slots_size))
 
 enum-known-m-2 : tie.Need-enum-known-m-2 invariant-loop decreases-loop
 enum-known-m-2 c = search rules
@@ -83,25 +83,25 @@ same-length-10 : tie.Need-same-length-10 invariant-loop decreases-loop
 same-length-10 c = c.before.before.before.before.before.before.before.before.before.before.before.before.before.before.before.before.before.before.before.before.before.before.before.before.before.before.parse-ref.auto.1.1.1.1.1.1.1.1.1.1.1.0 ∙ c.before.before.before.before.before.before.before.before.before.before.before.before.before.before.before.before.before.before.before.before.before.before.before.before.before.before.before.before.before.before.before.before.before.before.before.before.loop.invariant.1
 
 returns-2 : tie.Need-returns-2 invariant-loop decreases-loop
-returns-2 c = let w = c.before.before.before.before.before.before.before.before.before.before.before.before.before.before.before.before.before.before.before.before.before.before.before.before.before.before.before.before.before.before.before.before.before.before.before.before.loop in let y = c.before.before.before.before.before.before.before.before.before.before.before.before.before.before.before.before.before.before.before.before.before.before.before.before.before.before.before.before.before.before.before.before.before.before.before.before.before.before.before.before.before.before.before.before.before.before.before.before.requires.1.0 in let r = c.before.before.before.before.before.before.before.before.before.before.before.before.before.before.before.before.before.before.before.before.before.before.before.before.before.before.parse-ref in let g = c.before.before.before.before.before.before.before.before.before.before.before.before.before.before.x.given in let e = seen-got _ g.1 r.ensures.0 in let a = c.before.before.before.before.before.before.before.before.before.before.before.before.before.before.before.before.before.before.before.before.before.before.before.before.before.before.before.before.before.before.before.before.before.before.before.before.before.before.before.before.before.before.before.before.before.before.before.before.args in let x = input a.v.now a.p.now a.k a.tr.now in let l = (lent r.new.1.1.1.1.0 r.new.1.1.1.1.1.0 r.new.1.1.1.1.1.1.0 r.new.1.1.1.1.1.1.1.0 r.new.1.1.1.1.1.1.1.1.0 r.new.1.1.1.1.1.1.1.1.1.0 r.new.1.1.1.1.1.1.1.1.1.1.0) in let n = c.before.before.before.before.before.before.before.before.before.before.before.before.entry-slots.ensures x (sym c.before.before.before.before.before.before.before.before.before.before.before.before.before.before.before.before.before.before.before.before.before.before.before.before.before.before.before.before.before.before.before.before.before.before.before.before.before.before.before.word_Bytes.ensures.0) in let f = item_is x a.o w.index g.0.0 (mem g.0.1.0 l) (c.before.before.before.before.before.before.before.before.entry-fields.ensures g.0.1.0.values) n (went-no _ c.before.m2.given.1 (c.before.before.before.before.before.before.before.add-slots.ensures.0 l)) in (loop-full _ _ y _ _ _ _ _ w.invariant.0 c.before.before.before.before.before.before.before.before.before.before.before.before.before.before.before.before.before.before.before.before.before.before.before.before.before.before.before.before.before.before.before.before.before.before.before.loop-test.true e f, tt)
+returns-2 c = let w = c.before.before.before.before.before.before.before.before.before.before.before.before.before.before.before.before.before.before.before.before.before.before.before.before.before.before.before.before.before.before.before.before.before.before.before.before.loop in let y = c.before.before.before.before.before.before.before.before.before.before.before.before.before.before.before.before.before.before.before.before.before.before.before.before.before.before.before.before.before.before.before.before.before.before.before.before.before.before.before.before.before.before.before.before.before.before.before.before.requires.1.0 in let r = c.before.before.before.before.before.before.before.before.before.before.before.before.before.before.before.before.before.before.before.before.before.before.before.before.before.before.parse-ref in let g = c.before.before.before.before.before.before.before.before.before.before.before.before.before.before.x.given in let e = seen_got _ g.1 r.ensures.0 in let a = c.before.before.before.before.before.before.before.before.before.before.before.before.before.before.before.before.before.before.before.before.before.before.before.before.before.before.before.before.before.before.before.before.before.before.before.before.before.before.before.before.before.before.before.before.before.before.before.before.args in let x = input a.v.now a.p.now a.k a.tr.now in let l = (lent r.new.1.1.1.1.0 r.new.1.1.1.1.1.0 r.new.1.1.1.1.1.1.0 r.new.1.1.1.1.1.1.1.0 r.new.1.1.1.1.1.1.1.1.0 r.new.1.1.1.1.1.1.1.1.1.0 r.new.1.1.1.1.1.1.1.1.1.1.0) in let n = c.before.before.before.before.before.before.before.before.before.before.before.before.entry-slots.ensures x (sym c.before.before.before.before.before.before.before.before.before.before.before.before.before.before.before.before.before.before.before.before.before.before.before.before.before.before.before.before.before.before.before.before.before.before.before.before.before.before.before.word_Bytes.ensures.0) in let f = item_is x a.o w.index g.0.0 (mem g.0.1.0 l) (c.before.before.before.before.before.before.before.before.entry-fields.ensures g.0.1.0.values) n (went_no _ c.before.m2.given.1 (c.before.before.before.before.before.before.before.add-slots.ensures.0 l)) in (loop_full _ _ y _ _ _ _ _ w.invariant.0 c.before.before.before.before.before.before.before.before.before.before.before.before.before.before.before.before.before.before.before.before.before.before.before.before.before.before.before.before.before.before.before.before.before.before.before.loop-test.true e f, tt)
 
 enum-known-w : tie.Need-enum-known-w invariant-loop decreases-loop
 enum-known-w c = search rules
 
 add-index : tie.Need-overflow-add-index invariant-loop decreases-loop
-add-index c = let w = c.before.before.before.before.before.before.before.before.before.before.before.before.before.before.before.before.before.before.before.before.before.before.before.before.before.before.before.before.before.before.before.before.before.before.before.before.loop in let y = c.before.before.before.before.before.before.before.before.before.before.before.before.before.before.before.before.before.before.before.before.before.before.before.before.before.before.before.before.before.before.before.before.before.before.before.before.before.before.before.before.before.before.before.before.before.before.before.before.requires.1.0 in let r = c.before.before.before.before.before.before.before.before.before.before.before.before.before.before.before.before.before.before.before.before.before.before.before.before.before.before.parse-ref in let g = c.before.before.before.before.before.before.before.before.before.before.before.before.before.before.x.given in let e = seen-got _ g.1 r.ensures.0 in let a = c.before.before.before.before.before.before.before.before.before.before.before.before.before.before.before.before.before.before.before.before.before.before.before.before.before.before.before.before.before.before.before.before.before.before.before.before.before.before.before.before.before.before.before.before.before.before.before.before.args in let x = input a.v.now a.p.now a.k a.tr.now in let l = (lent r.new.1.1.1.1.0 r.new.1.1.1.1.1.0 r.new.1.1.1.1.1.1.0 r.new.1.1.1.1.1.1.1.0 r.new.1.1.1.1.1.1.1.1.0 r.new.1.1.1.1.1.1.1.1.1.0 r.new.1.1.1.1.1.1.1.1.1.1.0) in let n = c.before.before.before.before.before.before.before.before.before.before.before.before.entry-slots.ensures x (sym c.before.before.before.before.before.before.before.before.before.before.before.before.before.before.before.before.before.before.before.before.before.before.before.before.before.before.before.before.before.before.before.before.before.before.before.before.before.before.before.word_Bytes.ensures.0) in let f = item_is x a.o w.index g.0.0 (mem g.0.1.0 l) (c.before.before.before.before.before.before.before.before.entry-fields.ensures g.0.1.0.values) n (went_on _ c.before.w.given.1 (c.before.before.before.before.before.before.before.add-slots.ensures.0 l)) in let i = out_index _ (seen-got l g.1 refl) r.ensures.1 in let j = went_pending _ _ c.before.w.given.1 (c.before.before.before.before.before.before.before.add-slots.ensures.1 (take (length a.p.now) r.new.1.1.1.1.1.1.1.1.1.1.1.0) i.pending) in let z = loop-turn _ _ y _ _ _ _ _ w.invariant.0 c.before.before.before.before.before.before.before.before.before.before.before.before.before.before.before.before.before.before.before.before.before.before.before.before.before.before.before.before.before.before.before.before.before.before.before.loop-test.true e i f j in omega (arith, n, z.place, z.ready.sound.slots_fit, z.onward.slots_size, c.before.before.before.before.before.before.before.before.before.before.before.before.before.before.before.before.before.before.before.before.before.before.before.before.before.before.before.before.before.before.before.before.before.before.before.before.before.before.before.before.before.before.before.before.before.before.before.before.well-formed.1.1.1.1.1.0.0)
+add-index c = let w = c.before.before.before.before.before.before.before.before.before.before.before.before.before.before.before.before.before.before.before.before.before.before.before.before.before.before.before.before.before.before.before.before.before.before.before.before.loop in let y = c.before.before.before.before.before.before.before.before.before.before.before.before.before.before.before.before.before.before.before.before.before.before.before.before.before.before.before.before.before.before.before.before.before.before.before.before.before.before.before.before.before.before.before.before.before.before.before.before.requires.1.0 in let r = c.before.before.before.before.before.before.before.before.before.before.before.before.before.before.before.before.before.before.before.before.before.before.before.before.before.before.parse-ref in let g = c.before.before.before.before.before.before.before.before.before.before.before.before.before.before.x.given in let e = seen_got _ g.1 r.ensures.0 in let a = c.before.before.before.before.before.before.before.before.before.before.before.before.before.before.before.before.before.before.before.before.before.before.before.before.before.before.before.before.before.before.before.before.before.before.before.before.before.before.before.before.before.before.before.before.before.before.before.before.args in let x = input a.v.now a.p.now a.k a.tr.now in let l = (lent r.new.1.1.1.1.0 r.new.1.1.1.1.1.0 r.new.1.1.1.1.1.1.0 r.new.1.1.1.1.1.1.1.0 r.new.1.1.1.1.1.1.1.1.0 r.new.1.1.1.1.1.1.1.1.1.0 r.new.1.1.1.1.1.1.1.1.1.1.0) in let n = c.before.before.before.before.before.before.before.before.before.before.before.before.entry-slots.ensures x (sym c.before.before.before.before.before.before.before.before.before.before.before.before.before.before.before.before.before.before.before.before.before.before.before.before.before.before.before.before.before.before.before.before.before.before.before.before.before.before.before.word_Bytes.ensures.0) in let f = item_is x a.o w.index g.0.0 (mem g.0.1.0 l) (c.before.before.before.before.before.before.before.before.entry-fields.ensures g.0.1.0.values) n (went_on _ c.before.w.given.1 (c.before.before.before.before.before.before.before.add-slots.ensures.0 l)) in let i = out_index _ (seen_got l g.1 refl) r.ensures.1 in let j = went_pending _ _ c.before.w.given.1 (c.before.before.before.before.before.before.before.add-slots.ensures.1 (take (length a.p.now) r.new.1.1.1.1.1.1.1.1.1.1.1.0) i.pending) in let z = loop_turn _ _ y _ _ _ _ _ w.invariant.0 c.before.before.before.before.before.before.before.before.before.before.before.before.before.before.before.before.before.before.before.before.before.before.before.before.before.before.before.before.before.before.before.before.before.before.before.loop-test.true e i f j in omega (arith, n, z.place, z.ready.sound.slots_fit, z.onward.slots_size, c.before.before.before.before.before.before.before.before.before.before.before.before.before.before.before.before.before.before.before.before.before.before.before.before.before.before.before.before.before.before.before.before.before.before.before.before.before.before.before.before.before.before.before.before.before.before.before.before.well-formed.1.1.1.1.1.0.0)
 
 entry-count-requires : tie.Need-entry-count-requires invariant-loop decreases-loop
 entry-count-requires c κs = word_fits c.before.before.before.before.before.before.before.before.before.before.before.before.before.before.before.before.before.before.before.before.before.before.before.before.before.before.before.before.before.before.before.before.before.before.before.before.loop.invariant.0.ready _ c.before.before.before.before.before.before.before.before.before.before.before.before.before.before.before.before.before.before.before.before.before.before.before.before.before.before.before.before.before.before.before.before.before.before.before.before.before.before.before.word_Bytes.ensures.0
 
 add_done : tie.Need-overflow-add-done invariant-loop decreases-loop
-add_done c = let w = c.before.before.before.before.before.before.before.before.before.before.before.before.before.before.before.before.before.before.before.before.before.before.before.before.before.before.before.before.before.before.before.before.before.before.before.before.before.loop in let y = c.before.before.before.before.before.before.before.before.before.before.before.before.before.before.before.before.before.before.before.before.before.before.before.before.before.before.before.before.before.before.before.before.before.before.before.before.before.before.before.before.before.before.before.before.before.before.before.before.before.requires.1.0 in let r = c.before.before.before.before.before.before.before.before.before.before.before.before.before.before.before.before.before.before.before.before.before.before.before.before.before.before.before.parse-ref in let g = c.before.before.before.before.before.before.before.before.before.before.before.before.before.before.before.x.given in let e = seen-got _ g.1 r.ensures.0 in let a = c.before.before.before.before.before.before.before.before.before.before.before.before.before.before.before.before.before.before.before.before.before.before.before.before.before.before.before.before.before.before.before.before.before.before.before.before.before.before.before.before.before.before.before.before.before.before.before.before.before.args in let x = input a.v.now a.p.now a.k a.tr.now in let l = (lent r.new.1.1.1.1.0 r.new.1.1.1.1.1.0 r.new.1.1.1.1.1.1.0 r.new.1.1.1.1.1.1.1.0 r.new.1.1.1.1.1.1.1.1.0 r.new.1.1.1.1.1.1.1.1.1.0 r.new.1.1.1.1.1.1.1.1.1.1.0) in let n = c.before.before.before.before.before.before.before.before.before.before.before.before.before.entry-slots.ensures x (sym c.before.before.before.before.before.before.before.before.before.before.before.before.before.before.before.before.before.before.before.before.before.before.before.before.before.before.before.before.before.before.before.before.before.before.before.before.before.before.before.before.word_Bytes.ensures.0) in let k = c.entry-count.ensures x (sym c.before.before.before.before.before.before.before.before.before.before.before.before.before.before.before.before.before.before.before.before.before.before.before.before.before.before.before.before.before.before.before.before.before.before.before.before.before.before.before.before.word_Bytes.ensures.0) in let b = count_low x g.0.0 (word_low w.invariant.0.ready.proper) (width_low _ _ y _ _ _ _ _ w.invariant.0 c.before.before.before.before.before.before.before.before.before.before.before.before.before.before.before.before.before.before.before.before.before.before.before.before.before.before.before.before.before.before.before.before.before.before.before.before.loop-test.true e) in omega (arith, k, b, c.before.before.before.before.before.before.before.before.before.before.before.before.before.before.before.before.before.before.before.before.before.before.before.before.before.before.before.before.before.before.before.before.before.before.before.before.loop-test.true, c.before.before.before.before.before.before.before.before.before.before.before.before.before.before.before.before.before.before.before.before.before.before.before.before.before.before.before.before.before.before.before.before.before.before.before.before.before.before.before.before.before.before.before.before.before.before.before.before.before.requires.1.1)
+add_done c = let w = c.before.before.before.before.before.before.before.before.before.before.before.before.before.before.before.before.before.before.before.before.before.before.before.before.before.before.before.before.before.before.before.before.before.before.before.before.before.loop in let y = c.before.before.before.before.before.before.before.before.before.before.before.before.before.before.before.before.before.before.before.before.before.before.before.before.before.before.before.before.before.before.before.before.before.before.before.before.before.before.before.before.before.before.before.before.before.before.before.before.before.requires.1.0 in let r = c.before.before.before.before.before.before.before.before.before.before.before.before.before.before.before.before.before.before.before.before.before.before.before.before.before.before.before.parse-ref in let g = c.before.before.before.before.before.before.before.before.before.before.before.before.before.before.before.x.given in let e = seen_got _ g.1 r.ensures.0 in let a = c.before.before.before.before.before.before.before.before.before.before.before.before.before.before.before.before.before.before.before.before.before.before.before.before.before.before.before.before.before.before.before.before.before.before.before.before.before.before.before.before.before.before.before.before.before.before.before.before.before.args in let x = input a.v.now a.p.now a.k a.tr.now in let l = (lent r.new.1.1.1.1.0 r.new.1.1.1.1.1.0 r.new.1.1.1.1.1.1.0 r.new.1.1.1.1.1.1.1.0 r.new.1.1.1.1.1.1.1.1.0 r.new.1.1.1.1.1.1.1.1.1.0 r.new.1.1.1.1.1.1.1.1.1.1.0) in let n = c.before.before.before.before.before.before.before.before.before.before.before.before.before.entry-slots.ensures x (sym c.before.before.before.before.before.before.before.before.before.before.before.before.before.before.before.before.before.before.before.before.before.before.before.before.before.before.before.before.before.before.before.before.before.before.before.before.before.before.before.before.word_Bytes.ensures.0) in let k = c.entry-count.ensures x (sym c.before.before.before.before.before.before.before.before.before.before.before.before.before.before.before.before.before.before.before.before.before.before.before.before.before.before.before.before.before.before.before.before.before.before.before.before.before.before.before.before.word_Bytes.ensures.0) in let b = count_low x g.0.0 (word_low w.invariant.0.ready.proper) (width_low _ _ y _ _ _ _ _ w.invariant.0 c.before.before.before.before.before.before.before.before.before.before.before.before.before.before.before.before.before.before.before.before.before.before.before.before.before.before.before.before.before.before.before.before.before.before.before.before.loop-test.true e) in omega (arith, k, b, c.before.before.before.before.before.before.before.before.before.before.before.before.before.before.before.before.before.before.before.before.before.before.before.before.before.before.before.before.before.before.before.before.before.before.before.before.loop-test.true, c.before.before.before.before.before.before.before.before.before.before.before.before.before.before.before.before.before.before.before.before.before.before.before.before.before.before.before.before.before.before.before.before.before.before.before.before.before.before.before.before.before.before.before.before.before.before.before.before.before.requires.1.1)
 
 loop-less : tie.Need-loop-smaller invariant-loop decreases-loop
-loop-less c = let w = c.before.before.before.before.before.before.before.before.before.before.before.before.before.before.before.before.before.before.before.before.before.before.before.before.before.before.before.before.before.before.before.before.before.before.before.before.before.loop in let y = c.before.before.before.before.before.before.before.before.before.before.before.before.before.before.before.before.before.before.before.before.before.before.before.before.before.before.before.before.before.before.before.before.before.before.before.before.before.before.before.before.before.before.before.before.before.before.before.before.before.requires.1.0 in let r = c.before.before.before.before.before.before.before.before.before.before.before.before.before.before.before.before.before.before.before.before.before.before.before.before.before.before.before.parse-ref in let g = c.before.before.before.before.before.before.before.before.before.before.before.before.before.before.before.x.given in let e = seen-got _ g.1 r.ensures.0 in let a = c.before.before.before.before.before.before.before.before.before.before.before.before.before.before.before.before.before.before.before.before.before.before.before.before.before.before.before.before.before.before.before.before.before.before.before.before.before.before.before.before.before.before.before.before.before.before.before.before.before.args in let x = input a.v.now a.p.now a.k a.tr.now in let l = (lent r.new.1.1.1.1.0 r.new.1.1.1.1.1.0 r.new.1.1.1.1.1.1.0 r.new.1.1.1.1.1.1.1.0 r.new.1.1.1.1.1.1.1.1.0 r.new.1.1.1.1.1.1.1.1.1.0 r.new.1.1.1.1.1.1.1.1.1.1.0) in let n = c.before.before.before.before.before.before.before.before.before.before.before.before.before.entry-slots.ensures x (sym c.before.before.before.before.before.before.before.before.before.before.before.before.before.before.before.before.before.before.before.before.before.before.before.before.before.before.before.before.before.before.before.before.before.before.before.before.before.before.before.before.word_Bytes.ensures.0) in let f = item_is x a.o w.index g.0.0 (mem g.0.1.0 l) (c.before.before.before.before.before.before.before.before.before.entry-fields.ensures g.0.1.0.values) n (went_on _ c.before.before.w.given.1 (c.before.before.before.before.before.before.before.before.add-slots.ensures.0 l)) in let i = out_index _ (seen-got l g.1 refl) r.ensures.1 in let j = went_pending _ _ c.before.before.w.given.1 (c.before.before.before.before.before.before.before.before.add-slots.ensures.1 (take (length a.p.now) r.new.1.1.1.1.1.1.1.1.1.1.1.0) i.pending) in let z = loop-turn _ _ y _ _ _ _ _ w.invariant.0 c.before.before.before.before.before.before.before.before.before.before.before.before.before.before.before.before.before.before.before.before.before.before.before.before.before.before.before.before.before.before.before.before.before.before.before.before.loop-test.true e i f j in omega (arith, loop-reads _ _ y _ _ _ _ _ w.invariant.0 c.before.before.before.before.before.before.before.before.before.before.before.before.before.before.before.before.before.before.before.before.before.before.before.before.before.before.before.before.before.before.before.before.before.before.before.before.loop-test.true e i f, z.ready.sound.within)
+loop-less c = let w = c.before.before.before.before.before.before.before.before.before.before.before.before.before.before.before.before.before.before.before.before.before.before.before.before.before.before.before.before.before.before.before.before.before.before.before.before.before.loop in let y = c.before.before.before.before.before.before.before.before.before.before.before.before.before.before.before.before.before.before.before.before.before.before.before.before.before.before.before.before.before.before.before.before.before.before.before.before.before.before.before.before.before.before.before.before.before.before.before.before.before.requires.1.0 in let r = c.before.before.before.before.before.before.before.before.before.before.before.before.before.before.before.before.before.before.before.before.before.before.before.before.before.before.before.parse-ref in let g = c.before.before.before.before.before.before.before.before.before.before.before.before.before.before.before.x.given in let e = seen_got _ g.1 r.ensures.0 in let a = c.before.before.before.before.before.before.before.before.before.before.before.before.before.before.before.before.before.before.before.before.before.before.before.before.before.before.before.before.before.before.before.before.before.before.before.before.before.before.before.before.before.before.before.before.before.before.before.before.before.args in let x = input a.v.now a.p.now a.k a.tr.now in let l = (lent r.new.1.1.1.1.0 r.new.1.1.1.1.1.0 r.new.1.1.1.1.1.1.0 r.new.1.1.1.1.1.1.1.0 r.new.1.1.1.1.1.1.1.1.0 r.new.1.1.1.1.1.1.1.1.1.0 r.new.1.1.1.1.1.1.1.1.1.1.0) in let n = c.before.before.before.before.before.before.before.before.before.before.before.before.before.entry-slots.ensures x (sym c.before.before.before.before.before.before.before.before.before.before.before.before.before.before.before.before.before.before.before.before.before.before.before.before.before.before.before.before.before.before.before.before.before.before.before.before.before.before.before.before.word_Bytes.ensures.0) in let f = item_is x a.o w.index g.0.0 (mem g.0.1.0 l) (c.before.before.before.before.before.before.before.before.before.entry-fields.ensures g.0.1.0.values) n (went_on _ c.before.before.w.given.1 (c.before.before.before.before.before.before.before.before.add-slots.ensures.0 l)) in let i = out_index _ (seen_got l g.1 refl) r.ensures.1 in let j = went_pending _ _ c.before.before.w.given.1 (c.before.before.before.before.before.before.before.before.add-slots.ensures.1 (take (length a.p.now) r.new.1.1.1.1.1.1.1.1.1.1.1.0) i.pending) in let z = loop_turn _ _ y _ _ _ _ _ w.invariant.0 c.before.before.before.before.before.before.before.before.before.before.before.before.before.before.before.before.before.before.before.before.before.before.before.before.before.before.before.before.before.before.before.before.before.before.before.before.loop-test.true e i f j in omega (arith, loop_reads _ _ y _ _ _ _ _ w.invariant.0 c.before.before.before.before.before.before.before.before.before.before.before.before.before.before.before.before.before.before.before.before.before.before.before.before.before.before.before.before.before.before.before.before.before.before.before.before.loop-test.true e i f, z.ready.sound.within)
 
 loop-again : tie.Need-loop-preserved invariant-loop decreases-loop
-loop-again c = let w = c.before.before.before.before.before.before.before.before.before.before.before.before.before.before.before.before.before.before.before.before.before.before.before.before.before.before.before.before.before.before.before.before.before.before.before.before.before.loop in let y = c.before.before.before.before.before.before.before.before.before.before.before.before.before.before.before.before.before.before.before.before.before.before.before.before.before.before.before.before.before.before.before.before.before.before.before.before.before.before.before.before.before.before.before.before.before.before.before.before.before.requires.1.0 in let r = c.before.before.before.before.before.before.before.before.before.before.before.before.before.before.before.before.before.before.before.before.before.before.before.before.before.before.before.parse-ref in let g = c.before.before.before.before.before.before.before.before.before.before.before.before.before.before.before.x.given in let e = seen-got _ g.1 r.ensures.0 in let a = c.before.before.before.before.before.before.before.before.before.before.before.before.before.before.before.before.before.before.before.before.before.before.before.before.before.before.before.before.before.before.before.before.before.before.before.before.before.before.before.before.before.before.before.before.before.before.before.before.before.args in let x = input a.v.now a.p.now a.k a.tr.now in let l = (lent r.new.1.1.1.1.0 r.new.1.1.1.1.1.0 r.new.1.1.1.1.1.1.0 r.new.1.1.1.1.1.1.1.0 r.new.1.1.1.1.1.1.1.1.0 r.new.1.1.1.1.1.1.1.1.1.0 r.new.1.1.1.1.1.1.1.1.1.1.0) in let n = c.before.before.before.before.before.before.before.before.before.before.before.before.before.entry-slots.ensures x (sym c.before.before.before.before.before.before.before.before.before.before.before.before.before.before.before.before.before.before.before.before.before.before.before.before.before.before.before.before.before.before.before.before.before.before.before.before.before.before.before.before.word_Bytes.ensures.0) in let f = item_is x a.o w.index g.0.0 (mem g.0.1.0 l) (c.before.before.before.before.before.before.before.before.before.entry-fields.ensures g.0.1.0.values) n (went_on _ c.before.before.w.given.1 (c.before.before.before.before.before.before.before.before.add-slots.ensures.0 l)) in let i = out_index _ (seen-got l g.1 refl) r.ensures.1 in let j = went_pending _ _ c.before.before.w.given.1 (c.before.before.before.before.before.before.before.before.add-slots.ensures.1 (take (length a.p.now) r.new.1.1.1.1.1.1.1.1.1.1.1.0) i.pending) in let z = loop-turn _ _ y _ _ _ _ _ w.invariant.0 c.before.before.before.before.before.before.before.before.before.before.before.before.before.before.before.before.before.before.before.before.before.before.before.before.before.before.before.before.before.before.before.before.before.before.before.before.loop-test.true e i f j in let k = c.entry-count.ensures x (sym c.before.before.before.before.before.before.before.before.before.before.before.before.before.before.before.before.before.before.before.before.before.before.before.before.before.before.before.before.before.before.before.before.before.before.before.before.before.before.before.before.word_Bytes.ensures.0) in (rw (n, k) z, c.before.before.before.before.before.before.before.before.before.before.before.before.before.before.before.before.before.before.before.before.before.before.before.before.before.before.before.parse-ref.auto.1.1.1.1.1.1.1.1.1.1.1.0 ∙ c.before.before.before.before.before.before.before.before.before.before.before.before.before.before.before.before.before.before.before.before.before.before.before.before.before.before.before.before.before.before.before.before.before.before.before.before.before.loop.invariant.1)
+loop-again c = let w = c.before.before.before.before.before.before.before.before.before.before.before.before.before.before.before.before.before.before.before.before.before.before.before.before.before.before.before.before.before.before.before.before.before.before.before.before.before.loop in let y = c.before.before.before.before.before.before.before.before.before.before.before.before.before.before.before.before.before.before.before.before.before.before.before.before.before.before.before.before.before.before.before.before.before.before.before.before.before.before.before.before.before.before.before.before.before.before.before.before.before.requires.1.0 in let r = c.before.before.before.before.before.before.before.before.before.before.before.before.before.before.before.before.before.before.before.before.before.before.before.before.before.before.before.parse-ref in let g = c.before.before.before.before.before.before.before.before.before.before.before.before.before.before.before.x.given in let e = seen_got _ g.1 r.ensures.0 in let a = c.before.before.before.before.before.before.before.before.before.before.before.before.before.before.before.before.before.before.before.before.before.before.before.before.before.before.before.before.before.before.before.before.before.before.before.before.before.before.before.before.before.before.before.before.before.before.before.before.before.args in let x = input a.v.now a.p.now a.k a.tr.now in let l = (lent r.new.1.1.1.1.0 r.new.1.1.1.1.1.0 r.new.1.1.1.1.1.1.0 r.new.1.1.1.1.1.1.1.0 r.new.1.1.1.1.1.1.1.1.0 r.new.1.1.1.1.1.1.1.1.1.0 r.new.1.1.1.1.1.1.1.1.1.1.0) in let n = c.before.before.before.before.before.before.before.before.before.before.before.before.before.entry-slots.ensures x (sym c.before.before.before.before.before.before.before.before.before.before.before.before.before.before.before.before.before.before.before.before.before.before.before.before.before.before.before.before.before.before.before.before.before.before.before.before.before.before.before.before.word_Bytes.ensures.0) in let f = item_is x a.o w.index g.0.0 (mem g.0.1.0 l) (c.before.before.before.before.before.before.before.before.before.entry-fields.ensures g.0.1.0.values) n (went_on _ c.before.before.w.given.1 (c.before.before.before.before.before.before.before.before.add-slots.ensures.0 l)) in let i = out_index _ (seen_got l g.1 refl) r.ensures.1 in let j = went_pending _ _ c.before.before.w.given.1 (c.before.before.before.before.before.before.before.before.add-slots.ensures.1 (take (length a.p.now) r.new.1.1.1.1.1.1.1.1.1.1.1.0) i.pending) in let z = loop_turn _ _ y _ _ _ _ _ w.invariant.0 c.before.before.before.before.before.before.before.before.before.before.before.before.before.before.before.before.before.before.before.before.before.before.before.before.before.before.before.before.before.before.before.before.before.before.before.before.loop-test.true e i f j in let k = c.entry-count.ensures x (sym c.before.before.before.before.before.before.before.before.before.before.before.before.before.before.before.before.before.before.before.before.before.before.before.before.before.before.before.before.before.before.before.before.before.before.before.before.before.before.before.before.word_Bytes.ensures.0) in (rw (n, k) z, c.before.before.before.before.before.before.before.before.before.before.before.before.before.before.before.before.before.before.before.before.before.before.before.before.before.before.before.parse-ref.auto.1.1.1.1.1.1.1.1.1.1.1.0 ∙ c.before.before.before.before.before.before.before.before.before.before.before.before.before.before.before.before.before.before.before.before.before.before.before.before.before.before.before.before.before.before.before.before.before.before.before.before.before.loop.invariant.1)
 
 same-length-11 : tie.Need-same-length-11 invariant-loop decreases-loop
 same-length-11 c = c.before.loop.invariant.0.onward.objects_size

@@ -3,8 +3,8 @@ use mathlib.Core.Path.{◌≡◌, ap}
 use Rattle.definition.specs.Memory.{Table}
 use mathlib.Core.Path.{refl, sym, ◌∙◌}
 use Rattle.readers.specs.Views.{Lent, input, mem, addresses_is, hot_is}
-use Rattle.readers.proofs.ViewLaws.{count_is, count_no, seen-got, seen_no, nothing}
-use Rattle.deferred.proofs.EntryLaws.{byte_addresses, object_cut, object_no, object-named, object-other}
+use Rattle.readers.proofs.ViewLaws.{count_is, count_no, seen_got, seen_no, nothing}
+use Rattle.deferred.proofs.EntryLaws.{byte_addresses, object_cut, object_no, object_named, object-other}
 use borrow.Author.Rules.{rules}
 use Rattle.deferred.proofs.entry.entry_object.Statement.{statement}
 use Rattle.deferred.proofs.entry.entry_object.Tie as tie
@@ -40,10 +40,10 @@ returns-2 : tie.Need-returns-2
 returns-2 c = λ tr sp l. object_no _ _ _ (count_is _ c.before.before.before.before.before.before.t.given.1 (c.before.before.before.before.before.before.before.before.read_byte.ensures.0 _ tr sp _)) (seen_no _ c.before.n2.given.1 (c.before.before.before.legacy-ref.ensures tr sp l))
 
 returns-3 : tie.Need-returns-3
-returns-3 c = λ tr sp l. object-named _ _ _ (count_is _ c.before.before.before.before.before.before.before.before.before.t.given.1 (c.before.before.before.before.before.before.before.before.before.before.before.read_byte.ensures.0 _ tr sp _)) (seen-got _ c.before.before.before.before.x.given.1 (c.before.before.before.before.before.before.legacy-ref.ensures tr sp l)) c.before.before.fields-of.ensures c.if1.true
+returns-3 c = λ tr sp l. object_named _ _ _ (count_is _ c.before.before.before.before.before.before.before.before.before.t.given.1 (c.before.before.before.before.before.before.before.before.before.before.before.read_byte.ensures.0 _ tr sp _)) (seen_got _ c.before.before.before.before.x.given.1 (c.before.before.before.before.before.before.legacy-ref.ensures tr sp l)) c.before.before.fields-of.ensures c.if1.true
 
 returns-4 : tie.Need-returns-4
-returns-4 c = λ tr sp l. object-other _ _ _ (count_is _ c.before.before.before.before.before.before.before.before.before.t.given.1 (c.before.before.before.before.before.before.before.before.before.before.before.read_byte.ensures.0 _ tr sp _)) (seen-got _ c.before.before.before.before.x.given.1 (c.before.before.before.before.before.before.legacy-ref.ensures tr sp l)) c.before.before.fields-of.ensures c.if1.false
+returns-4 c = λ tr sp l. object-other _ _ _ (count_is _ c.before.before.before.before.before.before.before.before.before.t.given.1 (c.before.before.before.before.before.before.before.before.before.before.before.read_byte.ensures.0 _ tr sp _)) (seen_got _ c.before.before.before.before.x.given.1 (c.before.before.before.before.before.before.legacy-ref.ensures tr sp l)) c.before.before.fields-of.ensures c.if1.false
 
 pub entry-object-spec : {M : Type 1} → statement M
 entry-object-spec =

@@ -1,4 +1,4 @@
-use Rattle.deferred.proofs.SlotsLaws.{not_skip, skip_slots, one-slot, many-slots}
+use Rattle.deferred.proofs.SlotsLaws.{not_skip, skip_slots, one_slot, many_slots}
 use native.Mathlib.Omega.{arith}
 use mathlib.Core.Path.{◌∙◌}
 use borrow.Author.Rules.{rules}
@@ -18,10 +18,10 @@ div-n : tie.Need-nonzero-div-n
 div-n c = search rules
 
 returns-2 : tie.Need-returns-2
-returns-2 c = λ x e. one-slot x c.before.before.before.args.v c.before.before.before.args.word e c.before.width.result c.before.width.ensures (not_skip c.before.before.before.args.v c.before.before.match.keys2) c.if1.true
+returns-2 c = λ x e. one_slot x c.before.before.before.args.v c.before.before.before.args.word e c.before.width.result c.before.width.ensures (not_skip c.before.before.before.args.v c.before.before.match.keys2) c.if1.true
 
 returns-3 : tie.Need-returns-3
-returns-3 c = λ x e. many-slots x c.before.before.before.args.v c.before.before.before.args.word e c.before.width.result c.before.width.ensures (not_skip c.before.before.before.args.v c.before.before.match.keys2) c.if1.false
+returns-3 c = λ x e. many_slots x c.before.before.before.args.v c.before.before.before.args.word e c.before.width.result c.before.width.ensures (not_skip c.before.before.before.args.v c.before.before.match.keys2) c.if1.false
 
 pub entry-slots-spec : {M : Type 1} → statement M
 entry-slots-spec = tie.close (tie.spec enum_told returns width-requires div-n returns-2 returns-3)

@@ -1,7 +1,7 @@
 use native.Mathlib.Omega.{arith}
 use mathlib.Core.Path.{refl, sym, ◌∙◌}
 use Rattle.readers.specs.Views.{input, mem}
-use Rattle.readers.proofs.ViewLaws.{went_on, went-no}
+use Rattle.readers.proofs.ViewLaws.{went_on, went_no}
 use Rattle.walker.specs.Ready.{lent}
 use Rattle.graph.proofs.ClosingLaws.{closing_no, closing_on}
 use borrow.Author.Rules.{rules}
@@ -36,7 +36,7 @@ same-length-5 : tie.Need-same-length-5
 same-length-5 c = search rules
 
 returns : tie.Need-returns
-returns c = let a = c.before.before.before.before.before.before.before.before.before.before.before.before.before.before.before.before.before.before.before.before.before.before.before.before.before.before.before.before.before.before.args in closing_no (input a.v.now a.p.now a.k a.tr.now) (mem a.s (lent a.ot.now a.st.now a.vt.now a.dt.now a.hr.now a.c.now a.u.now)) (went-no _ c.before.n.given.1 c.before.before.before.before.before.before.before.before.before.before.before.before.before.entries.ensures)
+returns c = let a = c.before.before.before.before.before.before.before.before.before.before.before.before.before.before.before.before.before.before.before.before.before.before.before.before.before.before.before.before.before.before.args in closing_no (input a.v.now a.p.now a.k a.tr.now) (mem a.s (lent a.ot.now a.st.now a.vt.now a.dt.now a.hr.now a.c.now a.u.now)) (went_no _ c.before.n.given.1 c.before.before.before.before.before.before.before.before.before.before.before.before.before.entries.ensures)
 
 same-length-6 : tie.Need-same-length-6
 same-length-6 c = search rules

@@ -4,7 +4,7 @@ use borrow.Author.Tests.{not-false}
 use Rattle.definition.specs.Object.{object}
 use Rattle.definition.specs.Reference.{ref_at}
 use Rattle.readers.specs.Views.{input, mem}
-use Rattle.readers.proofs.ViewLaws.{seen-got, seen_no}
+use Rattle.readers.proofs.ViewLaws.{seen_got, seen_no}
 use Rattle.levels.specs.declared.level.Level.{Level}
 use Rattle.levels.proofs.LevelLaws.{opens}
 use Rattle.walker.specs.Ready.{lent}
@@ -62,7 +62,7 @@ same-length-10 : tie.Need-same-length-10
 same-length-10 c = search rules
 
 returns-2 : tie.Need-returns-2
-returns-2 c = let a = c.before.before.before.before.before.before.before.before.before.before.before.before.before.before.before.before.before.before.before.before.before.before.before.before.before.before.before.before.before.before.before.before.args in (drop_got (input a.v.now a.p.now a.k a.tr.now) (mem a.s (lent a.ot.now a.st.now a.vt.now a.dt.now a.hr.now a.c.now a.u.now)) _ _ (seen-got _ c.before.y.given.1 c.before.before.before.before.before.before.before.before.before.before.before.before.before.parse-ref.ensures.0), out_index _ (seen-got (lent _ _ _ _ _ _ _) c.before.y.given.1 refl) c.before.before.before.before.before.before.before.before.before.before.before.before.before.parse-ref.ensures.1)
+returns-2 c = let a = c.before.before.before.before.before.before.before.before.before.before.before.before.before.before.before.before.before.before.before.before.before.before.before.before.before.before.before.before.before.before.before.before.args in (drop_got (input a.v.now a.p.now a.k a.tr.now) (mem a.s (lent a.ot.now a.st.now a.vt.now a.dt.now a.hr.now a.c.now a.u.now)) _ _ (seen_got _ c.before.y.given.1 c.before.before.before.before.before.before.before.before.before.before.before.before.before.parse-ref.ensures.0), out_index _ (seen_got (lent _ _ _ _ _ _ _) c.before.y.given.1 refl) c.before.before.before.before.before.before.before.before.before.before.before.before.before.parse-ref.ensures.1)
 
 child-at-requires : tie.Need-child-at-requires
 child-at-requires c κs = ((opens c.before.before.before.before.before.before.before.before.before.before.args.h.now c.before.before.before.before.before.before.before.before.before.before.args.p.now c.before.before.before.before.before.before.before.before.before.before.args.s.at (sym c.before.opens-object.ensures ∙ not-false _ c.if1.false)).0, (leaf_asks c.before.before.before.before.before.before.before.before.before.before.requires _ refl).1)
@@ -113,7 +113,7 @@ same-length-20 : tie.Need-same-length-20
 same-length-20 c = search rules
 
 returns-4 : tie.Need-returns-4
-returns-4 c = let a = c.before.before.before.before.before.before.before.before.before.before.before.before.before.before.before.before.before.before.before.before.before.before.before.before.before.before.before.before.before.before.before.before.before.args in (drop_got (input a.v.now a.p.now a.k a.tr.now) (mem a.s (lent a.ot.now a.st.now a.vt.now a.dt.now a.hr.now a.c.now a.u.now)) _ _ (seen-got _ c.before.y2.given.1 (c.before.before.before.before.before.before.before.before.before.before.before.before.before.parse-object.ensures.0 ∙ ap (λ (l : Level). object (input a.v.now a.p.now a.k a.tr.now) (ref_at (input a.v.now a.p.now a.k a.tr.now) 64) l.space a.s.at (mem (next a.s) (lent a.ot.now a.st.now a.vt.now a.dt.now a.hr.now a.c.now a.u.now))) c.before.before.before.before.before.before.before.before.before.before.before.before.before.before.before.before.before.before.before.before.before.before.child-at.ensures.0 ∙ ref_object c.before.before.before.before.before.before.before.before.before.before.before.before.before.before.before.before.before.before.before.before.before.before.before.before.before.before.before.before.before.before.before.before.before.requires (opens c.before.before.before.before.before.before.before.before.before.before.before.before.before.before.before.before.before.before.before.before.before.before.before.before.before.before.before.before.before.before.before.before.before.args.h.now c.before.before.before.before.before.before.before.before.before.before.before.before.before.before.before.before.before.before.before.before.before.before.before.before.before.before.before.before.before.before.before.before.before.args.p.now c.before.before.before.before.before.before.before.before.before.before.before.before.before.before.before.before.before.before.before.before.before.before.before.before.before.before.before.before.before.before.before.before.before.args.s.at (sym c.before.before.before.before.before.before.before.before.before.before.before.before.before.before.before.before.before.before.before.before.before.before.before.before.opens-object.ensures ∙ not-false _ c.before.before.before.before.before.before.before.before.before.before.before.before.before.before.before.before.before.before.before.before.before.before.before.if1.false)).0 _ (refl, c.before.before.before.before.before.before.before.before.before.before.before.before.before.before.before.before.before.before.before.before.before.before.child-at.ensures.1) 0 (omega arith) (opens c.before.before.before.before.before.before.before.before.before.before.before.before.before.before.before.before.before.before.before.before.before.before.before.before.before.before.before.before.before.before.before.before.before.args.h.now c.before.before.before.before.before.before.before.before.before.before.before.before.before.before.before.before.before.before.before.before.before.before.before.before.before.before.before.before.before.before.before.before.before.args.p.now c.before.before.before.before.before.before.before.before.before.before.before.before.before.before.before.before.before.before.before.before.before.before.before.before.before.before.before.before.before.before.before.before.before.args.s.at (sym c.before.before.before.before.before.before.before.before.before.before.before.before.before.before.before.before.before.before.before.before.before.before.before.before.opens-object.ensures ∙ not-false _ c.before.before.before.before.before.before.before.before.before.before.before.before.before.before.before.before.before.before.before.before.before.before.before.if1.false)).1)), out_index _ (seen-got (lent _ _ _ _ _ _ _) c.before.y2.given.1 refl) c.before.before.before.before.before.before.before.before.before.before.before.before.before.parse-object.ensures.1)
+returns-4 c = let a = c.before.before.before.before.before.before.before.before.before.before.before.before.before.before.before.before.before.before.before.before.before.before.before.before.before.before.before.before.before.before.before.before.before.args in (drop_got (input a.v.now a.p.now a.k a.tr.now) (mem a.s (lent a.ot.now a.st.now a.vt.now a.dt.now a.hr.now a.c.now a.u.now)) _ _ (seen_got _ c.before.y2.given.1 (c.before.before.before.before.before.before.before.before.before.before.before.before.before.parse-object.ensures.0 ∙ ap (λ (l : Level). object (input a.v.now a.p.now a.k a.tr.now) (ref_at (input a.v.now a.p.now a.k a.tr.now) 64) l.space a.s.at (mem (next a.s) (lent a.ot.now a.st.now a.vt.now a.dt.now a.hr.now a.c.now a.u.now))) c.before.before.before.before.before.before.before.before.before.before.before.before.before.before.before.before.before.before.before.before.before.before.child-at.ensures.0 ∙ ref_object c.before.before.before.before.before.before.before.before.before.before.before.before.before.before.before.before.before.before.before.before.before.before.before.before.before.before.before.before.before.before.before.before.before.requires (opens c.before.before.before.before.before.before.before.before.before.before.before.before.before.before.before.before.before.before.before.before.before.before.before.before.before.before.before.before.before.before.before.before.before.args.h.now c.before.before.before.before.before.before.before.before.before.before.before.before.before.before.before.before.before.before.before.before.before.before.before.before.before.before.before.before.before.before.before.before.before.args.p.now c.before.before.before.before.before.before.before.before.before.before.before.before.before.before.before.before.before.before.before.before.before.before.before.before.before.before.before.before.before.before.before.before.before.args.s.at (sym c.before.before.before.before.before.before.before.before.before.before.before.before.before.before.before.before.before.before.before.before.before.before.before.before.opens-object.ensures ∙ not-false _ c.before.before.before.before.before.before.before.before.before.before.before.before.before.before.before.before.before.before.before.before.before.before.before.if1.false)).0 _ (refl, c.before.before.before.before.before.before.before.before.before.before.before.before.before.before.before.before.before.before.before.before.before.before.child-at.ensures.1) 0 (omega arith) (opens c.before.before.before.before.before.before.before.before.before.before.before.before.before.before.before.before.before.before.before.before.before.before.before.before.before.before.before.before.before.before.before.before.before.args.h.now c.before.before.before.before.before.before.before.before.before.before.before.before.before.before.before.before.before.before.before.before.before.before.before.before.before.before.before.before.before.before.before.before.before.args.p.now c.before.before.before.before.before.before.before.before.before.before.before.before.before.before.before.before.before.before.before.before.before.before.before.before.before.before.before.before.before.before.before.before.before.args.s.at (sym c.before.before.before.before.before.before.before.before.before.before.before.before.before.before.before.before.before.before.before.before.before.before.before.before.opens-object.ensures ∙ not-false _ c.before.before.before.before.before.before.before.before.before.before.before.before.before.before.before.before.before.before.before.before.before.before.before.if1.false)).1)), out_index _ (seen_got (lent _ _ _ _ _ _ _) c.before.y2.given.1 refl) c.before.before.before.before.before.before.before.before.before.before.before.before.before.parse-object.ensures.1)
 
 pub drop-ref-spec : {M : Type 1} → statement M
 drop-ref-spec =

@@ -5,10 +5,10 @@ use mathlib.Core.Path.{◌≡◌}
 use Prim.Native.Nat.{◌-◌}
 use lib.ListN.{length}
 use Rattle.readers.specs.Views.{input, mem}
-use Rattle.readers.proofs.ViewLaws.{went_on, went-no}
+use Rattle.readers.proofs.ViewLaws.{went_on, went_no}
 use Rattle.walker.specs.Ready.{lent}
 use Rattle.walker.proofs.ReadyLaws.{out_index}
-use Rattle.graph.proofs.ClosingLaws.{Loop, loop_start, closing_test, loop_end, loop_cut, loop-synchronize, loop-aligned, in_legacy, loop-fault-ends, loop-fault, loop-reads, loop-turn}
+use Rattle.graph.proofs.ClosingLaws.{Loop, loop_start, closing_test, loop_end, loop_cut, loop_synchronize, loop_aligned, in_legacy, loop_fault_ends, loop_fault, loop_reads, loop_turn}
 use Rattle.graph.proofs.closing.entries.Statement.{statement}
 use Rattle.graph.proofs.closing.entries.Tie as tie
 
@@ -49,7 +49,7 @@ same-length-5 : tie.Need-same-length-5 invariant-loop decreases-loop
 same-length-5 c = c.before.before.before.before.before.before.loop.invariant.1
 
 returns : tie.Need-returns invariant-loop decreases-loop
-returns c = let a = c.before.before.before.before.before.before.before.before.before.before.before.before.before.before.before.args in let w = c.before.before.before.before.before.before.loop in loop-synchronize _ _ _ _ _ _ w.invariant.0 c.before.before.before.before.if1.true (closing_test a.v.now a.p.now w.t.at c.before.before.before.peek.ensures c.before.before.closing-entry.ensures c.enum_told.given.1)
+returns c = let a = c.before.before.before.before.before.before.before.before.before.before.before.before.before.before.before.args in let w = c.before.before.before.before.before.before.loop in loop_synchronize _ _ _ _ _ _ w.invariant.0 c.before.before.before.before.if1.true (closing_test a.v.now a.p.now w.t.at c.before.before.before.peek.ensures c.before.before.closing-entry.ensures c.enum_told.given.1)
 
 enum-known-e : tie.Need-enum-known-e invariant-loop decreases-loop
 enum-known-e c = search rules
@@ -61,7 +61,7 @@ loop-less : tie.Need-loop-smaller invariant-loop decreases-loop
 loop-less c = omega (arith, c.before.before.before.before.before.if1.true)
 
 loop-again : tie.Need-loop-preserved invariant-loop decreases-loop
-loop-again c = let a = c.before.before.before.before.before.before.before.before.before.before.before.before.before.before.before.before.args in let w = c.before.before.before.before.before.before.before.loop in (loop-aligned _ _ _ _ _ _ w.invariant.0 c.before.before.before.before.before.if1.true _ (closing_test a.v.now a.p.now w.t.at c.before.before.before.before.peek.ensures c.before.before.before.closing-entry.ensures c.before.e.given.1), w.invariant.1)
+loop-again c = let a = c.before.before.before.before.before.before.before.before.before.before.before.before.before.before.before.before.args in let w = c.before.before.before.before.before.before.before.loop in (loop_aligned _ _ _ _ _ _ w.invariant.0 c.before.before.before.before.before.if1.true _ (closing_test a.v.now a.p.now w.t.at c.before.before.before.before.peek.ensures c.before.before.before.closing-entry.ensures c.before.e.given.1), w.invariant.1)
 
 one-entry-requires : tie.Need-one-entry-requires invariant-loop decreases-loop
 one-entry-requires c κs = let a = c.before.before.before.before.before.before.before.before.before.before.before.before.before.before.before.before.before.before.before.before.before.before.args in let w = c.before.before.before.before.before.before.before.before.before.before.before.before.before.loop in (w.invariant.0.ready, in_legacy _ _ _ _ _ _ w.invariant.0 c.before.before.before.before.before.before.before.before.before.before.before.if1.true c.before.before.before.before.before.before.before.before.before.closing-entry.result (closing_test a.v.now a.p.now w.t.at c.before.before.before.before.before.before.before.before.before.before.peek.ensures c.before.before.before.before.before.before.before.before.before.closing-entry.ensures refl) c.before.before.before.before.before.before.before.before.match.keys3)
@@ -70,10 +70,10 @@ enum-known-y : tie.Need-enum-known-y invariant-loop decreases-loop
 enum-known-y c = search rules
 
 loop-less-2 : tie.Need-loop-smaller-2 invariant-loop decreases-loop
-loop-less-2 c = let a = c.before.before.before.before.before.before.before.before.before.before.before.before.before.before.before.before.before.before.before.before.before.before.before.before.before.before.before.before.before.before.before.before.before.before.before.before.args in let w = c.before.before.before.before.before.before.before.before.before.before.before.before.before.before.before.before.before.before.before.before.before.before.before.before.before.before.before.loop in let z = loop-reads _ _ _ _ _ _ w.invariant.0 c.before.before.before.before.before.before.before.before.before.before.before.before.before.before.before.before.before.before.before.before.before.before.before.before.before.if1.true c.before.before.before.before.before.before.before.before.before.before.before.before.before.before.before.before.before.before.before.before.before.before.before.closing-entry.result (closing_test a.v.now a.p.now w.t.at c.before.before.before.before.before.before.before.before.before.before.before.before.before.before.before.before.before.before.before.before.before.before.before.before.peek.ensures c.before.before.before.before.before.before.before.before.before.before.before.before.before.before.before.before.before.before.before.before.before.before.before.closing-entry.ensures refl) c.before.before.before.before.before.before.before.before.before.before.before.before.before.before.before.before.before.before.before.before.before.before.match.keys3 (went_on _ c.before.y.given.1 c.before.before.before.before.before.before.before.before.before.before.before.before.before.one_entry.ensures.0) in omega (arith, z)
+loop-less-2 c = let a = c.before.before.before.before.before.before.before.before.before.before.before.before.before.before.before.before.before.before.before.before.before.before.before.before.before.before.before.before.before.before.before.before.before.before.before.before.args in let w = c.before.before.before.before.before.before.before.before.before.before.before.before.before.before.before.before.before.before.before.before.before.before.before.before.before.before.before.loop in let z = loop_reads _ _ _ _ _ _ w.invariant.0 c.before.before.before.before.before.before.before.before.before.before.before.before.before.before.before.before.before.before.before.before.before.before.before.before.before.if1.true c.before.before.before.before.before.before.before.before.before.before.before.before.before.before.before.before.before.before.before.before.before.before.before.closing-entry.result (closing_test a.v.now a.p.now w.t.at c.before.before.before.before.before.before.before.before.before.before.before.before.before.before.before.before.before.before.before.before.before.before.before.before.peek.ensures c.before.before.before.before.before.before.before.before.before.before.before.before.before.before.before.before.before.before.before.before.before.before.before.closing-entry.ensures refl) c.before.before.before.before.before.before.before.before.before.before.before.before.before.before.before.before.before.before.before.before.before.before.match.keys3 (went_on _ c.before.y.given.1 c.before.before.before.before.before.before.before.before.before.before.before.before.before.one_entry.ensures.0) in omega (arith, z)
 
 loop-again-2 : tie.Need-loop-preserved-2 invariant-loop decreases-loop
-loop-again-2 c = let a = c.before.before.before.before.before.before.before.before.before.before.before.before.before.before.before.before.before.before.before.before.before.before.before.before.before.before.before.before.before.before.before.before.before.before.before.before.args in let w = c.before.before.before.before.before.before.before.before.before.before.before.before.before.before.before.before.before.before.before.before.before.before.before.before.before.before.before.loop in (loop-turn _ _ _ _ _ _ w.invariant.0 c.before.before.before.before.before.before.before.before.before.before.before.before.before.before.before.before.before.before.before.before.before.before.before.before.before.if1.true c.before.before.before.before.before.before.before.before.before.before.before.before.before.before.before.before.before.before.before.before.before.before.before.closing-entry.result (closing_test a.v.now a.p.now w.t.at c.before.before.before.before.before.before.before.before.before.before.before.before.before.before.before.before.before.before.before.before.before.before.before.before.peek.ensures c.before.before.before.before.before.before.before.before.before.before.before.before.before.before.before.before.before.before.before.before.before.before.before.closing-entry.ensures refl) c.before.before.before.before.before.before.before.before.before.before.before.before.before.before.before.before.before.before.before.before.before.before.match.keys3 (went_on _ c.before.y.given.1 c.before.before.before.before.before.before.before.before.before.before.before.before.before.one_entry.ensures.0) (out_index _ (went_on (lent _ _ _ _ _ _ _) c.before.y.given.1 refl) c.before.before.before.before.before.before.before.before.before.before.before.before.before.one_entry.ensures.1), c.before.before.before.before.before.before.before.before.before.before.before.before.before.one_entry.auto.1.1.1.1.1.1.1.1.1.1.1.0 ∙ c.before.before.before.before.before.before.before.before.before.before.before.before.before.before.before.before.before.before.before.before.before.before.before.before.before.before.before.loop.invariant.1)
+loop-again-2 c = let a = c.before.before.before.before.before.before.before.before.before.before.before.before.before.before.before.before.before.before.before.before.before.before.before.before.before.before.before.before.before.before.before.before.before.before.before.before.args in let w = c.before.before.before.before.before.before.before.before.before.before.before.before.before.before.before.before.before.before.before.before.before.before.before.before.before.before.before.loop in (loop_turn _ _ _ _ _ _ w.invariant.0 c.before.before.before.before.before.before.before.before.before.before.before.before.before.before.before.before.before.before.before.before.before.before.before.before.before.if1.true c.before.before.before.before.before.before.before.before.before.before.before.before.before.before.before.before.before.before.before.before.before.before.before.closing-entry.result (closing_test a.v.now a.p.now w.t.at c.before.before.before.before.before.before.before.before.before.before.before.before.before.before.before.before.before.before.before.before.before.before.before.before.peek.ensures c.before.before.before.before.before.before.before.before.before.before.before.before.before.before.before.before.before.before.before.before.before.before.before.closing-entry.ensures refl) c.before.before.before.before.before.before.before.before.before.before.before.before.before.before.before.before.before.before.before.before.before.before.match.keys3 (went_on _ c.before.y.given.1 c.before.before.before.before.before.before.before.before.before.before.before.before.before.one_entry.ensures.0) (out_index _ (went_on (lent _ _ _ _ _ _ _) c.before.y.given.1 refl) c.before.before.before.before.before.before.before.before.before.before.before.before.before.one_entry.ensures.1), c.before.before.before.before.before.before.before.before.before.before.before.before.before.one_entry.auto.1.1.1.1.1.1.1.1.1.1.1.0 ∙ c.before.before.before.before.before.before.before.before.before.before.before.before.before.before.before.before.before.before.before.before.before.before.before.before.before.before.before.loop.invariant.1)
 
 enum-known-n : tie.Need-enum-known-n invariant-loop decreases-loop
 enum-known-n c = search rules
@@ -97,7 +97,7 @@ same-length-10 : tie.Need-same-length-10 invariant-loop decreases-loop
 same-length-10 c = c.before.before.before.before.before.before.before.before.before.before.before.before.before.before.before.one_entry.auto.1.1.1.1.1.1.1.1.1.1.1.0 ∙ c.before.before.before.before.before.before.before.before.before.before.before.before.before.before.before.before.before.before.before.before.before.before.before.before.before.before.before.before.before.loop.invariant.1
 
 returns-2 : tie.Need-returns-2 invariant-loop decreases-loop
-returns-2 c = let a = c.before.before.before.before.before.before.before.before.before.before.before.before.before.before.before.before.before.before.before.before.before.before.before.before.before.before.before.before.before.before.before.before.before.before.before.before.before.before.args in let w = c.before.before.before.before.before.before.before.before.before.before.before.before.before.before.before.before.before.before.before.before.before.before.before.before.before.before.before.before.before.loop in loop-fault-ends _ _ _ _ _ _ w.invariant.0 c.before.before.before.before.before.before.before.before.before.before.before.before.before.before.before.before.before.before.before.before.before.before.before.before.before.before.before.if1.true c.before.before.before.before.before.before.before.before.before.before.before.before.before.before.before.before.before.before.before.before.before.before.before.before.before.closing-entry.result (closing_test a.v.now a.p.now w.t.at c.before.before.before.before.before.before.before.before.before.before.before.before.before.before.before.before.before.before.before.before.before.before.before.before.before.before.peek.ensures c.before.before.before.before.before.before.before.before.before.before.before.before.before.before.before.before.before.before.before.before.before.before.before.before.before.closing-entry.ensures refl) c.before.before.before.before.before.before.before.before.before.before.before.before.before.before.before.before.before.before.before.before.before.before.before.before.match.keys3 (went-no _ c.before.before.before.n.given.1 c.before.before.before.before.before.before.before.before.before.before.before.before.before.before.before.one_entry.ensures.0) (sym (c.before.ends-legacy.ensures a.p.now a.tr.now a.k) ∙ c.if2.true)
+returns-2 c = let a = c.before.before.before.before.before.before.before.before.before.before.before.before.before.before.before.before.before.before.before.before.before.before.before.before.before.before.before.before.before.before.before.before.before.before.before.before.before.before.args in let w = c.before.before.before.before.before.before.before.before.before.before.before.before.before.before.before.before.before.before.before.before.before.before.before.before.before.before.before.before.before.loop in loop_fault_ends _ _ _ _ _ _ w.invariant.0 c.before.before.before.before.before.before.before.before.before.before.before.before.before.before.before.before.before.before.before.before.before.before.before.before.before.before.before.if1.true c.before.before.before.before.before.before.before.before.before.before.before.before.before.before.before.before.before.before.before.before.before.before.before.before.before.closing-entry.result (closing_test a.v.now a.p.now w.t.at c.before.before.before.before.before.before.before.before.before.before.before.before.before.before.before.before.before.before.before.before.before.before.before.before.before.before.peek.ensures c.before.before.before.before.before.before.before.before.before.before.before.before.before.before.before.before.before.before.before.before.before.before.before.before.before.closing-entry.ensures refl) c.before.before.before.before.before.before.before.before.before.before.before.before.before.before.before.before.before.before.before.before.before.before.before.before.match.keys3 (went_no _ c.before.before.before.n.given.1 c.before.before.before.before.before.before.before.before.before.before.before.before.before.before.before.one_entry.ensures.0) (sym (c.before.ends-legacy.ensures a.p.now a.tr.now a.k) ∙ c.if2.true)
 
 same-length-11 : tie.Need-same-length-11 invariant-loop decreases-loop
 same-length-11 c = c.before.before.before.before.before.before.before.before.before.before.before.before.before.before.before.one_entry.auto.1.1.1.1.0 ∙ c.before.before.before.before.before.before.before.before.before.before.before.before.before.before.before.before.before.before.before.before.before.before.before.before.before.before.before.before.before.loop.invariant.0.onward.objects_size
@@ -115,7 +115,7 @@ same-length-15 : tie.Need-same-length-15 invariant-loop decreases-loop
 same-length-15 c = c.before.before.before.before.before.before.before.before.before.before.before.before.before.before.before.one_entry.auto.1.1.1.1.1.1.1.1.1.1.1.0 ∙ c.before.before.before.before.before.before.before.before.before.before.before.before.before.before.before.before.before.before.before.before.before.before.before.before.before.before.before.before.before.loop.invariant.1
 
 returns-3 : tie.Need-returns-3 invariant-loop decreases-loop
-returns-3 c = let a = c.before.before.before.before.before.before.before.before.before.before.before.before.before.before.before.before.before.before.before.before.before.before.before.before.before.before.before.before.before.before.before.before.before.before.before.before.before.before.args in let w = c.before.before.before.before.before.before.before.before.before.before.before.before.before.before.before.before.before.before.before.before.before.before.before.before.before.before.before.before.before.loop in loop-fault _ _ _ _ _ _ w.invariant.0 c.before.before.before.before.before.before.before.before.before.before.before.before.before.before.before.before.before.before.before.before.before.before.before.before.before.before.before.if1.true c.before.before.before.before.before.before.before.before.before.before.before.before.before.before.before.before.before.before.before.before.before.before.before.before.before.closing-entry.result (closing_test a.v.now a.p.now w.t.at c.before.before.before.before.before.before.before.before.before.before.before.before.before.before.before.before.before.before.before.before.before.before.before.before.before.before.peek.ensures c.before.before.before.before.before.before.before.before.before.before.before.before.before.before.before.before.before.before.before.before.before.before.before.before.before.closing-entry.ensures refl) c.before.before.before.before.before.before.before.before.before.before.before.before.before.before.before.before.before.before.before.before.before.before.before.before.match.keys3 (went-no _ c.before.before.before.n.given.1 c.before.before.before.before.before.before.before.before.before.before.before.before.before.before.before.one_entry.ensures.0) (sym (c.before.ends-legacy.ensures a.p.now a.tr.now a.k) ∙ c.if2.false)
+returns-3 c = let a = c.before.before.before.before.before.before.before.before.before.before.before.before.before.before.before.before.before.before.before.before.before.before.before.before.before.before.before.before.before.before.before.before.before.before.before.before.before.before.args in let w = c.before.before.before.before.before.before.before.before.before.before.before.before.before.before.before.before.before.before.before.before.before.before.before.before.before.before.before.before.before.loop in loop_fault _ _ _ _ _ _ w.invariant.0 c.before.before.before.before.before.before.before.before.before.before.before.before.before.before.before.before.before.before.before.before.before.before.before.before.before.before.before.if1.true c.before.before.before.before.before.before.before.before.before.before.before.before.before.before.before.before.before.before.before.before.before.before.before.before.before.closing-entry.result (closing_test a.v.now a.p.now w.t.at c.before.before.before.before.before.before.before.before.before.before.before.before.before.before.before.before.before.before.before.before.before.before.before.before.before.before.peek.ensures c.before.before.before.before.before.before.before.before.before.before.before.before.before.before.before.before.before.before.before.before.before.before.before.before.before.closing-entry.ensures refl) c.before.before.before.before.before.before.before.before.before.before.before.before.before.before.before.before.before.before.before.before.before.before.before.before.match.keys3 (went_no _ c.before.before.before.n.given.1 c.before.before.before.before.before.before.before.before.before.before.before.before.before.before.before.one_entry.ensures.0) (sym (c.before.ends-legacy.ensures a.p.now a.tr.now a.k) ∙ c.if2.false)
 
 legacy-requires : tie.Need-legacy-requires invariant-loop decreases-loop
 legacy-requires c κs = tt

@@ -1,7 +1,7 @@
 use native.Mathlib.Omega.{arith}
 use mathlib.Core.Path.{refl, sym, ◌∙◌}
 use Rattle.readers.specs.Views.{input, mem}
-use Rattle.readers.proofs.ViewLaws.{seen-got, seen_no}
+use Rattle.readers.proofs.ViewLaws.{seen_got, seen_no}
 use Rattle.walker.specs.Ready.{lent}
 use Rattle.graph.proofs.WalkLaws.{walk_no, walk_on, step_ready}
 use borrow.Author.Rules.{rules}
@@ -54,7 +54,7 @@ same-length-10 : tie.Need-same-length-10
 same-length-10 c = search rules
 
 returns-2 : tie.Need-returns-2
-returns-2 c = let a = c.before.before.before.before.before.before.before.before.before.before.before.before.before.before.before.before.before.before.before.before.before.before.before.before.before.before.before.before.before.before.before.before.before.before.before.before.before.before.before.before.before.before.before.before.before.before.before.before.before.args in walk_on (input a.v.now a.p.now a.k a.tr.now) (mem a.s (lent a.ot.now a.st.now a.vt.now a.dt.now a.hr.now a.c.now a.u.now)) (seen-got _ c.before.before.before.before.before.before.before.before.before.before.before.before.before.before.before.before.before.before.before.before.t.given.1 c.before.before.before.before.before.before.before.before.before.before.before.before.before.before.before.before.before.before.before.before.before.before.before.before.before.before.before.before.before.before.before.before.top-object.ensures.0) c.before.before.before.before.before.before.before.before.before.before.closing.ensures
+returns-2 c = let a = c.before.before.before.before.before.before.before.before.before.before.before.before.before.before.before.before.before.before.before.before.before.before.before.before.before.before.before.before.before.before.before.before.before.before.before.before.before.before.before.before.before.before.before.before.before.before.before.before.before.args in walk_on (input a.v.now a.p.now a.k a.tr.now) (mem a.s (lent a.ot.now a.st.now a.vt.now a.dt.now a.hr.now a.c.now a.u.now)) (seen_got _ c.before.before.before.before.before.before.before.before.before.before.before.before.before.before.before.before.before.before.before.before.t.given.1 c.before.before.before.before.before.before.before.before.before.before.before.before.before.before.before.before.before.before.before.before.before.before.before.before.before.before.before.before.before.before.before.before.top-object.ensures.0) c.before.before.before.before.before.before.before.before.before.before.closing.ensures
 
 pub walk-spec : {M : Type 1} → statement M
 walk-spec =

@@ -3,7 +3,7 @@ use mathlib.Core.Path.{refl}
 use Prim.Native.Nat.{◌+◌, ◌-◌, ◌≤◌}
 use native.Mathlib.Omega.{arith}
 use Rattle.heads.specs.Assigning.{Assigned}
-use Rattle.heads.proofs.Assigning.{assigned_none, assigned-more, assigned_as}
+use Rattle.heads.proofs.Assigning.{assigned_none, assigned_more, assigned_as}
 use Rattle.heads.proofs.Rules.{argument_small}
 use Rattle.heads.proofs.heads.assign.Statement.{statement}
 use Rattle.heads.proofs.heads.assign.Tie as tie
@@ -48,7 +48,7 @@ loop-less : tie.Need-loop-smaller invariant-loop decreases-loop
 loop-less c = omega arith
 
 loop-again : tie.Need-loop-preserved invariant-loop decreases-loop
-loop-again c = (omega arith, omega arith, assigned-more _ _ _ _ _ _ _ _ c.before.before.before.requires.1 (omega arith) (omega arith) c.argument-of.ensures c.before.before.loop.invariant.2)
+loop-again c = (omega arith, omega arith, assigned_more _ _ _ _ _ _ _ _ c.before.before.before.requires.1 (omega arith) (omega arith) c.argument-of.ensures c.before.before.loop.invariant.2)
 
 returns : tie.Need-returns invariant-loop decreases-loop
 returns c = assigned_as refl (omega arith) refl refl refl c.before.loop.invariant.2

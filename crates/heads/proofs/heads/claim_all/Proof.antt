@@ -4,7 +4,7 @@ use native.Mathlib.Omega.{arith}
 use borrow.Author.Rules.{rules}
 use lib.ListN.{drop}
 use Rattle.heads.specs.Heads.{order}
-use Rattle.heads.proofs.Answers.{Answers, answers_none, answers_all, step_absent, step-untested, step-claimed}
+use Rattle.heads.proofs.Answers.{Answers, answers_none, answers_all, step_absent, step_untested, step_claimed}
 use Rattle.heads.proofs.Spans.{fits}
 use Rattle.heads.proofs.heads.claim_all.Statement.{statement}
 use Rattle.heads.proofs.heads.claim_all.Tie as tie
@@ -43,13 +43,13 @@ loop-less : tie.Need-loop-smaller invariant-loop decreases-loop
 loop-less c = omega arith
 
 loop-again : tie.Need-loop-preserved invariant-loop decreases-loop
-loop-again c = (omega arith, step-claimed c.before.before.before.before.before.before.before.before.before.before.before.before.args.sheet.now _ _ _ _ c.before.before.before.before.before.before.before.before.loop-test.true c.before.before.before.before.before.before.before.before.before.loop.invariant.0 c.before.before.before.before.before.before.before.before.before.loop.invariant.1 c.before.before.before.before.before.before.before.order_row.ensures c.before.before.before.before.before.before.number.ensures.0 _ c.before.before.before.before.tested.ensures _ _ _ c.before.before.before.before.before.if1.true c.before.before.before.if2.true c.before.Span-of.ensures c.before.before.before.before.before.before.before.before.before.before.root-mask.ensures.0 c.assign.ensures)
+loop-again c = (omega arith, step_claimed c.before.before.before.before.before.before.before.before.before.before.before.before.args.sheet.now _ _ _ _ c.before.before.before.before.before.before.before.before.loop-test.true c.before.before.before.before.before.before.before.before.before.loop.invariant.0 c.before.before.before.before.before.before.before.before.before.loop.invariant.1 c.before.before.before.before.before.before.before.order_row.ensures c.before.before.before.before.before.before.number.ensures.0 _ c.before.before.before.before.tested.ensures _ _ _ c.before.before.before.before.before.if1.true c.before.before.before.if2.true c.before.Span-of.ensures c.before.before.before.before.before.before.before.before.before.before.root-mask.ensures.0 c.assign.ensures)
 
 loop-less-2 : tie.Need-loop-smaller-2 invariant-loop decreases-loop
 loop-less-2 c = omega arith
 
 loop-again-2 : tie.Need-loop-preserved-2 invariant-loop decreases-loop
-loop-again-2 c = (omega arith, step-untested c.before.before.before.before.before.before.before.before.before.args.sheet.now _ _ _ _ c.before.before.before.before.before.loop-test.true c.before.before.before.before.before.before.loop.invariant.0 c.before.before.before.before.before.before.loop.invariant.1 c.before.before.before.before.order_row.ensures c.before.before.before.number.ensures.0 _ c.before.tested.ensures c.if2.false)
+loop-again-2 c = (omega arith, step_untested c.before.before.before.before.before.before.before.before.before.args.sheet.now _ _ _ _ c.before.before.before.before.before.loop-test.true c.before.before.before.before.before.before.loop.invariant.0 c.before.before.before.before.before.before.loop.invariant.1 c.before.before.before.before.order_row.ensures c.before.before.before.number.ensures.0 _ c.before.tested.ensures c.if2.false)
 
 loop-less-3 : tie.Need-loop-smaller-3 invariant-loop decreases-loop
 loop-less-3 c = omega arith

@@ -1,6 +1,6 @@
 -- `heads::span_of` meets its contract, a law for each way out. Assumes nothing.
 use borrow.Author.Rules.{rules}
-use Rattle.heads.proofs.Rules.{span_spaces, span_mask, span_none, span-backref, span_number}
+use Rattle.heads.proofs.Rules.{span_spaces, span_mask, span_none, span_backref, span_number}
 use Rattle.heads.proofs.heads.span_of.Statement.{statement}
 use Rattle.heads.proofs.heads.span_of.Tie as tie
 
@@ -29,7 +29,7 @@ returns-3 : tie.Need-returns-3
 returns-3 c = span_none c.before.before.before.before.before.before.before.args.sheet.now _ _ _ c.before.before.before.if3.true c.before.before.number.ensures.0 c.before.number2.ensures.0 c.if4.true
 
 returns-4 : tie.Need-returns-4
-returns-4 c = span-backref c.before.before.before.before.before.before.before.args.sheet.now _ _ _ c.before.before.before.if3.true c.before.before.number.ensures.0 c.before.number2.ensures.0
+returns-4 c = span_backref c.before.before.before.before.before.before.before.args.sheet.now _ _ _ c.before.before.before.if3.true c.before.before.number.ensures.0 c.before.number2.ensures.0
 
 returns-5 : tie.Need-returns-5
 returns-5 c = span_number c.before.before.before.before.args.sheet.now _ c.before.before.if1.false c.before.if2.false c.if3.false

@@ -1,6 +1,6 @@
 -- `heads::tested` meets its contract, a law for each way out. Assumes nothing.
 use borrow.Author.Rules.{rules}
-use Rattle.heads.proofs.Rules.{tests_always, tests_legacy, tests_modern, tests_six, tests_not_six, tests-hidden, tests-six-alone, tests-not-six-alone}
+use Rattle.heads.proofs.Rules.{tests_always, tests_legacy, tests_modern, tests_six, tests_not_six, tests_hidden, tests_six_alone, tests_not_six_alone}
 use Rattle.heads.proofs.heads.tested.Statement.{statement}
 use Rattle.heads.proofs.heads.tested.Tie as tie
 
@@ -35,19 +35,19 @@ present-requires : tie.Need-present-requires
 present-requires c κs = search rules
 
 returns-6 : tie.Need-returns-6
-returns-6 c = tests-hidden c.before.before.before.before.before.before.before.before.args.sheet.now _ _ c.before.present.ensures c.before.before.before.before.before.before.if1.false c.before.before.before.before.before.if2.false c.before.before.before.before.if3.false c.before.before.before.if4.false c.before.before.if5.false c.if6.true
+returns-6 c = tests_hidden c.before.before.before.before.before.before.before.before.args.sheet.now _ _ c.before.present.ensures c.before.before.before.before.before.before.if1.false c.before.before.before.before.before.if2.false c.before.before.before.before.if3.false c.before.before.before.if4.false c.before.before.if5.false c.if6.true
 
 six-x-requires-3 : tie.Need-six-x-requires-3
 six-x-requires-3 c κs = search rules
 
 returns-7 : tie.Need-returns-7
-returns-7 c = tests-six-alone c.before.before.before.before.before.before.before.before.before.before.args.sheet.now _ _ c.before.before.before.present.ensures c.before.if7.true c.before.before.if6.false c.six-x3.ensures
+returns-7 c = tests_six_alone c.before.before.before.before.before.before.before.before.before.before.args.sheet.now _ _ c.before.before.before.present.ensures c.before.if7.true c.before.before.if6.false c.six-x3.ensures
 
 six-x-requires-4 : tie.Need-six-x-requires-4
 six-x-requires-4 c κs = search rules
 
 returns-8 : tie.Need-returns-8
-returns-8 c = tests-not-six-alone c.before.before.before.before.before.before.before.before.before.before.args.sheet.now _ _ c.before.before.before.present.ensures c.before.before.before.before.before.before.before.before.if1.false c.before.before.before.before.before.before.before.if2.false c.before.before.before.before.before.before.if3.false c.before.before.before.before.before.if4.false c.before.before.before.before.if5.false c.before.if7.false c.before.before.if6.false c.six-x4.ensures
+returns-8 c = tests_not_six_alone c.before.before.before.before.before.before.before.before.before.before.args.sheet.now _ _ c.before.before.before.present.ensures c.before.before.before.before.before.before.before.before.if1.false c.before.before.before.before.before.before.before.if2.false c.before.before.before.before.before.before.if3.false c.before.before.before.before.before.if4.false c.before.before.before.before.if5.false c.before.if7.false c.before.before.if6.false c.six-x4.ensures
 
 pub tested-spec : {M : Type 1} → statement M
 tested-spec =

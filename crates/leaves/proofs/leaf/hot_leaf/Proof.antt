@@ -1,7 +1,7 @@
 use borrow.Author.Rules.{rules}
 use native.Mathlib.Omega.{arith}
 use mathlib.Core.Path.{refl}
-use Rattle.leaves.proofs.LeafLaws.{none_found, hot_object, hot-root}
+use Rattle.leaves.proofs.LeafLaws.{none_found, hot_object, hot_root}
 use Rattle.leaves.proofs.leaf.hot_leaf.Statement.{statement}
 use Rattle.leaves.proofs.leaf.hot_leaf.Tie as tie
 
@@ -33,7 +33,7 @@ returns : tie.Need-returns
 returns c = λ p objects. none_found p _ objects _ _ _ _ _ c.none.ensures
 
 returns-2 : tie.Need-returns-2
-returns-2 c = λ p objects. hot-root p _ objects _ _ _ _ _ refl refl (omega arith)
+returns-2 c = λ p objects. hot_root p _ objects _ _ _ _ _ refl refl (omega arith)
 
 returns-3 : tie.Need-returns-3
 returns-3 c = λ p objects. hot_object p _ objects _ _ _ _ _ refl refl (omega arith)

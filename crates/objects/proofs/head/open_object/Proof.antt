@@ -1,7 +1,7 @@
 use Prim.Native.Nat.{◌^◌}
 use borrow.Author.Tests.{not-true, not-false}
 use Rattle.readers.proofs.ViewLaws.{count_is, count_no, count_below}
-use Rattle.objects.proofs.HeadLaws.{open_cut, open_plain, open-small, open-large-cut, open-large}
+use Rattle.objects.proofs.HeadLaws.{open_cut, open_plain, open_small, open_large_cut, open_large}
 use borrow.Author.Rules.{rules}
 use Rattle.objects.proofs.head.open_object.Statement.{statement}
 use Rattle.objects.proofs.head.open_object.Tie as tie
@@ -37,7 +37,7 @@ same-length-2 : tie.Need-same-length-2
 same-length-2 c = search rules
 
 returns-2 : tie.Need-returns-2
-returns-2 c = (λ tr sp l. open-small _ _ _ _ (count_is _ c.before.before.before.before.before.before.before.before.before.words.given.1 (c.before.before.before.before.before.before.before.before.before.before.before.read_int.ensures.0 _ tr sp _)) c.before.before.before.before.before.before.before.six-x.ensures (not-false _ c.before.before.before.before.before.before.if1.false) c.before.before.before.before.before.lo-space.ensures.0 c.before.before.before.before.if2.true (c.before.before.add-record2.ensures.0 _ tr sp l), c.before.before.add-record2.ensures.1)
+returns-2 c = (λ tr sp l. open_small _ _ _ _ (count_is _ c.before.before.before.before.before.before.before.before.before.words.given.1 (c.before.before.before.before.before.before.before.before.before.before.before.read_int.ensures.0 _ tr sp _)) c.before.before.before.before.before.before.before.six-x.ensures (not-false _ c.before.before.before.before.before.before.if1.false) c.before.before.before.before.before.lo-space.ensures.0 c.before.before.before.before.if2.true (c.before.before.add-record2.ensures.0 _ tr sp l), c.before.before.add-record2.ensures.1)
 
 read-byte-requires : tie.Need-read-byte-requires
 read-byte-requires c κs = search rules
@@ -55,13 +55,13 @@ returns-3 : tie.Need-returns-3
 returns-3 c = (λ tr sp l. open_cut _ _ _ _ (count_no _ c.before.n.given.1 (c.before.before.before.read_int.ensures.0 _ tr sp _)), tt)
 
 returns-4 : tie.Need-returns-4
-returns-4 c = (λ tr sp l. open-large-cut _ _ _ _ (count_is _ c.before.before.before.before.before.before.before.before.before.words.given.1 (c.before.before.before.before.before.before.before.before.before.before.before.read_int.ensures.0 _ tr sp _)) c.before.before.before.before.before.before.before.six-x.ensures (not-false _ c.before.before.before.before.before.before.if1.false) c.before.before.before.before.before.lo-space.ensures.0 c.before.before.before.before.if2.false (count_no _ c.before.n2.given.1 (c.before.before.before.read_byte.ensures.0 _ tr sp _)), tt)
+returns-4 c = (λ tr sp l. open_large_cut _ _ _ _ (count_is _ c.before.before.before.before.before.before.before.before.before.words.given.1 (c.before.before.before.before.before.before.before.before.before.before.before.read_int.ensures.0 _ tr sp _)) c.before.before.before.before.before.before.before.six-x.ensures (not-false _ c.before.before.before.before.before.before.if1.false) c.before.before.before.before.before.lo-space.ensures.0 c.before.before.before.before.if2.false (count_no _ c.before.n2.given.1 (c.before.before.before.read_byte.ensures.0 _ tr sp _)), tt)
 
 same-length-3 : tie.Need-same-length-3
 same-length-3 c = search rules
 
 returns-5 : tie.Need-returns-5
-returns-5 c = (λ tr sp l. open-large _ _ _ _ (count_is _ c.before.before.before.before.before.before.before.before.before.before.before.before.before.words.given.1 (c.before.before.before.before.before.before.before.before.before.before.before.before.before.before.before.read_int.ensures.0 _ tr sp _)) c.before.before.before.before.before.before.before.before.before.before.before.six-x.ensures (not-false _ c.before.before.before.before.before.before.before.before.before.before.if1.false) c.before.before.before.before.before.before.before.before.before.lo-space.ensures.0 c.before.before.before.before.before.before.before.before.if2.false (count_is _ c.before.before.before.before.before.u.given.1 (c.before.before.before.before.before.before.before.read_byte.ensures.0 _ tr sp _)) (c.before.before.add-record3.ensures.0 _ tr sp l), c.before.before.add-record3.ensures.1)
+returns-5 c = (λ tr sp l. open_large _ _ _ _ (count_is _ c.before.before.before.before.before.before.before.before.before.before.before.before.before.words.given.1 (c.before.before.before.before.before.before.before.before.before.before.before.before.before.before.before.read_int.ensures.0 _ tr sp _)) c.before.before.before.before.before.before.before.before.before.before.before.six-x.ensures (not-false _ c.before.before.before.before.before.before.before.before.before.before.if1.false) c.before.before.before.before.before.before.before.before.before.lo-space.ensures.0 c.before.before.before.before.before.before.before.before.if2.false (count_is _ c.before.before.before.before.before.u.given.1 (c.before.before.before.before.before.before.before.read_byte.ensures.0 _ tr sp _)) (c.before.before.add-record3.ensures.0 _ tr sp l), c.before.before.add-record3.ensures.1)
 
 pub open-object-spec : {M : Type 1} → statement M
 open-object-spec =

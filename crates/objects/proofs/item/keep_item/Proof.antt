@@ -3,7 +3,7 @@ use mathlib.Core.Path.{refl, sym, ◌∙◌}
 use native.Mathlib.Omega.{arith}
 use Prim.Native.Nat.{◌+◌, ◌/◌}
 use lib.ListN.{take}
-use Rattle.objects.proofs.ItemLaws.{tag_waits, keep_no, keep_is, kept_room, kept-plain, kept-waits}
+use Rattle.objects.proofs.ItemLaws.{tag_waits, keep_no, keep_is, kept_room, kept_plain, kept_waits}
 use Rattle.objects.proofs.item.keep_item.Statement.{statement}
 use Rattle.objects.proofs.item.keep_item.Tie as tie
 
@@ -81,7 +81,7 @@ returns-2 c =
     let k = c.before.before.before.before.before.before.before.before.k.given.1 in
     let w = c.before.before.before.before.before.before.before.before.before.before.before.before.before.before.before.before.before.before.waits-of in (
       keep_is a.s a.o a.done a.word a.v w.result a.objects.now a.slots.now p.new.0 p.new.1.0 pushed w.ensures.0 k c.before.before.before.before.before.before.before.before.before.before.before.before.before.before.before.before.before.before.before.width.ensures,
-      (kept-waits a.s a.o ((a.done + a.s.skip) / a.word) a.v w.result a.objects.now a.slots.now p.new.0 p.new.1.0 pushed k (take a.size a.scratch.now) q c.before.before.before.before.before.v.given.1 w.ensures.0 c.before.before.note.ensures.0, c.before.before.note.ensures.1),
+      (kept_waits a.s a.o ((a.done + a.s.skip) / a.word) a.v w.result a.objects.now a.slots.now p.new.0 p.new.1.0 pushed k (take a.size a.scratch.now) q c.before.before.before.before.before.v.given.1 w.ensures.0 c.before.before.note.ensures.0, c.before.before.note.ensures.1),
     )
 
 same-length-6 : tie.Need-same-length-6
@@ -99,7 +99,7 @@ returns-3 c =
     let k = c.before.before.k.given.1 in
     let w = c.before.before.before.before.before.before.before.before.before.before.before.before.waits-of in (
       keep_is a.s a.o a.done a.word a.v w.result a.objects.now a.slots.now p.new.0 p.new.1.0 pushed w.ensures.0 k c.before.before.before.before.before.before.before.before.before.before.before.before.before.width.ensures,
-      (kept-plain a.s a.o ((a.done + a.s.skip) / a.word) a.v w.result a.objects.now a.slots.now p.new.0 p.new.1.0 pushed k (take a.size a.scratch.now) q (w.ensures.0 ∙ sym (tag_waits a.v c.match2.keys2)), refl),
+      (kept_plain a.s a.o ((a.done + a.s.skip) / a.word) a.v w.result a.objects.now a.slots.now p.new.0 p.new.1.0 pushed k (take a.size a.scratch.now) q (w.ensures.0 ∙ sym (tag_waits a.v c.match2.keys2)), refl),
     )
 
 pub keep-item-spec : {M : Type 1} → statement M

@@ -3,7 +3,7 @@ use mathlib.Core.Path.{refl, ◌∙◌}
 use native.Mathlib.Omega.{arith}
 use borrow.Author.Tests.{not-true, not-false}
 use Rattle.readers.specs.Views.{input, addresses_is, counters_is}
-use Rattle.objects.proofs.MapLaws.{Prefixed, prefixed_on, prefixed_none, after_none, after-allocated, after_first}
+use Rattle.objects.proofs.MapLaws.{Prefixed, prefixed_on, prefixed_none, after_none, after_allocated, after_first}
 use borrow.Author.Rules.{rules}
 use Rattle.objects.proofs.map.after_map.Statement.{statement}
 use Rattle.objects.proofs.map.after_map.Tie as tie
@@ -36,7 +36,7 @@ same-length-2 : tie.Need-same-length-2
 same-length-2 c = search rules
 
 returns-2 : tie.Need-returns-2
-returns-2 c = let a = c.before.before.before.before.before.before.before.before.before.before.before.before.before.before.before.before.before.args in (λ tr l. after-allocated (input a.sheet.now a.p.now a.spaces tr) a.before a.space a.bytes a.o _ c.before.before.before.before.before.before.before.before.before.before.map_first.ensures c.before.before.before.before.before.before.before.before.before.before.before.before.legacy.ensures (not-false _ c.before.before.before.before.before.before.before.before.before.before.before.if1.false) (not-true _ c.before.before.before.before.before.before.before.before.before.if2.true) (c.before.before.before.before.allocate-object.ensures.0 a.p.now tr l), c.before.before.before.before.allocate-object.ensures.1)
+returns-2 c = let a = c.before.before.before.before.before.before.before.before.before.before.before.before.before.before.before.before.before.args in (λ tr l. after_allocated (input a.sheet.now a.p.now a.spaces tr) a.before a.space a.bytes a.o _ c.before.before.before.before.before.before.before.before.before.before.map_first.ensures c.before.before.before.before.before.before.before.before.before.before.before.before.legacy.ensures (not-false _ c.before.before.before.before.before.before.before.before.before.before.before.if1.false) (not-true _ c.before.before.before.before.before.before.before.before.before.if2.true) (c.before.before.before.before.allocate-object.ensures.0 a.p.now tr l), c.before.before.before.before.allocate-object.ensures.1)
 
 peek-requires : tie.Need-peek-requires
 peek-requires c κs = search rules

@@ -1,4 +1,4 @@
-use Rattle.objects.proofs.MapLaws.{flagged_other, flagged-no-root, flagged-root, flagged-past}
+use Rattle.objects.proofs.MapLaws.{flagged_other, flagged_no_root, flagged_root, flagged_past}
 use borrow.Author.Rules.{rules}
 use Rattle.objects.proofs.map.is_flagged.Statement.{statement}
 use Rattle.objects.proofs.map.is_flagged.Tie as tie
@@ -13,16 +13,16 @@ enum-known-r : tie.Need-enum-known-r
 enum-known-r c = search rules
 
 returns-2 : tie.Need-returns-2
-returns-2 c = λ sh p sp. flagged-no-root _ c.before.before.v.given.1 c.match2.keys2
+returns-2 c = λ sh p sp. flagged_no_root _ c.before.before.v.given.1 c.match2.keys2
 
 shared-slice-read-result : tie.Need-shared-slice-read-result
 shared-slice-read-result c = search rules
 
 returns-3 : tie.Need-returns-3
-returns-3 c = λ sh p sp. flagged-root _ c.before.before.before.before.before.before.v.given.1 c.before.before.before.r.given.1
+returns-3 c = λ sh p sp. flagged_root _ c.before.before.before.before.before.before.v.given.1 c.before.before.before.r.given.1
 
 returns-4 : tie.Need-returns-4
-returns-4 c = λ sh p sp. flagged-past _ c.before.before.before.before.before.v.given.1 c.before.before.r.given.1 c.if1.false
+returns-4 c = λ sh p sp. flagged_past _ c.before.before.before.before.before.v.given.1 c.before.before.r.given.1 c.if1.false
 
 pub is-flagged-spec : {M : Type 1} → statement M
 is-flagged-spec =

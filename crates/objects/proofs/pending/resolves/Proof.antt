@@ -8,7 +8,7 @@ use borrow.Author.Tests.{not-true, not-false}
 use lib.ListN.{length}
 use Rattle.stream.specs.Bytes.{peek_at}
 use Rattle.sheet.specs.Tests.{is_resolve}
-use Rattle.objects.proofs.ResolveLaws.{Resolving, resolving_start, resolving-stop, resolving-cut, resolving-asks, resolving-less, resolving-turn, tag_test, tag_within}
+use Rattle.objects.proofs.ResolveLaws.{Resolving, resolving_start, resolving_stop, resolving_cut, resolving_asks, resolving_less, resolving_turn, tag_test, tag_within}
 use Rattle.objects.proofs.pending.resolves.Statement.{statement}
 use Rattle.objects.proofs.pending.resolves.Tie as tie
 
@@ -34,7 +34,7 @@ returns : tie.Need-returns invariant-loop decreases-loop
 returns c =
     let b = c.before.before.before.before.before.before.before.before in
     let k = c.before.before.before.loop in (
-      resolving-stop _ _ _ _ _ _ _ _ k.invariant (tag_test b.args.sheet.now b.args.p.now k.cur.at c.before.is-tag.ensures c.before.before.peek.ensures (not-true _ c.if1.true)),
+      resolving_stop _ _ _ _ _ _ _ _ k.invariant (tag_test b.args.sheet.now b.args.p.now k.cur.at c.before.is-tag.ensures c.before.before.peek.ensures (not-true _ c.if1.true)),
       k.invariant.indexed,
     )
 
@@ -59,23 +59,23 @@ same-length-2 : tie.Need-same-length-2 invariant-loop decreases-loop
 same-length-2 c = c.before.before.before.before.before.before.before.loop.invariant.slots_length
 
 returns-2 : tie.Need-returns-2 invariant-loop decreases-loop
-returns-2 c = (resolving-cut _ _ _ _ _ _ _ _ c.before.before.before.before.before.before.before.loop.invariant (within c.before.before.before.before) (tagged c.before.before.before.before) c.before.before.before.read_int.ensures.0 c.before.n.given.1, tt)
+returns-2 c = (resolving_cut _ _ _ _ _ _ _ _ c.before.before.before.before.before.before.before.loop.invariant (within c.before.before.before.before) (tagged c.before.before.before.before) c.before.before.before.read_int.ensures.0 c.before.n.given.1, tt)
 
 enum-known-number : tie.Need-enum-known-number invariant-loop decreases-loop
 enum-known-number c = search rules
 
 resolve-requires : tie.Need-resolve-requires invariant-loop decreases-loop
-resolve-requires c κs = resolving-asks _ _ _ _ _ _ _ _ c.before.before.before.before.before.before.before.before.loop.invariant c.before.before.before.before.read_int.ensures.0 c.before.before.number.given.1
+resolve-requires c κs = resolving_asks _ _ _ _ _ _ _ _ c.before.before.before.before.before.before.before.before.loop.invariant c.before.before.before.before.read_int.ensures.0 c.before.before.number.given.1
 
 loop-less : tie.Need-loop-smaller invariant-loop decreases-loop
 loop-less c =
     let r = c.before.before.resolve in
-    resolving-less _ _ _ _ _ _ _ _ c.before.before.before.before.before.before.before.before.before.before.before.loop.invariant (within c.before.before.before.before.before.before.before.before) (tagged c.before.before.before.before.before.before.before.before) c.before.before.before.before.before.before.before.read_int.ensures.0 c.before.before.before.before.before.number.given.1 _ _ r.ensures.0
+    resolving_less _ _ _ _ _ _ _ _ c.before.before.before.before.before.before.before.before.before.before.before.loop.invariant (within c.before.before.before.before.before.before.before.before) (tagged c.before.before.before.before.before.before.before.before) c.before.before.before.before.before.before.before.read_int.ensures.0 c.before.before.before.before.before.number.given.1 _ _ r.ensures.0
 
 loop-again : tie.Need-loop-preserved invariant-loop decreases-loop
 loop-again c =
     let r = c.before.before.resolve in
-    resolving-turn _ _ _ _ _ _ _ _ c.before.before.before.before.before.before.before.before.before.before.before.loop.invariant (within c.before.before.before.before.before.before.before.before) (tagged c.before.before.before.before.before.before.before.before) c.before.before.before.before.before.before.before.read_int.ensures.0 c.before.before.before.before.before.number.given.1 _ _ r.ensures.0 r.auto.0 r.ensures.1
+    resolving_turn _ _ _ _ _ _ _ _ c.before.before.before.before.before.before.before.before.before.before.before.loop.invariant (within c.before.before.before.before.before.before.before.before) (tagged c.before.before.before.before.before.before.before.before) c.before.before.before.before.before.before.before.read_int.ensures.0 c.before.before.before.before.before.number.given.1 _ _ r.ensures.0 r.auto.0 r.ensures.1
 
 pub resolves-spec : {M : Type 1} → statement M
 resolves-spec =

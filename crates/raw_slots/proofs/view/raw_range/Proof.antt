@@ -4,7 +4,7 @@ use mathlib.Core.Bool.{true}
 use native.Mathlib.Omega.{arith}
 use borrow.Author.Rules.{rules}
 use Rattle.raw_slots.specs.View.{is_raw}
-use Rattle.raw_slots.proofs.ViewLaws.{raw_5, raw_6, view_count, view-unlisted, view-other, view-past, view-is}
+use Rattle.raw_slots.proofs.ViewLaws.{raw_5, raw_6, view_count, view_unlisted, view_other, view_past, view_is}
 use Rattle.raw_slots.proofs.view.raw_range.Statement.{statement}
 use Rattle.raw_slots.proofs.view.raw_range.Tie as tie
 
@@ -12,7 +12,7 @@ returns : tie.Need-returns
 returns c = view_count _ _ _ _ (omega arith)
 
 returns-2 : tie.Need-returns-2
-returns-2 c = view-unlisted _ _ _ _ (omega arith) (omega arith)
+returns-2 c = view_unlisted _ _ _ _ (omega arith) (omega arith)
 
 mul-kind : tie.Need-overflow-mul-kind
 mul-kind c = search rules
@@ -27,7 +27,7 @@ shared-slice-read-kind : tie.Need-shared-slice-read-kind
 shared-slice-read-kind c = search rules
 
 returns-3 : tie.Need-returns-3
-returns-3 c = view-other _ _ _ _ (omega arith) (omega arith) c.before.if3.true c.if4.true
+returns-3 c = view_other _ _ _ _ (omega arith) (omega arith) c.before.if3.true c.if4.true
 
 -- past the test of the kind, the slot is raw
 raw : (c : tie.Joined3) → is_raw c.before.before.before.before.args.slots.now c.before.before.before.before.args.k ≡ true
@@ -58,13 +58,13 @@ shared-slice-read-len : tie.Need-shared-slice-read-len
 shared-slice-read-len c = search rules
 
 returns-4 : tie.Need-returns-4
-returns-4 c = view-past _ _ _ _ (omega arith) (omega arith) (raw c.before.before.before) (omega arith)
+returns-4 c = view_past _ _ _ _ (omega arith) (omega arith) (raw c.before.before.before) (omega arith)
 
 returns-5 : tie.Need-returns-5
-returns-5 c = view-past _ _ _ _ (omega arith) (omega arith) (raw c.before.before.before.before) (omega arith)
+returns-5 c = view_past _ _ _ _ (omega arith) (omega arith) (raw c.before.before.before.before) (omega arith)
 
 returns-6 : tie.Need-returns-6
-returns-6 c = view-is _ _ _ _ (omega arith) (omega arith) (raw c.before.before.before.before) (omega arith)
+returns-6 c = view_is _ _ _ _ (omega arith) (omega arith) (raw c.before.before.before.before) (omega arith)
 
 pub raw-range-spec : {M : Type 1} → statement M
 raw-range-spec =

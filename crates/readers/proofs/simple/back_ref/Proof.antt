@@ -1,5 +1,5 @@
 use Rattle.readers.proofs.ViewLaws.{count_is, count_no, then_got, then_no}
-use Rattle.readers.proofs.SimpleLaws.{backref-in, backref-past}
+use Rattle.readers.proofs.SimpleLaws.{backref_in, backref_past}
 use borrow.Author.Rules.{rules}
 use Rattle.readers.proofs.simple.back_ref.Statement.{statement}
 use Rattle.readers.proofs.simple.back_ref.Tie as tie
@@ -20,10 +20,10 @@ returns : tie.Need-returns
 returns c v tr sp l = then_no _ (count_no _ c.before.n.given.1 (c.before.before.before.read_int.ensures.0 v tr sp _))
 
 returns-2 : tie.Need-returns-2
-returns-2 c v tr sp l = then_got _ (count_is _ c.before.before.before.before.i.given.1 (c.before.before.before.before.before.before.read_int.ensures.0 v tr sp _)) (backref-in _ _ c.before.before.if1.true c.add.ensures)
+returns-2 c v tr sp l = then_got _ (count_is _ c.before.before.before.before.i.given.1 (c.before.before.before.before.before.before.read_int.ensures.0 v tr sp _)) (backref_in _ _ c.before.before.if1.true c.add.ensures)
 
 returns-3 : tie.Need-returns-3
-returns-3 c v tr sp l = then_got _ (count_is _ c.before.before.i.given.1 (c.before.before.before.before.read_int.ensures.0 v tr sp _)) (backref-past _ _ c.if1.false)
+returns-3 c v tr sp l = then_got _ (count_is _ c.before.before.i.given.1 (c.before.before.before.before.read_int.ensures.0 v tr sp _)) (backref_past _ _ c.if1.false)
 
 pub back-ref-spec : {M : Type 1} → statement M
 back-ref-spec =

@@ -1,4 +1,4 @@
-use Rattle.readers.proofs.SimpleLaws.{hot-is, hot-empty}
+use Rattle.readers.proofs.SimpleLaws.{hot_is_lem, hot-empty}
 use borrow.Author.Rules.{rules}
 use Rattle.readers.proofs.simple.hot_ref.Statement.{statement}
 use Rattle.readers.proofs.simple.hot_ref.Tie as tie
@@ -13,7 +13,7 @@ enum_told : tie.Need-enum-told
 enum_told c = search rules
 
 returns : tie.Need-returns
-returns c l = hot-is _ _ c.before.before.before.get.ensures c.before.r.given.1
+returns c l = hot_is_lem _ _ c.before.before.before.get.ensures c.before.r.given.1
 
 returns-2 : tie.Need-returns-2
 returns-2 c l = hot-empty _ _ c.before.before.get.ensures c.enum_told.given.1

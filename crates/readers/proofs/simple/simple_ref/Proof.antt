@@ -3,7 +3,7 @@ use Prim.Native.Nat.{◌*◌}
 use native.Mathlib.Omega.{arith}
 use Rattle.definition.specs.Reference.{by_head}
 use Rattle.readers.specs.Views.{addresses_is}
-use Rattle.readers.proofs.SimpleLaws.{raw_same, product_small, by_kind, by-none, internal_grouped, embedder_grouped, target_grouped}
+use Rattle.readers.proofs.SimpleLaws.{raw_same, product_small, by_kind, by_none, internal_grouped, embedder_grouped, target_grouped}
 use borrow.Author.Rules.{rules}
 use Rattle.readers.proofs.simple.simple_ref.Statement.{statement}
 use Rattle.readers.proofs.simple.simple_ref.Tie as tie
@@ -202,7 +202,7 @@ unfolding by_head
 returns-28 c tr sp l inner = by_kind _ _ _ _ inner _ c.match.keys28 refl
 
 returns-29 : tie.Need-returns-29
-returns-29 c tr sp l inner = by-none _ _ _ _ inner _ c.before.before.before.before.before.requires.1.0 c.match.rest
+returns-29 c tr sp l inner = by_none _ _ _ _ inner _ c.before.before.before.before.before.requires.1.0 c.match.rest
 
 pub simple-ref-spec : {M : Type 1} → statement M
 simple-ref-spec =

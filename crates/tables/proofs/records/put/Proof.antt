@@ -5,7 +5,7 @@ use native.Mathlib.Omega.{arith}
 use lib.ListN.{length, length-set}
 use lib.Seq.{paste, paste-zero}
 use Rattle.tables.proofs.RecordLaws.{record_end}
-use Rattle.tables.proofs.Laws.{put_full, put-more, put_done}
+use Rattle.tables.proofs.Laws.{put_full, put_more, put_done}
 use Rattle.tables.proofs.records.put.Statement.{statement}
 use Rattle.tables.proofs.records.put.Tie as tie
 
@@ -58,7 +58,7 @@ loop-less c = omega arith
 loop-again : tie.Need-loop-preserved invariant-loop decreases-loop
 loop-again c =
     let a = c.before.before.before.before.args in
-    (omega arith, simp length-set c.before.before.loop.invariant.1, put-more a.t.now a.row.now a.n _ c.before.before.loop.i c.before.before.loop.invariant.2 (omega (arith, ends c)) (omega arith))
+    (omega arith, simp length-set c.before.before.loop.invariant.1, put_more a.t.now a.row.now a.n _ c.before.before.loop.i c.before.before.loop.invariant.2 (omega (arith, ends c)) (omega arith))
 
 same_length : tie.Need-same-length invariant-loop decreases-loop
 same_length c = c.before.loop.invariant.1

@@ -1,6 +1,6 @@
 -- The needs of `parse_head`: the laws are in ObjectLaws and OpeningLaws. Assumes nothing.
 use Prim.Native.Nat.{ℕ, ◌-◌, ◌*◌, ◌^◌}
-use Rattle.readers.proofs.ViewLaws.{count_is, count_no, count_below, went_on, went-no}
+use Rattle.readers.proofs.ViewLaws.{count_is, count_no, count_below, went_on, went_no}
 use mathlib.Core.List.{[]}
 use Rattle.readers.specs.Views.{input}
 use Rattle.definition.specs.Reference.{ref_at}
@@ -8,9 +8,9 @@ use Rattle.objects.proofs.HeadLaws.{bytes_small}
 use borrow.Author.Tests.{not-true}
 use Rattle.walker.proofs.GroundLaws.{resolves_ground, went_index}
 use Rattle.walker.proofs.ReadyLaws.{out_index}
-use Rattle.walker.proofs.ObjectLaws.{bytes_whole, resolves_asks, opened_ready, headed_cut, headed-bad, headed-on}
+use Rattle.walker.proofs.ObjectLaws.{bytes_whole, resolves_asks, opened_ready, headed_cut, headed_bad, headed_on}
 use Rattle.walker.proofs.LeafLaws.{leaf_asks}
-use Rattle.walker.proofs.OpeningLaws.{resolve_not, resolved-headed, unresolved-headed, leaf-headed, leaf_ready, opened_index, unopened_ready, unopened_headed}
+use Rattle.walker.proofs.OpeningLaws.{resolve_not, resolved-headed, unresolved_headed, leaf_headed, leaf_ready, opened_index, unopened_ready, unopened_headed}
 use borrow.Author.Rules.{rules}
 use native.Mathlib.Omega.{arith}
 use mathlib.Core.Path.{refl, ap, ◌∙◌}
@@ -252,7 +252,7 @@ pub parse-head-returns : (t : ℕ) → parse-head-lts.Need-returns (
   parse-map-below t,
   parse-map.Post,
 ) (parse-head-at t) parse-head.Post
-parse-head-returns t c = let a = c.before.before.before.before.before.before.before.before.before.before.before.before.before.before.before.before.before.before.before.before.before.before.before.before.before.before.before.before.before.before.before.before.before.args in let g = c.before.before.before.before.before.before.before.before.before.before.before.before.before.before.before.before.before.before.before.before.before.before.before.before.before.before.before.before.before.before.before.before.before.requires.1 in let z = c.before.before.before.before.before.before.before.before.before.before.before.before.before.before.before.before.open-leaf.ensures.1 c.before.before.before.before.before.if1.true in (leaf-headed a.v.now a.p.now a.k a.tr.now a.h.now a.sc.now a.s (lent a.ot.now a.st.now a.vt.now a.dt.now a.hr.now a.c.now a.u.now) g.0 a.d z.0 c.before.before.before.before.before.before.before.before.before.before.before.before.before.before.before.before.open-leaf.result c.before.before.before.before.before.if1.true z.1 a.a a.at _ _ _ _ _ _ z.2 z.3 c.before.before.before.before.before.before.before.before.before.before.before.before.before.before.before.before.before.before.before.before.before.before.before.before.word_Bytes.ensures.0 refl (resolve_not a.v.now a.p.now _ c.before.before.peek.ensures c.before.is-tag.ensures (not-true _ c.if2.true)), (opened_index a.v.now a.p.now a.k a.tr.now a.h.now a.sc.now a.s (lent a.ot.now a.st.now a.vt.now a.dt.now a.hr.now a.c.now a.u.now) g.0 a.d z.0 c.before.before.before.before.before.before.before.before.before.before.before.before.before.before.before.before.open-leaf.result c.before.before.before.before.before.if1.true z.1 a.a a.at _ _ _ _ _ _ z.2 z.3, bytes_small _ g.0.proper.sheet_usable c.before.before.before.before.before.before.before.before.before.before.before.before.before.before.before.before.before.before.before.before.before.before.before.before.word_Bytes.ensures.0 z.1.small))
+parse-head-returns t c = let a = c.before.before.before.before.before.before.before.before.before.before.before.before.before.before.before.before.before.before.before.before.before.before.before.before.before.before.before.before.before.before.before.before.before.args in let g = c.before.before.before.before.before.before.before.before.before.before.before.before.before.before.before.before.before.before.before.before.before.before.before.before.before.before.before.before.before.before.before.before.before.requires.1 in let z = c.before.before.before.before.before.before.before.before.before.before.before.before.before.before.before.before.open-leaf.ensures.1 c.before.before.before.before.before.if1.true in (leaf_headed a.v.now a.p.now a.k a.tr.now a.h.now a.sc.now a.s (lent a.ot.now a.st.now a.vt.now a.dt.now a.hr.now a.c.now a.u.now) g.0 a.d z.0 c.before.before.before.before.before.before.before.before.before.before.before.before.before.before.before.before.open-leaf.result c.before.before.before.before.before.if1.true z.1 a.a a.at _ _ _ _ _ _ z.2 z.3 c.before.before.before.before.before.before.before.before.before.before.before.before.before.before.before.before.before.before.before.before.before.before.before.before.word_Bytes.ensures.0 refl (resolve_not a.v.now a.p.now _ c.before.before.peek.ensures c.before.is-tag.ensures (not-true _ c.if2.true)), (opened_index a.v.now a.p.now a.k a.tr.now a.h.now a.sc.now a.s (lent a.ot.now a.st.now a.vt.now a.dt.now a.hr.now a.c.now a.u.now) g.0 a.d z.0 c.before.before.before.before.before.before.before.before.before.before.before.before.before.before.before.before.open-leaf.result c.before.before.before.before.before.if1.true z.1 a.a a.at _ _ _ _ _ _ z.2 z.3, bytes_small _ g.0.proper.sheet_usable c.before.before.before.before.before.before.before.before.before.before.before.before.before.before.before.before.before.before.before.before.before.before.before.before.word_Bytes.ensures.0 z.1.small))
 
 -- src/walk.rt:266:22
 pub parse-head-resolves-requires : (t : ℕ) → parse-head-lts.Need-resolves-requires (
@@ -404,7 +404,7 @@ pub parse-head-returns-2 : (t : ℕ) → parse-head-lts.Need-returns-2 (
   parse-map-below t,
   parse-map.Post,
 ) (parse-head-at t) parse-head.Post
-parse-head-returns-2 t c = let a = c.before.before.before.before.before.before.before.before.before.before.before.before.before.before.before.before.before.before.before.before.before.before.before.before.before.before.before.before.before.before.before.before.before.before.before.before.before.before.before.before.before.args in let g = c.before.before.before.before.before.before.before.before.before.before.before.before.before.before.before.before.before.before.before.before.before.before.before.before.before.before.before.before.before.before.before.before.before.before.before.before.before.before.before.before.before.requires.1 in let z = c.before.before.before.before.before.before.before.before.before.before.before.before.before.before.before.before.before.before.before.before.before.before.before.before.open-leaf.ensures.1 c.before.before.before.before.before.before.before.before.before.before.before.before.before.if1.true in (unresolved-headed a.v.now a.p.now a.k a.tr.now a.h.now a.sc.now a.s (lent a.ot.now a.st.now a.vt.now a.dt.now a.hr.now a.c.now a.u.now) g.0 a.d z.0 c.before.before.before.before.before.before.before.before.before.before.before.before.before.before.before.before.before.before.before.before.before.before.before.before.open-leaf.result c.before.before.before.before.before.before.before.before.before.before.before.before.before.if1.true z.1 a.a a.at _ _ _ _ _ _ z.2 z.3 c.before.before.before.before.before.before.before.before.before.before.before.before.before.before.before.before.before.before.before.before.before.before.before.before.before.before.before.before.before.before.before.before.word_Bytes.ensures.0 refl (went-no (lent _ _ _ _ _ _ _) c.before.m.given.1 (c.before.before.before.before.before.resolves.ensures.0 a.tr.now a.k (lent _ [] _ _ _ _ _))), (tt, tt))
+parse-head-returns-2 t c = let a = c.before.before.before.before.before.before.before.before.before.before.before.before.before.before.before.before.before.before.before.before.before.before.before.before.before.before.before.before.before.before.before.before.before.before.before.before.before.before.before.before.before.args in let g = c.before.before.before.before.before.before.before.before.before.before.before.before.before.before.before.before.before.before.before.before.before.before.before.before.before.before.before.before.before.before.before.before.before.before.before.before.before.before.before.before.before.requires.1 in let z = c.before.before.before.before.before.before.before.before.before.before.before.before.before.before.before.before.before.before.before.before.before.before.before.before.open-leaf.ensures.1 c.before.before.before.before.before.before.before.before.before.before.before.before.before.if1.true in (unresolved_headed a.v.now a.p.now a.k a.tr.now a.h.now a.sc.now a.s (lent a.ot.now a.st.now a.vt.now a.dt.now a.hr.now a.c.now a.u.now) g.0 a.d z.0 c.before.before.before.before.before.before.before.before.before.before.before.before.before.before.before.before.before.before.before.before.before.before.before.before.open-leaf.result c.before.before.before.before.before.before.before.before.before.before.before.before.before.if1.true z.1 a.a a.at _ _ _ _ _ _ z.2 z.3 c.before.before.before.before.before.before.before.before.before.before.before.before.before.before.before.before.before.before.before.before.before.before.before.before.before.before.before.before.before.before.before.before.word_Bytes.ensures.0 refl (went_no (lent _ _ _ _ _ _ _) c.before.m.given.1 (c.before.before.before.before.before.resolves.ensures.0 a.tr.now a.k (lent _ [] _ _ _ _ _))), (tt, tt))
 
 -- src/walk.rt:266:9
 pub parse-head-same-length-9 : (t : ℕ) → parse-head-lts.Need-same-length-9 (
@@ -841,7 +841,7 @@ pub parse-head-returns-5 : (t : ℕ) → parse-head-lts.Need-returns-5 (
   parse-map-below t,
   parse-map.Post,
 ) (parse-head-at t) parse-head.Post
-parse-head-returns-5 t c = let a = c.before.before.before.before.before.before.before.before.before.before.before.before.before.before.before.before.before.before.before.before.before.before.before.before.before.before.before.before.before.before.before.before.before.before.before.before.before.before.before.before.before.before.before.before.before.before.before.before.before.before.before.before.before.before.before.before.before.args in let e = count_is (lent _ _ _ _ _ _ _) c.before.before.before.before.before.before.before.before.before.before.before.before.before.before.before.before.before.before.before.before.before.before.before.words.given.1 (c.before.before.before.before.before.before.before.before.before.before.before.before.before.before.before.before.before.before.before.before.before.before.before.before.before.before.before.open-object.ensures.0 _ _ (lent [] _ _ _ _ _ _)) in (unopened_headed a.s (lent a.ot.now a.st.now a.vt.now a.dt.now a.hr.now a.c.now a.u.now) (c.before.before.before.before.before.before.before.before.before.before.before.before.before.before.before.before.before.before.before.before.before.before.before.before.before.before.before.before.before.before.before.before.before.before.before.before.before.before.before.before.open-leaf.ensures.0 c.before.before.before.before.before.before.before.before.before.before.before.before.before.before.before.before.before.before.before.before.before.before.before.before.before.before.before.before.before.if1.false) (input a.v.now a.p.now a.k a.tr.now) (ref_at (input a.v.now a.p.now a.k a.tr.now) (64 - a.d)) a.a a.at (headed-bad _ _ a.a a.at _ e (ap (λ (w : ℕ). c.before.before.before.before.before.before.before.before.before.before.before.before.before.before.before.before.before.before.before.before.before.before.before.words.given.0.0 * w) c.before.before.before.before.before.before.before.before.before.before.before.before.before.before.before.before.before.before.before.before.before.before.before.before.before.before.before.before.before.before.before.before.before.before.before.before.before.before.before.before.before.before.before.before.before.before.before.before.word_Bytes.ensures.0) (went-no (lent _ _ _ _ _ _ _) c.before.m3.given.1 c.before.before.before.before.before.before.before.before.before.before.before.before.before.parse-map.ensures.0)), (tt, tt))
+parse-head-returns-5 t c = let a = c.before.before.before.before.before.before.before.before.before.before.before.before.before.before.before.before.before.before.before.before.before.before.before.before.before.before.before.before.before.before.before.before.before.before.before.before.before.before.before.before.before.before.before.before.before.before.before.before.before.before.before.before.before.before.before.before.before.args in let e = count_is (lent _ _ _ _ _ _ _) c.before.before.before.before.before.before.before.before.before.before.before.before.before.before.before.before.before.before.before.before.before.before.before.words.given.1 (c.before.before.before.before.before.before.before.before.before.before.before.before.before.before.before.before.before.before.before.before.before.before.before.before.before.before.before.open-object.ensures.0 _ _ (lent [] _ _ _ _ _ _)) in (unopened_headed a.s (lent a.ot.now a.st.now a.vt.now a.dt.now a.hr.now a.c.now a.u.now) (c.before.before.before.before.before.before.before.before.before.before.before.before.before.before.before.before.before.before.before.before.before.before.before.before.before.before.before.before.before.before.before.before.before.before.before.before.before.before.before.before.open-leaf.ensures.0 c.before.before.before.before.before.before.before.before.before.before.before.before.before.before.before.before.before.before.before.before.before.before.before.before.before.before.before.before.before.if1.false) (input a.v.now a.p.now a.k a.tr.now) (ref_at (input a.v.now a.p.now a.k a.tr.now) (64 - a.d)) a.a a.at (headed_bad _ _ a.a a.at _ e (ap (λ (w : ℕ). c.before.before.before.before.before.before.before.before.before.before.before.before.before.before.before.before.before.before.before.before.before.before.before.words.given.0.0 * w) c.before.before.before.before.before.before.before.before.before.before.before.before.before.before.before.before.before.before.before.before.before.before.before.before.before.before.before.before.before.before.before.before.before.before.before.before.before.before.before.before.before.before.before.before.before.before.before.before.word_Bytes.ensures.0) (went_no (lent _ _ _ _ _ _ _) c.before.m3.given.1 c.before.before.before.before.before.before.before.before.before.before.before.before.before.parse-map.ensures.0)), (tt, tt))
 
 -- src/walk.rt:225:1
 pub parse-head-same-length-22 : (t : ℕ) → parse-head-lts.Need-same-length-22 (
@@ -955,4 +955,4 @@ pub parse-head-returns-6 : (t : ℕ) → parse-head-lts.Need-returns-6 (
   parse-map-below t,
   parse-map.Post,
 ) (parse-head-at t) parse-head.Post
-parse-head-returns-6 t c = let a = c.before.before.before.before.before.before.before.before.before.before.before.before.before.before.before.before.before.before.before.before.before.before.before.before.before.before.before.before.before.before.before.before.before.before.before.before.before.before.before.before.before.before.before.before.before.before.before.before.before.before.before.before.before.before.before.before.before.args in let g = c.before.before.before.before.before.before.before.before.before.before.before.before.before.before.before.before.before.before.before.before.before.before.before.before.before.before.before.before.before.before.before.before.before.before.before.before.before.before.before.before.before.before.before.before.before.before.before.before.before.before.before.before.before.before.before.before.before.requires.1 in let e = count_is (lent _ _ _ _ _ _ _) c.before.before.before.before.before.before.before.before.before.before.before.before.before.before.before.before.before.before.before.before.before.before.before.words.given.1 (c.before.before.before.before.before.before.before.before.before.before.before.before.before.before.before.before.before.before.before.before.before.before.before.before.before.before.before.open-object.ensures.0 _ _ (lent [] _ _ _ _ _ _)) in (unopened_headed a.s (lent a.ot.now a.st.now a.vt.now a.dt.now a.hr.now a.c.now a.u.now) (c.before.before.before.before.before.before.before.before.before.before.before.before.before.before.before.before.before.before.before.before.before.before.before.before.before.before.before.before.before.before.before.before.before.before.before.before.before.before.before.before.open-leaf.ensures.0 c.before.before.before.before.before.before.before.before.before.before.before.before.before.before.before.before.before.before.before.before.before.before.before.before.before.before.before.before.before.if1.false) (input a.v.now a.p.now a.k a.tr.now) (ref_at (input a.v.now a.p.now a.k a.tr.now) (64 - a.d)) a.a a.at (headed-on _ _ a.a a.at _ e (ap (λ (w : ℕ). c.before.before.before.before.before.before.before.before.before.before.before.before.before.before.before.before.before.before.before.before.before.before.before.words.given.0.0 * w) c.before.before.before.before.before.before.before.before.before.before.before.before.before.before.before.before.before.before.before.before.before.before.before.before.before.before.before.before.before.before.before.before.before.before.before.before.before.before.before.before.before.before.before.before.before.before.before.before.word_Bytes.ensures.0) (went_on (lent _ _ _ _ _ _ _) c.before.y2.given.1 c.before.before.before.before.before.before.before.before.before.before.before.before.before.parse-map.ensures.0)), (out_index _ (went_on (lent _ _ _ _ _ _ _) c.before.y2.given.1 refl) c.before.before.before.before.before.before.before.before.before.before.before.before.before.parse-map.ensures.1, bytes_small _ g.0.proper.sheet_usable c.before.before.before.before.before.before.before.before.before.before.before.before.before.before.before.before.before.before.before.before.before.before.before.before.before.before.before.before.before.before.before.before.before.before.before.before.before.before.before.before.before.before.before.before.before.before.before.before.word_Bytes.ensures.0 (count_below (2 ^ 30) c.before.before.before.before.before.before.before.before.before.before.before.before.before.before.before.before.before.before.before.before.before.before.before.words.given.1 c.before.before.before.before.before.before.before.before.before.before.before.before.before.before.before.before.before.before.before.before.before.before.before.before.before.before.before.open-object.ensures.1)))
+parse-head-returns-6 t c = let a = c.before.before.before.before.before.before.before.before.before.before.before.before.before.before.before.before.before.before.before.before.before.before.before.before.before.before.before.before.before.before.before.before.before.before.before.before.before.before.before.before.before.before.before.before.before.before.before.before.before.before.before.before.before.before.before.before.before.args in let g = c.before.before.before.before.before.before.before.before.before.before.before.before.before.before.before.before.before.before.before.before.before.before.before.before.before.before.before.before.before.before.before.before.before.before.before.before.before.before.before.before.before.before.before.before.before.before.before.before.before.before.before.before.before.before.before.before.before.requires.1 in let e = count_is (lent _ _ _ _ _ _ _) c.before.before.before.before.before.before.before.before.before.before.before.before.before.before.before.before.before.before.before.before.before.before.before.words.given.1 (c.before.before.before.before.before.before.before.before.before.before.before.before.before.before.before.before.before.before.before.before.before.before.before.before.before.before.before.open-object.ensures.0 _ _ (lent [] _ _ _ _ _ _)) in (unopened_headed a.s (lent a.ot.now a.st.now a.vt.now a.dt.now a.hr.now a.c.now a.u.now) (c.before.before.before.before.before.before.before.before.before.before.before.before.before.before.before.before.before.before.before.before.before.before.before.before.before.before.before.before.before.before.before.before.before.before.before.before.before.before.before.before.open-leaf.ensures.0 c.before.before.before.before.before.before.before.before.before.before.before.before.before.before.before.before.before.before.before.before.before.before.before.before.before.before.before.before.before.if1.false) (input a.v.now a.p.now a.k a.tr.now) (ref_at (input a.v.now a.p.now a.k a.tr.now) (64 - a.d)) a.a a.at (headed_on _ _ a.a a.at _ e (ap (λ (w : ℕ). c.before.before.before.before.before.before.before.before.before.before.before.before.before.before.before.before.before.before.before.before.before.before.before.words.given.0.0 * w) c.before.before.before.before.before.before.before.before.before.before.before.before.before.before.before.before.before.before.before.before.before.before.before.before.before.before.before.before.before.before.before.before.before.before.before.before.before.before.before.before.before.before.before.before.before.before.before.before.word_Bytes.ensures.0) (went_on (lent _ _ _ _ _ _ _) c.before.y2.given.1 c.before.before.before.before.before.before.before.before.before.before.before.before.before.parse-map.ensures.0)), (out_index _ (went_on (lent _ _ _ _ _ _ _) c.before.y2.given.1 refl) c.before.before.before.before.before.before.before.before.before.before.before.before.before.parse-map.ensures.1, bytes_small _ g.0.proper.sheet_usable c.before.before.before.before.before.before.before.before.before.before.before.before.before.before.before.before.before.before.before.before.before.before.before.before.before.before.before.before.before.before.before.before.before.before.before.before.before.before.before.before.before.before.before.before.before.before.before.before.word_Bytes.ensures.0 (count_below (2 ^ 30) c.before.before.before.before.before.before.before.before.before.before.before.before.before.before.before.before.before.before.before.before.before.before.before.words.given.1 c.before.before.before.before.before.before.before.before.before.before.before.before.before.before.before.before.before.before.before.before.before.before.before.before.before.before.before.open-object.ensures.1)))

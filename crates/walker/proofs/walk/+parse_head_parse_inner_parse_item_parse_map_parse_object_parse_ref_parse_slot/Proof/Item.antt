@@ -9,7 +9,7 @@ use Rattle.readers.specs.Views.{input, mem}
 use Rattle.walker.specs.Ready.{lent, Ready, slot_in}
 use Rattle.walker.proofs.ReferenceLaws.{found_by}
 use Rattle.walker.proofs.ItemsLaws.{word_some, deferred_is, deferred_not, deferred_inside, item_deferred, item_slot, answered}
-use Rattle.walker.proofs.LeafLaws.{leaf_asks, place_leaf_asks, leaf-item, leaf-index, leaf_narrow, unplaced}
+use Rattle.walker.proofs.LeafLaws.{leaf_asks, place_leaf_asks, leaf_item, leaf_index, leaf_narrow, unplaced}
 use borrow.Author.Rules.{rules}
 use Rattle.sheet.proofs.tests.is_tag.Reads as is-tag-reads
 use Rattle.levels.proofs.level.item_of.Reads as item-of-reads
@@ -343,7 +343,7 @@ pub parse-item-returns-2 : (t : ℕ) → parse-item-lts.Need-returns-2 (
   item-of-reads.Asked,
   item-of-reads.Learnt,
 ) (parse-item-at t) parse-item.Post
-parse-item-returns-2 t c = let a = c.before.before.before.before.before.before.before.before.before.before.before.before.before.before.before.before.before.before.before.before.before.before.before.before.before.before.before.args in let q = c.before.before.before.before.before.before.before.before.place-leaf in let z = q.ensures.0 c.before.before.if2.true in answered (length a.p.now) c.read2.result (lent _ _ _ _ _ _ _) a.sc.now (c.read2.ensures (lent _ _ _ _ _ _ _)) (item_slot (input a.v.now a.p.now a.k a.tr.now) (ref_at (input a.v.now a.p.now a.k a.tr.now) (64 - a.d)) a.level.object a.level.size a.level.done (mem a.s (lent a.ot.now a.st.now a.vt.now a.dt.now a.hr.now a.c.now a.u.now)) (deferred_not a.v.now a.p.now a.s.at c.before.before.before.before.before.before.before.before.before.before.before.before.before.before.before.before.before.before.peek.ensures c.before.before.before.before.before.before.before.before.before.before.before.before.before.before.before.before.before.is-tag.ensures c.before.before.before.before.before.before.before.before.before.before.before.before.before.before.before.before.if1.false) (leaf-item a.v.now a.p.now a.k a.tr.now a.h.now a.sc.now a.s (lent a.ot.now a.st.now a.vt.now a.dt.now a.hr.now a.c.now a.u.now) c.before.before.before.before.before.before.before.before.before.before.before.before.before.before.before.before.before.before.before.before.before.before.before.before.before.before.before.requires.1.0 a.d z.0 q.result c.before.before.if2.true (λ _. (z.1, z.2)) c.before.before.before.before.before.before.before.before.before.before.before.before.before.before.before.word_Bytes.result c.before.before.before.before.before.before.before.before.before.before.before.before.before.before.before.word_Bytes.ensures.0 q.ensures.1.0 a.level.object a.level.done _ refl _ _ _ q.ensures.1.1)) (leaf-index a.v.now a.p.now a.k a.tr.now a.h.now a.sc.now a.s (lent a.ot.now a.st.now a.vt.now a.dt.now a.hr.now a.c.now a.u.now) c.before.before.before.before.before.before.before.before.before.before.before.before.before.before.before.before.before.before.before.before.before.before.before.before.before.before.before.requires.1.0 a.d z.0 q.result c.before.before.if2.true (λ _. (z.1, z.2)) c.before.before.before.before.before.before.before.before.before.before.before.before.before.before.before.word_Bytes.result c.before.before.before.before.before.before.before.before.before.before.before.before.before.before.before.word_Bytes.ensures.0 q.ensures.1.0 a.level.object a.level.done _ refl _ _ _ q.ensures.1.1)
+parse-item-returns-2 t c = let a = c.before.before.before.before.before.before.before.before.before.before.before.before.before.before.before.before.before.before.before.before.before.before.before.before.before.before.before.args in let q = c.before.before.before.before.before.before.before.before.place-leaf in let z = q.ensures.0 c.before.before.if2.true in answered (length a.p.now) c.read2.result (lent _ _ _ _ _ _ _) a.sc.now (c.read2.ensures (lent _ _ _ _ _ _ _)) (item_slot (input a.v.now a.p.now a.k a.tr.now) (ref_at (input a.v.now a.p.now a.k a.tr.now) (64 - a.d)) a.level.object a.level.size a.level.done (mem a.s (lent a.ot.now a.st.now a.vt.now a.dt.now a.hr.now a.c.now a.u.now)) (deferred_not a.v.now a.p.now a.s.at c.before.before.before.before.before.before.before.before.before.before.before.before.before.before.before.before.before.before.peek.ensures c.before.before.before.before.before.before.before.before.before.before.before.before.before.before.before.before.before.is-tag.ensures c.before.before.before.before.before.before.before.before.before.before.before.before.before.before.before.before.if1.false) (leaf_item a.v.now a.p.now a.k a.tr.now a.h.now a.sc.now a.s (lent a.ot.now a.st.now a.vt.now a.dt.now a.hr.now a.c.now a.u.now) c.before.before.before.before.before.before.before.before.before.before.before.before.before.before.before.before.before.before.before.before.before.before.before.before.before.before.before.requires.1.0 a.d z.0 q.result c.before.before.if2.true (λ _. (z.1, z.2)) c.before.before.before.before.before.before.before.before.before.before.before.before.before.before.before.word_Bytes.result c.before.before.before.before.before.before.before.before.before.before.before.before.before.before.before.word_Bytes.ensures.0 q.ensures.1.0 a.level.object a.level.done _ refl _ _ _ q.ensures.1.1)) (leaf_index a.v.now a.p.now a.k a.tr.now a.h.now a.sc.now a.s (lent a.ot.now a.st.now a.vt.now a.dt.now a.hr.now a.c.now a.u.now) c.before.before.before.before.before.before.before.before.before.before.before.before.before.before.before.before.before.before.before.before.before.before.before.before.before.before.before.requires.1.0 a.d z.0 q.result c.before.before.if2.true (λ _. (z.1, z.2)) c.before.before.before.before.before.before.before.before.before.before.before.before.before.before.before.word_Bytes.result c.before.before.before.before.before.before.before.before.before.before.before.before.before.before.before.word_Bytes.ensures.0 q.ensures.1.0 a.level.object a.level.done _ refl _ _ _ q.ensures.1.1)
 
 -- src/walk.rt:368:9
 pub parse-item-parse-slot-requires : (t : ℕ) → parse-item-lts.Need-parse-slot-requires (

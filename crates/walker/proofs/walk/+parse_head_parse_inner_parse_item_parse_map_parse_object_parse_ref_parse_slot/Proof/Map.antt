@@ -4,10 +4,10 @@ use borrow.Author.Rules.{rules}
 use native.Mathlib.Omega.{arith}
 use mathlib.Core.Path.{refl, ◌∙◌}
 use Rattle.walker.specs.Ready.{lent}
-use Rattle.readers.proofs.ViewLaws.{seen-got, seen_no, went_on, went-no}
+use Rattle.readers.proofs.ViewLaws.{seen_got, seen_no, went_on, went_no}
 use Rattle.walker.proofs.GroundLaws.{resolves_ground, went_index}
 use Rattle.walker.proofs.ReadyLaws.{out_index}
-use Rattle.walker.proofs.ObjectLaws.{went_linked, resolves_asks, after-asks, keep-asks, kept-ready, mapped_no, mapped-bad, mapped-full, mapped-on}
+use Rattle.walker.proofs.ObjectLaws.{went_linked, resolves_asks, after_asks, keep_asks, kept_ready, mapped_no, mapped_bad, mapped_full, mapped_on}
 use Rattle.walker.proofs.walk.parse_map.Reads as parse-map
 use Rattle.walker.proofs.walk.+parse_head_parse_inner_parse_item_parse_map_parse_object_parse_ref_parse_slot.Lts-parse_map as parse-map-lts
 use Rattle.walker.proofs.walk.parse_inner.Reads as parse-inner
@@ -69,8 +69,8 @@ pub parse-map-after-map-requires : (t : ℕ) → parse-map-lts.Need-after-map-re
 parse-map-after-map-requires t c κs =
     let a = c.before.before.before.before.before.before.before.before.before.before.before.before.before.before.before.before.before.before.before.before.before.before.before.before.before.before.before.before.before.before.before.before.before.before.args in
     let g = c.before.before.before.before.before.before.before.before.before.before.before.before.before.before.before.before.before.before.before.before.before.before.before.before.before.before.before.before.before.before.before.before.before.before.requires.1 in
-    let e = seen-got (lent _ _ _ _ _ _ _) c.before.before.before.before.before.x.given.1 c.before.before.before.before.before.before.before.before.before.before.before.before.before.before.before.before.before.parse-inner.ensures.0 in
-    after-asks g.0 a.d a.a a.n a.o e _ (out_index _ (seen-got (lent _ _ _ _ _ _ _) c.before.before.before.before.before.x.given.1 refl) c.before.before.before.before.before.before.before.before.before.before.before.before.before.before.before.before.before.parse-inner.ensures.1) g.1.1 g.1.2
+    let e = seen_got (lent _ _ _ _ _ _ _) c.before.before.before.before.before.x.given.1 c.before.before.before.before.before.before.before.before.before.before.before.before.before.before.before.before.before.parse-inner.ensures.0 in
+    after_asks g.0 a.d a.a a.n a.o e _ (out_index _ (seen_got (lent _ _ _ _ _ _ _) c.before.before.before.before.before.x.given.1 refl) c.before.before.before.before.before.before.before.before.before.before.before.before.before.before.before.before.before.parse-inner.ensures.1) g.1.1 g.1.2
 
 -- src/walk.rt:313:27
 pub parse-map-enum-known-m-2 : (t : ℕ) → parse-map-lts.Need-enum-known-m-2 (
@@ -112,9 +112,9 @@ pub parse-map-keep-map-requires : (t : ℕ) → parse-map-lts.Need-keep-map-requ
 parse-map-keep-map-requires t c κs =
     let a = c.before.before.before.before.before.before.before.before.before.before.before.before.before.before.before.before.before.before.before.before.before.before.before.before.before.before.before.before.before.before.before.before.before.before.before.before.before.before.before.before.before.before.before.before.args in
     let g = c.before.before.before.before.before.before.before.before.before.before.before.before.before.before.before.before.before.before.before.before.before.before.before.before.before.before.before.before.before.before.before.before.before.before.before.before.before.before.before.before.before.before.before.before.requires.1 in
-    let e = seen-got (lent _ _ _ _ _ _ _) c.before.before.before.before.before.before.before.before.before.before.before.before.before.before.before.x.given.1 c.before.before.before.before.before.before.before.before.before.before.before.before.before.before.before.before.before.before.before.before.before.before.before.before.before.before.before.parse-inner.ensures.0 in
+    let e = seen_got (lent _ _ _ _ _ _ _) c.before.before.before.before.before.before.before.before.before.before.before.before.before.before.before.x.given.1 c.before.before.before.before.before.before.before.before.before.before.before.before.before.before.before.before.before.before.before.before.before.before.before.before.before.before.before.parse-inner.ensures.0 in
     let f = went_on (lent _ _ _ _ _ _ _) c.before.before.before.y.given.1 (c.before.before.before.before.before.before.before.before.before.After-map.ensures.0 _ (lent _ _ _ [] _ [] [])) in
-    keep-asks g.0 a.d a.a a.n a.o e f g.1.3 g.1.1 g.1.4 (omega (arith, c.before.before.before.before.before.before.before.before.before.before.before.before.before.before.before.before.before.before.before.before.before.before.before.before.before.before.before.before.before.before.before.before.before.before.before.before.before.before.before.before.before.before.before.before.well-formed))
+    keep_asks g.0 a.d a.a a.n a.o e f g.1.3 g.1.1 g.1.4 (omega (arith, c.before.before.before.before.before.before.before.before.before.before.before.before.before.before.before.before.before.before.before.before.before.before.before.before.before.before.before.before.before.before.before.before.before.before.before.before.before.before.before.before.before.before.before.before.well-formed))
 
 -- src/walk.rt:315:31
 pub parse-map-enum-known-m-3 : (t : ℕ) → parse-map-lts.Need-enum-known-m-3 (
@@ -156,10 +156,10 @@ pub parse-map-resolves-requires : (t : ℕ) → parse-map-lts.Need-resolves-requ
 parse-map-resolves-requires t c κs =
     let a = c.before.before.before.before.before.before.before.before.before.before.before.before.before.before.before.before.before.before.before.before.before.before.before.before.before.before.before.before.before.before.before.before.before.before.before.before.before.before.before.before.before.before.before.before.before.before.before.before.before.before.before.before.before.before.args in
     let g = c.before.before.before.before.before.before.before.before.before.before.before.before.before.before.before.before.before.before.before.before.before.before.before.before.before.before.before.before.before.before.before.before.before.before.before.before.before.before.before.before.before.before.before.before.before.before.before.before.before.before.before.before.before.before.requires.1 in
-    let e = seen-got (lent _ _ _ _ _ _ _) c.before.before.before.before.before.before.before.before.before.before.before.before.before.before.before.before.before.before.before.before.before.before.before.before.before.x.given.1 c.before.before.before.before.before.before.before.before.before.before.before.before.before.before.before.before.before.before.before.before.before.before.before.before.before.before.before.before.before.before.before.before.before.before.before.before.before.parse-inner.ensures.0 in
+    let e = seen_got (lent _ _ _ _ _ _ _) c.before.before.before.before.before.before.before.before.before.before.before.before.before.before.before.before.before.before.before.before.before.before.before.before.before.x.given.1 c.before.before.before.before.before.before.before.before.before.before.before.before.before.before.before.before.before.before.before.before.before.before.before.before.before.before.before.before.before.before.before.before.before.before.before.before.before.parse-inner.ensures.0 in
     let f = went_on (lent _ _ _ _ _ _ _) c.before.before.before.before.before.before.before.before.before.before.before.before.before.y.given.1 (c.before.before.before.before.before.before.before.before.before.before.before.before.before.before.before.before.before.before.before.After-map.ensures.0 _ (lent _ _ _ [] _ [] [])) in
     let k = went_on (lent _ _ _ _ _ _ _) c.before.before.before.w.given.1 (c.before.before.before.before.before.before.before.before.before.keep-map.ensures _ _ _ (lent [] [] _ _ _ _ _)) in
-    resolves_asks (kept-ready g.0 a.d a.a a.n a.o e f g.1.3 g.1.1 g.1.4 c.before.before.before.before.before.before.before.before.before.before.before.before.before.before.before.before.before.before.before.before.before.before.before.before.before.before.before.before.before.before.before.before.before.before.before.before.before.parse-inner.new.1.1.1.1.1.1.1.1.1.1.1.0 c.before.before.before.before.before.before.before.before.before.before.before.before.before.before.before.before.before.before.before.After-map.new.1.1.1.0 (out_index _ (seen-got (lent _ _ _ _ _ _ _) c.before.before.before.before.before.before.before.before.before.before.before.before.before.before.before.before.before.before.before.before.before.before.before.before.before.x.given.1 refl) c.before.before.before.before.before.before.before.before.before.before.before.before.before.before.before.before.before.before.before.before.before.before.before.before.before.before.before.before.before.before.before.before.before.before.before.before.before.parse-inner.ensures.1) c.before.before.before.before.before.before.before.before.before.before.before.before.before.before.before.before.before.before.before.After-map.ensures.1.1 (went_linked _ _ c.before.before.before.before.before.before.before.before.before.before.before.before.before.y.given.1 c.before.before.before.before.before.before.before.before.before.before.before.before.before.before.before.before.before.before.before.After-map.ensures.1.0) k)
+    resolves_asks (kept_ready g.0 a.d a.a a.n a.o e f g.1.3 g.1.1 g.1.4 c.before.before.before.before.before.before.before.before.before.before.before.before.before.before.before.before.before.before.before.before.before.before.before.before.before.before.before.before.before.before.before.before.before.before.before.before.before.parse-inner.new.1.1.1.1.1.1.1.1.1.1.1.0 c.before.before.before.before.before.before.before.before.before.before.before.before.before.before.before.before.before.before.before.After-map.new.1.1.1.0 (out_index _ (seen_got (lent _ _ _ _ _ _ _) c.before.before.before.before.before.before.before.before.before.before.before.before.before.before.before.before.before.before.before.before.before.before.before.before.before.x.given.1 refl) c.before.before.before.before.before.before.before.before.before.before.before.before.before.before.before.before.before.before.before.before.before.before.before.before.before.before.before.before.before.before.before.before.before.before.before.before.before.parse-inner.ensures.1) c.before.before.before.before.before.before.before.before.before.before.before.before.before.before.before.before.before.before.before.After-map.ensures.1.1 (went_linked _ _ c.before.before.before.before.before.before.before.before.before.before.before.before.before.y.given.1 c.before.before.before.before.before.before.before.before.before.before.before.before.before.before.before.before.before.before.before.After-map.ensures.1.0) k)
 
 -- src/walk.rt:284:1
 pub parse-map-same-length : (t : ℕ) → parse-map-lts.Need-same-length (
@@ -321,8 +321,8 @@ pub parse-map-returns-2 : (t : ℕ) → parse-map-lts.Need-returns-2 (
 parse-map-returns-2 t c =
     let a = c.before.before.before.before.before.before.before.before.before.before.before.before.before.before.before.before.before.before.before.before.before.before.before.before.before.before.before.before.before.before.before.before.before.before.before.before.before.before.before.before.before.before.args in
     let g = c.before.before.before.before.before.before.before.before.before.before.before.before.before.before.before.before.before.before.before.before.before.before.before.before.before.before.before.before.before.before.before.before.before.before.before.before.before.before.before.before.before.before.requires.1 in
-    let e = seen-got (lent _ _ _ _ _ _ _) c.before.before.before.before.before.before.before.before.before.before.before.before.before.x.given.1 c.before.before.before.before.before.before.before.before.before.before.before.before.before.before.before.before.before.before.before.before.before.before.before.before.before.parse-inner.ensures.0 in
-    (mapped-bad g.0 a.d a.a a.n a.o e (went-no (lent _ _ _ _ _ _ _) c.before.m2.given.1 (c.before.before.before.before.before.before.before.After-map.ensures.0 _ (lent _ _ _ [] _ [] []))), tt)
+    let e = seen_got (lent _ _ _ _ _ _ _) c.before.before.before.before.before.before.before.before.before.before.before.before.before.x.given.1 c.before.before.before.before.before.before.before.before.before.before.before.before.before.before.before.before.before.before.before.before.before.before.before.before.before.parse-inner.ensures.0 in
+    (mapped_bad g.0 a.d a.a a.n a.o e (went_no (lent _ _ _ _ _ _ _) c.before.m2.given.1 (c.before.before.before.before.before.before.before.After-map.ensures.0 _ (lent _ _ _ [] _ [] []))), tt)
 
 -- src/walk.rt:284:1
 pub parse-map-same-length-11 : (t : ℕ) → parse-map-lts.Need-same-length-11 (
@@ -403,9 +403,9 @@ pub parse-map-returns-3 : (t : ℕ) → parse-map-lts.Need-returns-3 (
 parse-map-returns-3 t c =
     let a = c.before.before.before.before.before.before.before.before.before.before.before.before.before.before.before.before.before.before.before.before.before.before.before.before.before.before.before.before.before.before.before.before.before.before.before.before.before.before.before.before.before.before.before.before.before.before.before.before.before.before.before.before.args in
     let g = c.before.before.before.before.before.before.before.before.before.before.before.before.before.before.before.before.before.before.before.before.before.before.before.before.before.before.before.before.before.before.before.before.before.before.before.before.before.before.before.before.before.before.before.before.before.before.before.before.before.before.before.before.requires.1 in
-    let e = seen-got (lent _ _ _ _ _ _ _) c.before.before.before.before.before.before.before.before.before.before.before.before.before.before.before.before.before.before.before.before.before.before.before.x.given.1 c.before.before.before.before.before.before.before.before.before.before.before.before.before.before.before.before.before.before.before.before.before.before.before.before.before.before.before.before.before.before.before.before.before.before.before.parse-inner.ensures.0 in
+    let e = seen_got (lent _ _ _ _ _ _ _) c.before.before.before.before.before.before.before.before.before.before.before.before.before.before.before.before.before.before.before.before.before.before.before.x.given.1 c.before.before.before.before.before.before.before.before.before.before.before.before.before.before.before.before.before.before.before.before.before.before.before.before.before.before.before.before.before.before.before.before.before.before.before.parse-inner.ensures.0 in
     let f = went_on (lent _ _ _ _ _ _ _) c.before.before.before.before.before.before.before.before.before.before.before.y.given.1 (c.before.before.before.before.before.before.before.before.before.before.before.before.before.before.before.before.before.After-map.ensures.0 _ (lent _ _ _ [] _ [] [])) in
-    (mapped-full g.0 a.d a.a a.n a.o e f (went-no (lent _ _ _ _ _ _ _) c.before.m3.given.1 (c.before.before.before.before.before.before.before.keep-map.ensures _ _ _ (lent [] [] _ _ _ _ _))), tt)
+    (mapped_full g.0 a.d a.a a.n a.o e f (went_no (lent _ _ _ _ _ _ _) c.before.m3.given.1 (c.before.before.before.before.before.before.before.keep-map.ensures _ _ _ (lent [] [] _ _ _ _ _))), tt)
 
 -- src/walk.rt:284:1
 pub parse-map-same-length-16 : (t : ℕ) → parse-map-lts.Need-same-length-16 (
@@ -486,10 +486,10 @@ pub parse-map-returns-4 : (t : ℕ) → parse-map-lts.Need-returns-4 (
 parse-map-returns-4 t c =
     let a = c.before.before.before.before.before.before.before.before.before.before.before.before.before.before.before.before.before.before.before.before.before.before.before.before.before.before.before.before.before.before.before.before.before.before.before.before.before.before.before.before.before.before.before.before.before.before.before.before.before.before.before.before.before.before.before.before.before.args in
     let g = c.before.before.before.before.before.before.before.before.before.before.before.before.before.before.before.before.before.before.before.before.before.before.before.before.before.before.before.before.before.before.before.before.before.before.before.before.before.before.before.before.before.before.before.before.before.before.before.before.before.before.before.before.before.before.before.before.before.requires.1 in
-    let e = seen-got (lent _ _ _ _ _ _ _) c.before.before.before.before.before.before.before.before.before.before.before.before.before.before.before.before.before.before.before.before.before.before.before.before.before.before.before.before.x.given.1 c.before.before.before.before.before.before.before.before.before.before.before.before.before.before.before.before.before.before.before.before.before.before.before.before.before.before.before.before.before.before.before.before.before.before.before.before.before.before.before.before.parse-inner.ensures.0 in
+    let e = seen_got (lent _ _ _ _ _ _ _) c.before.before.before.before.before.before.before.before.before.before.before.before.before.before.before.before.before.before.before.before.before.before.before.before.before.before.before.before.x.given.1 c.before.before.before.before.before.before.before.before.before.before.before.before.before.before.before.before.before.before.before.before.before.before.before.before.before.before.before.before.before.before.before.before.before.before.before.before.before.before.before.before.parse-inner.ensures.0 in
     let f = went_on (lent _ _ _ _ _ _ _) c.before.before.before.before.before.before.before.before.before.before.before.before.before.before.before.before.y.given.1 (c.before.before.before.before.before.before.before.before.before.before.before.before.before.before.before.before.before.before.before.before.before.before.After-map.ensures.0 _ (lent _ _ _ [] _ [] [])) in
     let k = went_on (lent _ _ _ _ _ _ _) c.before.before.before.before.before.before.w.given.1 (c.before.before.before.before.before.before.before.before.before.before.before.before.keep-map.ensures _ _ _ (lent [] [] _ _ _ _ _)) in
-    let r = kept-ready g.0 a.d a.a a.n a.o e f g.1.3 g.1.1 g.1.4 c.before.before.before.before.before.before.before.before.before.before.before.before.before.before.before.before.before.before.before.before.before.before.before.before.before.before.before.before.before.before.before.before.before.before.before.before.before.before.before.before.parse-inner.new.1.1.1.1.1.1.1.1.1.1.1.0 c.before.before.before.before.before.before.before.before.before.before.before.before.before.before.before.before.before.before.before.before.before.before.After-map.new.1.1.1.0 (out_index _ (seen-got (lent _ _ _ _ _ _ _) c.before.before.before.before.before.before.before.before.before.before.before.before.before.before.before.before.before.before.before.before.before.before.before.before.before.before.before.before.x.given.1 refl) c.before.before.before.before.before.before.before.before.before.before.before.before.before.before.before.before.before.before.before.before.before.before.before.before.before.before.before.before.before.before.before.before.before.before.before.before.before.before.before.before.parse-inner.ensures.1) c.before.before.before.before.before.before.before.before.before.before.before.before.before.before.before.before.before.before.before.before.before.before.After-map.ensures.1.1 (went_linked _ _ c.before.before.before.before.before.before.before.before.before.before.before.before.before.before.before.before.y.given.1 c.before.before.before.before.before.before.before.before.before.before.before.before.before.before.before.before.before.before.before.before.before.before.After-map.ensures.1.0) k in (
-      mapped-on g.0 a.d a.a a.n a.o e f k (c.before.before.resolves.ensures.0 _ _ (lent _ [] _ _ _ _ _)),
+    let r = kept_ready g.0 a.d a.a a.n a.o e f g.1.3 g.1.1 g.1.4 c.before.before.before.before.before.before.before.before.before.before.before.before.before.before.before.before.before.before.before.before.before.before.before.before.before.before.before.before.before.before.before.before.before.before.before.before.before.before.before.before.parse-inner.new.1.1.1.1.1.1.1.1.1.1.1.0 c.before.before.before.before.before.before.before.before.before.before.before.before.before.before.before.before.before.before.before.before.before.before.After-map.new.1.1.1.0 (out_index _ (seen_got (lent _ _ _ _ _ _ _) c.before.before.before.before.before.before.before.before.before.before.before.before.before.before.before.before.before.before.before.before.before.before.before.before.before.before.before.before.x.given.1 refl) c.before.before.before.before.before.before.before.before.before.before.before.before.before.before.before.before.before.before.before.before.before.before.before.before.before.before.before.before.before.before.before.before.before.before.before.before.before.before.before.before.parse-inner.ensures.1) c.before.before.before.before.before.before.before.before.before.before.before.before.before.before.before.before.before.before.before.before.before.before.After-map.ensures.1.1 (went_linked _ _ c.before.before.before.before.before.before.before.before.before.before.before.before.before.before.before.before.y.given.1 c.before.before.before.before.before.before.before.before.before.before.before.before.before.before.before.before.before.before.before.before.before.before.After-map.ensures.1.0) k in (
+      mapped_on g.0 a.d a.a a.n a.o e f k (c.before.before.resolves.ensures.0 _ _ (lent _ [] _ _ _ _ _)),
       went_index _ _ _ _ refl r.index.linked c.before.before.resolves.result (lent _ _ _ _ _ _ _) (c.before.before.resolves.ensures.0 c.before.before.before.before.before.before.before.before.before.before.before.before.before.before.before.before.before.before.before.before.before.before.before.before.before.before.before.before.before.before.before.before.before.before.before.before.before.before.before.before.before.before.before.before.before.before.before.before.before.before.before.before.before.before.before.before.before.args.tr.now c.before.before.before.before.before.before.before.before.before.before.before.before.before.before.before.before.before.before.before.before.before.before.before.before.before.before.before.before.before.before.before.before.before.before.before.before.before.before.before.before.before.before.before.before.before.before.before.before.before.before.before.before.before.before.before.before.before.args.k (lent _ [] _ _ _ _ _)) (resolves_ground _ _ _ _) c.before.before.resolves.ensures.1,
     )

@@ -6,7 +6,7 @@ use Rattle.readers.specs.Views.{input, mem}
 use Rattle.levels.specs.Level.{unread_at}
 use Rattle.walker.proofs.ItemsLaws.{word_some, item_is, item_no}
 use Rattle.walker.proofs.LeafLaws.{leaf_asks, place_leaf_asks}
-use Rattle.walker.proofs.NestLaws.{nest_start, nest-headless, nest-headed, nest-over, nest-whole, outer-held, nest-roomless, nest-ends, nest-begins, nest-no, nest-item, object_roomless, object-item, object-index}
+use Rattle.walker.proofs.NestLaws.{nest_start, nest_headless, nest_headed, nest_over, nest_whole, outer_held, nest_roomless, nest_ends, nest_begins, nest_no, nest_item, object_roomless, object_item, object_index}
 use borrow.Author.Rules.{rules}
 use native.Mathlib.Omega.{arith}
 use mathlib.Core.Path.{refl, ◌∙◌}
@@ -250,7 +250,7 @@ pub parse-object-returns : (t : ℕ) → parse-object-lts.Need-returns (
   parse-item-below t,
   parse-item.Post,
 ) (parse-object-at t) parse-object.Post parse-object-Inv-loop parse-object-μ-loop
-parse-object-returns t c = (nest-headless (input c.before.before.before.before.before.before.before.before.before.before.before.before.before.before.before.before.before.before.before.before.before.before.before.before.before.before.before.before.before.before.before.before.before.before.args.v.now c.before.before.before.before.before.before.before.before.before.before.before.before.before.before.before.before.before.before.before.before.before.before.before.before.before.before.before.before.before.before.before.before.before.before.args.p.now c.before.before.before.before.before.before.before.before.before.before.before.before.before.before.before.before.before.before.before.before.before.before.before.before.before.before.before.before.before.before.before.before.before.before.args.k c.before.before.before.before.before.before.before.before.before.before.before.before.before.before.before.before.before.before.before.before.before.before.before.before.before.before.before.before.before.before.before.before.before.before.args.tr.now) c.before.before.before.before.before.before.before.before.before.before.before.before.before.before.before.before.before.before.before.before.before.before.before.before.before.before.before.before.before.before.before.before.before.before.args.h.now c.before.before.before.before.before.before.before.before.before.before.before.before.before.before.before.before.before.before.before.before.before.before.before.before.before.before.before.before.before.before.before.before.before.before.args.d c.before.before.before.before.before.before.before.before.before.before.before.before.before.before.before.before.before.before.before.before.before.before.before.loop.invariant.0 c.before.before.before.before.before.before.before.before.before.before.before.before.before.before.before.before.before.before.before.before.before.before.if1.true (count_no (lent _ _ _ _ _ _ _) c.before.head.given.1 c.before.before.before.before.before.before.before.before.before.before.before.before.before.parse-head.ensures.0), tt)
+parse-object-returns t c = (nest_headless (input c.before.before.before.before.before.before.before.before.before.before.before.before.before.before.before.before.before.before.before.before.before.before.before.before.before.before.before.before.before.before.before.before.before.before.args.v.now c.before.before.before.before.before.before.before.before.before.before.before.before.before.before.before.before.before.before.before.before.before.before.before.before.before.before.before.before.before.before.before.before.before.before.args.p.now c.before.before.before.before.before.before.before.before.before.before.before.before.before.before.before.before.before.before.before.before.before.before.before.before.before.before.before.before.before.before.before.before.before.before.args.k c.before.before.before.before.before.before.before.before.before.before.before.before.before.before.before.before.before.before.before.before.before.before.before.before.before.before.before.before.before.before.before.before.before.before.args.tr.now) c.before.before.before.before.before.before.before.before.before.before.before.before.before.before.before.before.before.before.before.before.before.before.before.before.before.before.before.before.before.before.before.before.before.before.args.h.now c.before.before.before.before.before.before.before.before.before.before.before.before.before.before.before.before.before.before.before.before.before.before.before.before.before.before.before.before.before.before.before.before.before.before.args.d c.before.before.before.before.before.before.before.before.before.before.before.before.before.before.before.before.before.before.before.before.before.before.before.loop.invariant.0 c.before.before.before.before.before.before.before.before.before.before.before.before.before.before.before.before.before.before.before.before.before.before.if1.true (count_no (lent _ _ _ _ _ _ _) c.before.head.given.1 c.before.before.before.before.before.before.before.before.before.before.before.before.before.parse-head.ensures.0), tt)
 
 -- src/walk.rt:182:27
 pub parse-object-enum-known-head-2 : (t : ℕ) → parse-object-lts.Need-enum-known-head-2 (
@@ -288,7 +288,7 @@ pub parse-object-loop-less : (t : ℕ) → parse-object-lts.Need-loop-smaller (
   parse-item-below t,
   parse-item.Post,
 ) (parse-object-at t) parse-object.Post parse-object-Inv-loop parse-object-μ-loop
-parse-object-loop-less t c = let z = nest-headed (input c.before.before.before.before.before.before.before.before.before.before.before.before.before.before.before.before.before.before.before.before.before.before.before.before.before.before.before.before.before.before.before.before.before.before.args.v.now c.before.before.before.before.before.before.before.before.before.before.before.before.before.before.before.before.before.before.before.before.before.before.before.before.before.before.before.before.before.before.before.before.before.before.args.p.now c.before.before.before.before.before.before.before.before.before.before.before.before.before.before.before.before.before.before.before.before.before.before.before.before.before.before.before.before.before.before.before.before.before.before.args.k c.before.before.before.before.before.before.before.before.before.before.before.before.before.before.before.before.before.before.before.before.before.before.before.before.before.before.before.before.before.before.before.before.before.before.args.tr.now) c.before.before.before.before.before.before.before.before.before.before.before.before.before.before.before.before.before.before.before.before.before.before.before.before.before.before.before.before.before.before.before.before.before.before.args.h.now c.before.before.before.before.before.before.before.before.before.before.before.before.before.before.before.before.before.before.before.before.before.before.before.before.before.before.before.before.before.before.before.before.before.before.args.d c.before.before.before.before.before.before.before.before.before.before.before.before.before.before.before.before.before.before.before.before.before.before.before.loop.invariant.0 c.before.before.before.before.before.before.before.before.before.before.before.before.before.before.before.before.before.before.before.before.before.before.if1.true (count_is (lent _ _ _ _ _ _ _) c.before.head2.given.1 c.before.before.before.before.before.before.before.before.before.before.before.before.before.parse-head.ensures.0) (count_below (2 ^ 33) c.before.head2.given.1 c.before.before.before.before.before.before.before.before.before.before.before.before.before.parse-head.ensures.1.1) (out_index _ (count_is (lent _ _ _ _ _ _ _) c.before.head2.given.1 refl) c.before.before.before.before.before.before.before.before.before.before.before.before.before.parse-head.ensures.1.0) _ _ refl c.before.before.before.before.before.before.before.before.before.before.before.before.before.before.before.before.before.before.before.before.before.before.before.before.before.word_Bytes.ensures.0 in omega (arith, z.1, c.before.before.before.before.before.before.before.before.before.before.before.before.before.before.before.before.before.before.before.before.before.before.if1.true, (word_some c.before.before.before.before.before.before.before.before.before.before.before.before.before.before.before.before.before.before.before.before.before.before.before.loop.invariant.0.ready).1, c.before.before.before.before.before.before.before.before.before.before.before.before.before.before.before.before.before.before.before.before.before.before.before.before.before.word_Bytes.ensures.0)
+parse-object-loop-less t c = let z = nest_headed (input c.before.before.before.before.before.before.before.before.before.before.before.before.before.before.before.before.before.before.before.before.before.before.before.before.before.before.before.before.before.before.before.before.before.before.args.v.now c.before.before.before.before.before.before.before.before.before.before.before.before.before.before.before.before.before.before.before.before.before.before.before.before.before.before.before.before.before.before.before.before.before.before.args.p.now c.before.before.before.before.before.before.before.before.before.before.before.before.before.before.before.before.before.before.before.before.before.before.before.before.before.before.before.before.before.before.before.before.before.before.args.k c.before.before.before.before.before.before.before.before.before.before.before.before.before.before.before.before.before.before.before.before.before.before.before.before.before.before.before.before.before.before.before.before.before.before.args.tr.now) c.before.before.before.before.before.before.before.before.before.before.before.before.before.before.before.before.before.before.before.before.before.before.before.before.before.before.before.before.before.before.before.before.before.before.args.h.now c.before.before.before.before.before.before.before.before.before.before.before.before.before.before.before.before.before.before.before.before.before.before.before.before.before.before.before.before.before.before.before.before.before.before.args.d c.before.before.before.before.before.before.before.before.before.before.before.before.before.before.before.before.before.before.before.before.before.before.before.loop.invariant.0 c.before.before.before.before.before.before.before.before.before.before.before.before.before.before.before.before.before.before.before.before.before.before.if1.true (count_is (lent _ _ _ _ _ _ _) c.before.head2.given.1 c.before.before.before.before.before.before.before.before.before.before.before.before.before.parse-head.ensures.0) (count_below (2 ^ 33) c.before.head2.given.1 c.before.before.before.before.before.before.before.before.before.before.before.before.before.parse-head.ensures.1.1) (out_index _ (count_is (lent _ _ _ _ _ _ _) c.before.head2.given.1 refl) c.before.before.before.before.before.before.before.before.before.before.before.before.before.parse-head.ensures.1.0) _ _ refl c.before.before.before.before.before.before.before.before.before.before.before.before.before.before.before.before.before.before.before.before.before.before.before.before.before.word_Bytes.ensures.0 in omega (arith, z.1, c.before.before.before.before.before.before.before.before.before.before.before.before.before.before.before.before.before.before.before.before.before.before.if1.true, (word_some c.before.before.before.before.before.before.before.before.before.before.before.before.before.before.before.before.before.before.before.before.before.before.before.loop.invariant.0.ready).1, c.before.before.before.before.before.before.before.before.before.before.before.before.before.before.before.before.before.before.before.before.before.before.before.before.before.word_Bytes.ensures.0)
 
 -- src/walk.rt:167:5
 pub parse-object-loop-again : (t : ℕ) → parse-object-lts.Need-loop-preserved (
@@ -307,7 +307,7 @@ pub parse-object-loop-again : (t : ℕ) → parse-object-lts.Need-loop-preserved
   parse-item-below t,
   parse-item.Post,
 ) (parse-object-at t) parse-object.Post parse-object-Inv-loop parse-object-μ-loop
-parse-object-loop-again t c = ((nest-headed (input c.before.before.before.before.before.before.before.before.before.before.before.before.before.before.before.before.before.before.before.before.before.before.before.before.before.before.before.before.before.before.before.before.before.before.args.v.now c.before.before.before.before.before.before.before.before.before.before.before.before.before.before.before.before.before.before.before.before.before.before.before.before.before.before.before.before.before.before.before.before.before.before.args.p.now c.before.before.before.before.before.before.before.before.before.before.before.before.before.before.before.before.before.before.before.before.before.before.before.before.before.before.before.before.before.before.before.before.before.before.args.k c.before.before.before.before.before.before.before.before.before.before.before.before.before.before.before.before.before.before.before.before.before.before.before.before.before.before.before.before.before.before.before.before.before.before.args.tr.now) c.before.before.before.before.before.before.before.before.before.before.before.before.before.before.before.before.before.before.before.before.before.before.before.before.before.before.before.before.before.before.before.before.before.before.args.h.now c.before.before.before.before.before.before.before.before.before.before.before.before.before.before.before.before.before.before.before.before.before.before.before.before.before.before.before.before.before.before.before.before.before.before.args.d c.before.before.before.before.before.before.before.before.before.before.before.before.before.before.before.before.before.before.before.before.before.before.before.loop.invariant.0 c.before.before.before.before.before.before.before.before.before.before.before.before.before.before.before.before.before.before.before.before.before.before.if1.true (count_is (lent _ _ _ _ _ _ _) c.before.head2.given.1 c.before.before.before.before.before.before.before.before.before.before.before.before.before.parse-head.ensures.0) (count_below (2 ^ 33) c.before.head2.given.1 c.before.before.before.before.before.before.before.before.before.before.before.before.before.parse-head.ensures.1.1) (out_index _ (count_is (lent _ _ _ _ _ _ _) c.before.head2.given.1 refl) c.before.before.before.before.before.before.before.before.before.before.before.before.before.parse-head.ensures.1.0) _ _ refl c.before.before.before.before.before.before.before.before.before.before.before.before.before.before.before.before.before.before.before.before.before.before.before.before.before.word_Bytes.ensures.0).0, c.before.before.before.before.before.before.before.before.before.before.before.before.before.parse-head.auto.1.1.1.1.1.1.1.1.1.1.1.0 ∙ c.before.before.before.before.before.before.before.before.before.before.before.before.before.before.before.before.before.before.before.before.before.before.before.loop.invariant.1)
+parse-object-loop-again t c = ((nest_headed (input c.before.before.before.before.before.before.before.before.before.before.before.before.before.before.before.before.before.before.before.before.before.before.before.before.before.before.before.before.before.before.before.before.before.before.args.v.now c.before.before.before.before.before.before.before.before.before.before.before.before.before.before.before.before.before.before.before.before.before.before.before.before.before.before.before.before.before.before.before.before.before.before.args.p.now c.before.before.before.before.before.before.before.before.before.before.before.before.before.before.before.before.before.before.before.before.before.before.before.before.before.before.before.before.before.before.before.before.before.before.args.k c.before.before.before.before.before.before.before.before.before.before.before.before.before.before.before.before.before.before.before.before.before.before.before.before.before.before.before.before.before.before.before.before.before.before.args.tr.now) c.before.before.before.before.before.before.before.before.before.before.before.before.before.before.before.before.before.before.before.before.before.before.before.before.before.before.before.before.before.before.before.before.before.before.args.h.now c.before.before.before.before.before.before.before.before.before.before.before.before.before.before.before.before.before.before.before.before.before.before.before.before.before.before.before.before.before.before.before.before.before.before.args.d c.before.before.before.before.before.before.before.before.before.before.before.before.before.before.before.before.before.before.before.before.before.before.before.loop.invariant.0 c.before.before.before.before.before.before.before.before.before.before.before.before.before.before.before.before.before.before.before.before.before.before.if1.true (count_is (lent _ _ _ _ _ _ _) c.before.head2.given.1 c.before.before.before.before.before.before.before.before.before.before.before.before.before.parse-head.ensures.0) (count_below (2 ^ 33) c.before.head2.given.1 c.before.before.before.before.before.before.before.before.before.before.before.before.before.parse-head.ensures.1.1) (out_index _ (count_is (lent _ _ _ _ _ _ _) c.before.head2.given.1 refl) c.before.before.before.before.before.before.before.before.before.before.before.before.before.parse-head.ensures.1.0) _ _ refl c.before.before.before.before.before.before.before.before.before.before.before.before.before.before.before.before.before.before.before.before.before.before.before.before.before.word_Bytes.ensures.0).0, c.before.before.before.before.before.before.before.before.before.before.before.before.before.parse-head.auto.1.1.1.1.1.1.1.1.1.1.1.0 ∙ c.before.before.before.before.before.before.before.before.before.before.before.before.before.before.before.before.before.before.before.before.before.before.before.loop.invariant.1)
 
 -- src/walk.rt:191:17
 pub parse-object-same-length-6 : (t : ℕ) → parse-object-lts.Need-same-length-6 (
@@ -421,7 +421,7 @@ pub parse-object-returns-2 : (t : ℕ) → parse-object-lts.Need-returns-2 (
   parse-item-below t,
   parse-item.Post,
 ) (parse-object-at t) parse-object.Post parse-object-Inv-loop parse-object-μ-loop
-parse-object-returns-2 t c = (nest-over (input c.before.before.before.before.before.before.before.before.before.before.before.before.before.before.args.v.now c.before.before.before.before.before.before.before.before.before.before.before.before.before.before.args.p.now c.before.before.before.before.before.before.before.before.before.before.before.before.before.before.args.k c.before.before.before.before.before.before.before.before.before.before.before.before.before.before.args.tr.now) c.before.before.before.before.before.before.before.before.before.before.before.before.before.before.args.h.now c.before.before.before.before.before.before.before.before.before.before.before.before.before.before.args.d c.before.before.before.loop.invariant.0 (omega (arith, c.before.before.if1.false)) c.before.if2.true c.if3.true, tt)
+parse-object-returns-2 t c = (nest_over (input c.before.before.before.before.before.before.before.before.before.before.before.before.before.before.args.v.now c.before.before.before.before.before.before.before.before.before.before.before.before.before.before.args.p.now c.before.before.before.before.before.before.before.before.before.before.before.before.before.before.args.k c.before.before.before.before.before.before.before.before.before.before.before.before.before.before.args.tr.now) c.before.before.before.before.before.before.before.before.before.before.before.before.before.before.args.h.now c.before.before.before.before.before.before.before.before.before.before.before.before.before.before.args.d c.before.before.before.loop.invariant.0 (omega (arith, c.before.before.if1.false)) c.before.if2.true c.if3.true, tt)
 
 -- src/walk.rt:194:17
 pub parse-object-same-length-11 : (t : ℕ) → parse-object-lts.Need-same-length-11 (
@@ -535,7 +535,7 @@ pub parse-object-returns-3 : (t : ℕ) → parse-object-lts.Need-returns-3 (
   parse-item-below t,
   parse-item.Post,
 ) (parse-object-at t) parse-object.Post parse-object-Inv-loop parse-object-μ-loop
-parse-object-returns-3 t c = (nest-whole (input c.before.before.before.before.before.before.before.before.before.before.before.before.before.before.before.args.v.now c.before.before.before.before.before.before.before.before.before.before.before.before.before.before.before.args.p.now c.before.before.before.before.before.before.before.before.before.before.before.before.before.before.before.args.k c.before.before.before.before.before.before.before.before.before.before.before.before.before.before.before.args.tr.now) c.before.before.before.before.before.before.before.before.before.before.before.before.before.before.before.args.h.now c.before.before.before.before.before.before.before.before.before.before.before.before.before.before.before.args.d c.before.before.before.before.loop.invariant.0 (omega (arith, c.before.before.before.if1.false)) c.before.if3.false c.if4.true, c.before.before.before.before.loop.invariant.0.ready.index)
+parse-object-returns-3 t c = (nest_whole (input c.before.before.before.before.before.before.before.before.before.before.before.before.before.before.before.args.v.now c.before.before.before.before.before.before.before.before.before.before.before.before.before.before.before.args.p.now c.before.before.before.before.before.before.before.before.before.before.before.before.before.before.before.args.k c.before.before.before.before.before.before.before.before.before.before.before.before.before.before.before.args.tr.now) c.before.before.before.before.before.before.before.before.before.before.before.before.before.before.before.args.h.now c.before.before.before.before.before.before.before.before.before.before.before.before.before.before.before.args.d c.before.before.before.before.loop.invariant.0 (omega (arith, c.before.before.before.if1.false)) c.before.if3.false c.if4.true, c.before.before.before.before.loop.invariant.0.ready.index)
 
 -- src/walk.rt:196:20
 pub parse-object-sub-kept : (t : ℕ) → parse-object-lts.Need-overflow-sub-kept (
@@ -611,7 +611,7 @@ pub parse-object-add-start : (t : ℕ) → parse-object-lts.Need-overflow-add-st
   parse-item-below t,
   parse-item.Post,
 ) (parse-object-at t) parse-object.Post parse-object-Inv-loop parse-object-μ-loop
-parse-object-add-start t c = let q = outer-held (input c.before.before.before.before.before.before.before.before.before.before.before.before.before.before.before.before.before.before.args.v.now c.before.before.before.before.before.before.before.before.before.before.before.before.before.before.before.before.before.before.args.p.now c.before.before.before.before.before.before.before.before.before.before.before.before.before.before.before.before.before.before.args.k c.before.before.before.before.before.before.before.before.before.before.before.before.before.before.before.before.before.before.args.tr.now) c.before.before.before.before.before.before.before.before.before.before.before.before.before.before.before.before.before.before.args.h.now c.before.before.before.before.before.before.before.before.before.before.before.before.before.before.before.before.before.before.args.d c.before.before.before.before.before.before.before.loop.invariant.0 (omega (arith, c.before.before.before.before.before.before.if1.false)) c.before.before.before.before.if3.false {j = c.before.before.before.before.before.before.before.loop.auto - 1} (omega (arith, c.before.before.before.if4.false)) in omega (arith, q.2, q.0.small, c.before.before.before.before.before.before.before.loop.invariant.0.ready.sound.skip_low, c.before.before.before.before.before.before.before.loop.invariant.0.ready.sound.within, c.before.before.before.before.before.before.before.loop.invariant.0.ready.proper.short)
+parse-object-add-start t c = let q = outer_held (input c.before.before.before.before.before.before.before.before.before.before.before.before.before.before.before.before.before.before.args.v.now c.before.before.before.before.before.before.before.before.before.before.before.before.before.before.before.before.before.before.args.p.now c.before.before.before.before.before.before.before.before.before.before.before.before.before.before.before.before.before.before.args.k c.before.before.before.before.before.before.before.before.before.before.before.before.before.before.before.before.before.before.args.tr.now) c.before.before.before.before.before.before.before.before.before.before.before.before.before.before.before.before.before.before.args.h.now c.before.before.before.before.before.before.before.before.before.before.before.before.before.before.before.before.before.before.args.d c.before.before.before.before.before.before.before.loop.invariant.0 (omega (arith, c.before.before.before.before.before.before.if1.false)) c.before.before.before.before.if3.false {j = c.before.before.before.before.before.before.before.loop.auto - 1} (omega (arith, c.before.before.before.if4.false)) in omega (arith, q.2, q.0.small, c.before.before.before.before.before.before.before.loop.invariant.0.ready.sound.skip_low, c.before.before.before.before.before.before.before.loop.invariant.0.ready.sound.within, c.before.before.before.before.before.before.before.loop.invariant.0.ready.proper.short)
 
 -- src/walk.rt:200:53
 pub parse-object-div-put-object : (t : ℕ) → parse-object-lts.Need-nonzero-div-put-object (
@@ -763,7 +763,7 @@ pub parse-object-returns-4 : (t : ℕ) → parse-object-lts.Need-returns-4 (
   parse-item-below t,
   parse-item.Post,
 ) (parse-object-at t) parse-object.Post parse-object-Inv-loop parse-object-μ-loop
-parse-object-returns-4 t c = (nest-roomless (input c.before.before.before.before.before.before.before.before.before.before.before.before.before.before.before.before.before.before.before.before.before.before.before.before.before.before.args.v.now c.before.before.before.before.before.before.before.before.before.before.before.before.before.before.before.before.before.before.before.before.before.before.before.before.before.before.args.p.now c.before.before.before.before.before.before.before.before.before.before.before.before.before.before.before.before.before.before.before.before.before.before.before.before.before.before.args.k c.before.before.before.before.before.before.before.before.before.before.before.before.before.before.before.before.before.before.before.before.before.before.before.before.before.before.args.tr.now) c.before.before.before.before.before.before.before.before.before.before.before.before.before.before.before.before.before.before.before.before.before.before.before.before.before.before.args.h.now c.before.before.before.before.before.before.before.before.before.before.before.before.before.before.before.before.before.before.before.before.before.before.before.before.before.before.args.d c.before.before.before.before.before.before.before.before.before.before.before.before.before.before.before.loop.invariant.0 (omega (arith, c.before.before.before.before.before.before.before.before.before.before.before.before.before.before.if1.false)) c.before.before.before.before.before.before.before.before.before.before.before.before.if3.false {j = c.before.before.before.before.before.before.before.before.before.before.before.before.before.before.before.loop.auto - 1} (omega (arith, c.before.before.before.before.before.before.before.before.before.before.before.if4.false)) (object_roomless (input c.before.before.before.before.before.before.before.before.before.before.before.before.before.before.before.before.before.before.before.before.before.before.before.before.before.before.args.v.now c.before.before.before.before.before.before.before.before.before.before.before.before.before.before.before.before.before.before.before.before.before.before.before.before.before.before.args.p.now c.before.before.before.before.before.before.before.before.before.before.before.before.before.before.before.before.before.before.before.before.before.before.before.before.before.before.args.k c.before.before.before.before.before.before.before.before.before.before.before.before.before.before.before.before.before.before.before.before.before.before.before.before.before.before.args.tr.now) (get_or c.before.before.before.before.before.before.before.before.before.before.before.before.before.before.before.loop.levels (c.before.before.before.before.before.before.before.before.before.before.before.before.before.before.before.loop.auto - 1) (unread_at 0 0)).object (get_or c.before.before.before.before.before.before.before.before.before.before.before.before.before.before.before.loop.levels (c.before.before.before.before.before.before.before.before.before.before.before.before.before.before.before.loop.auto - 1) (unread_at 0 0)).done c.before.before.before.before.before.before.before.before.before.before.before.before.before.before.before.loop.level.object c.before.before.before.before.before.before.before.before.before.before.before.before.before.before.before.loop.t (lent c.before.before.before.before.before.before.before.before.before.before.before.before.before.before.before.loop.ot c.before.before.before.before.before.before.before.before.before.before.before.before.before.before.before.loop.st c.before.before.before.before.before.before.before.before.before.before.before.before.before.before.before.loop.vt c.before.before.before.before.before.before.before.before.before.before.before.before.before.before.before.loop.dt c.before.before.before.before.before.before.before.before.before.before.before.before.before.before.before.loop.hr c.before.before.before.before.before.before.before.before.before.before.before.before.before.before.before.loop.c c.before.before.before.before.before.before.before.before.before.before.before.before.before.before.before.loop.u) c.before.before.before.before.before.before.before.before.before.before.before.before.before.before.before.before.before.word_Bytes.ensures.0 c.before.before.before.before.before.put-object.ensures (not-true _ c.if5.true)), tt)
+parse-object-returns-4 t c = (nest_roomless (input c.before.before.before.before.before.before.before.before.before.before.before.before.before.before.before.before.before.before.before.before.before.before.before.before.before.before.args.v.now c.before.before.before.before.before.before.before.before.before.before.before.before.before.before.before.before.before.before.before.before.before.before.before.before.before.before.args.p.now c.before.before.before.before.before.before.before.before.before.before.before.before.before.before.before.before.before.before.before.before.before.before.before.before.before.before.args.k c.before.before.before.before.before.before.before.before.before.before.before.before.before.before.before.before.before.before.before.before.before.before.before.before.before.before.args.tr.now) c.before.before.before.before.before.before.before.before.before.before.before.before.before.before.before.before.before.before.before.before.before.before.before.before.before.before.args.h.now c.before.before.before.before.before.before.before.before.before.before.before.before.before.before.before.before.before.before.before.before.before.before.before.before.before.before.args.d c.before.before.before.before.before.before.before.before.before.before.before.before.before.before.before.loop.invariant.0 (omega (arith, c.before.before.before.before.before.before.before.before.before.before.before.before.before.before.if1.false)) c.before.before.before.before.before.before.before.before.before.before.before.before.if3.false {j = c.before.before.before.before.before.before.before.before.before.before.before.before.before.before.before.loop.auto - 1} (omega (arith, c.before.before.before.before.before.before.before.before.before.before.before.if4.false)) (object_roomless (input c.before.before.before.before.before.before.before.before.before.before.before.before.before.before.before.before.before.before.before.before.before.before.before.before.before.before.args.v.now c.before.before.before.before.before.before.before.before.before.before.before.before.before.before.before.before.before.before.before.before.before.before.before.before.before.before.args.p.now c.before.before.before.before.before.before.before.before.before.before.before.before.before.before.before.before.before.before.before.before.before.before.before.before.before.before.args.k c.before.before.before.before.before.before.before.before.before.before.before.before.before.before.before.before.before.before.before.before.before.before.before.before.before.before.args.tr.now) (get_or c.before.before.before.before.before.before.before.before.before.before.before.before.before.before.before.loop.levels (c.before.before.before.before.before.before.before.before.before.before.before.before.before.before.before.loop.auto - 1) (unread_at 0 0)).object (get_or c.before.before.before.before.before.before.before.before.before.before.before.before.before.before.before.loop.levels (c.before.before.before.before.before.before.before.before.before.before.before.before.before.before.before.loop.auto - 1) (unread_at 0 0)).done c.before.before.before.before.before.before.before.before.before.before.before.before.before.before.before.loop.level.object c.before.before.before.before.before.before.before.before.before.before.before.before.before.before.before.loop.t (lent c.before.before.before.before.before.before.before.before.before.before.before.before.before.before.before.loop.ot c.before.before.before.before.before.before.before.before.before.before.before.before.before.before.before.loop.st c.before.before.before.before.before.before.before.before.before.before.before.before.before.before.before.loop.vt c.before.before.before.before.before.before.before.before.before.before.before.before.before.before.before.loop.dt c.before.before.before.before.before.before.before.before.before.before.before.before.before.before.before.loop.hr c.before.before.before.before.before.before.before.before.before.before.before.before.before.before.before.loop.c c.before.before.before.before.before.before.before.before.before.before.before.before.before.before.before.loop.u) c.before.before.before.before.before.before.before.before.before.before.before.before.before.before.before.before.before.word_Bytes.ensures.0 c.before.before.before.before.before.put-object.ensures (not-true _ c.if5.true)), tt)
 
 -- src/walk.rt:203:23
 pub parse-object-add-t : (t : ℕ) → parse-object-lts.Need-overflow-add-t (
@@ -801,7 +801,7 @@ pub parse-object-add-level : (t : ℕ) → parse-object-lts.Need-overflow-add-le
   parse-item-below t,
   parse-item.Post,
 ) (parse-object-at t) parse-object.Post parse-object-Inv-loop parse-object-μ-loop
-parse-object-add-level t c = let q = outer-held (input c.before.before.before.before.before.before.before.before.before.before.before.before.before.before.before.before.before.before.before.before.before.before.before.before.before.before.args.v.now c.before.before.before.before.before.before.before.before.before.before.before.before.before.before.before.before.before.before.before.before.before.before.before.before.before.before.args.p.now c.before.before.before.before.before.before.before.before.before.before.before.before.before.before.before.before.before.before.before.before.before.before.before.before.before.before.args.k c.before.before.before.before.before.before.before.before.before.before.before.before.before.before.before.before.before.before.before.before.before.before.before.before.before.before.args.tr.now) c.before.before.before.before.before.before.before.before.before.before.before.before.before.before.before.before.before.before.before.before.before.before.before.before.before.before.args.h.now c.before.before.before.before.before.before.before.before.before.before.before.before.before.before.before.before.before.before.before.before.before.before.before.before.before.before.args.d c.before.before.before.before.before.before.before.before.before.before.before.before.before.before.before.loop.invariant.0 (omega (arith, c.before.before.before.before.before.before.before.before.before.before.before.before.before.before.if1.false)) c.before.before.before.before.before.before.before.before.before.before.before.before.if3.false {j = c.before.before.before.before.before.before.before.before.before.before.before.before.before.before.before.loop.auto - 1} (omega (arith, c.before.before.before.before.before.before.before.before.before.before.before.if4.false)) in omega (arith, q.2, q.0.small, c.before.before.before.before.before.before.before.before.before.before.before.before.before.before.before.loop.invariant.0.ready.sound.skip_low, c.before.before.before.before.before.before.before.before.before.before.before.before.before.before.before.loop.invariant.0.ready.sound.within, c.before.before.before.before.before.before.before.before.before.before.before.before.before.before.before.loop.invariant.0.ready.proper.short, (word_some c.before.before.before.before.before.before.before.before.before.before.before.before.before.before.before.loop.invariant.0.ready).0, c.before.before.before.before.before.before.before.before.before.before.before.before.before.before.before.before.before.word_Bytes.ensures.0)
+parse-object-add-level t c = let q = outer_held (input c.before.before.before.before.before.before.before.before.before.before.before.before.before.before.before.before.before.before.before.before.before.before.before.before.before.before.args.v.now c.before.before.before.before.before.before.before.before.before.before.before.before.before.before.before.before.before.before.before.before.before.before.before.before.before.before.args.p.now c.before.before.before.before.before.before.before.before.before.before.before.before.before.before.before.before.before.before.before.before.before.before.before.before.before.before.args.k c.before.before.before.before.before.before.before.before.before.before.before.before.before.before.before.before.before.before.before.before.before.before.before.before.before.before.args.tr.now) c.before.before.before.before.before.before.before.before.before.before.before.before.before.before.before.before.before.before.before.before.before.before.before.before.before.before.args.h.now c.before.before.before.before.before.before.before.before.before.before.before.before.before.before.before.before.before.before.before.before.before.before.before.before.before.before.args.d c.before.before.before.before.before.before.before.before.before.before.before.before.before.before.before.loop.invariant.0 (omega (arith, c.before.before.before.before.before.before.before.before.before.before.before.before.before.before.if1.false)) c.before.before.before.before.before.before.before.before.before.before.before.before.if3.false {j = c.before.before.before.before.before.before.before.before.before.before.before.before.before.before.before.loop.auto - 1} (omega (arith, c.before.before.before.before.before.before.before.before.before.before.before.if4.false)) in omega (arith, q.2, q.0.small, c.before.before.before.before.before.before.before.before.before.before.before.before.before.before.before.loop.invariant.0.ready.sound.skip_low, c.before.before.before.before.before.before.before.before.before.before.before.before.before.before.before.loop.invariant.0.ready.sound.within, c.before.before.before.before.before.before.before.before.before.before.before.before.before.before.before.loop.invariant.0.ready.proper.short, (word_some c.before.before.before.before.before.before.before.before.before.before.before.before.before.before.before.loop.invariant.0.ready).0, c.before.before.before.before.before.before.before.before.before.before.before.before.before.before.before.before.before.word_Bytes.ensures.0)
 
 -- src/walk.rt:167:5
 pub parse-object-loop-less-2 : (t : ℕ) → parse-object-lts.Need-loop-smaller-2 (
@@ -839,7 +839,7 @@ pub parse-object-loop-again-2 : (t : ℕ) → parse-object-lts.Need-loop-preserv
   parse-item-below t,
   parse-item.Post,
 ) (parse-object-at t) parse-object.Post parse-object-Inv-loop parse-object-μ-loop
-parse-object-loop-again-2 t c = (nest-ends (input c.before.before.before.before.before.before.before.before.before.before.before.before.before.before.before.before.before.before.before.before.before.before.before.before.before.before.args.v.now c.before.before.before.before.before.before.before.before.before.before.before.before.before.before.before.before.before.before.before.before.before.before.before.before.before.before.args.p.now c.before.before.before.before.before.before.before.before.before.before.before.before.before.before.before.before.before.before.before.before.before.before.before.before.before.before.args.k c.before.before.before.before.before.before.before.before.before.before.before.before.before.before.before.before.before.before.before.before.before.before.before.before.before.before.args.tr.now) c.before.before.before.before.before.before.before.before.before.before.before.before.before.before.before.before.before.before.before.before.before.before.before.before.before.before.args.h.now c.before.before.before.before.before.before.before.before.before.before.before.before.before.before.before.before.before.before.before.before.before.before.before.before.before.before.args.d c.before.before.before.before.before.before.before.before.before.before.before.before.before.before.before.loop.invariant.0 (omega (arith, c.before.before.before.before.before.before.before.before.before.before.before.before.before.before.if1.false)) c.before.before.before.before.before.before.before.before.before.before.before.before.if3.false {j = c.before.before.before.before.before.before.before.before.before.before.before.before.before.before.before.loop.auto - 1} (omega (arith, c.before.before.before.before.before.before.before.before.before.before.before.if4.false)) (object-item (input c.before.before.before.before.before.before.before.before.before.before.before.before.before.before.before.before.before.before.before.before.before.before.before.before.before.before.args.v.now c.before.before.before.before.before.before.before.before.before.before.before.before.before.before.before.before.before.before.before.before.before.before.before.before.before.before.args.p.now c.before.before.before.before.before.before.before.before.before.before.before.before.before.before.before.before.before.before.before.before.before.before.before.before.before.before.args.k c.before.before.before.before.before.before.before.before.before.before.before.before.before.before.before.before.before.before.before.before.before.before.before.before.before.before.args.tr.now) (get_or c.before.before.before.before.before.before.before.before.before.before.before.before.before.before.before.loop.levels (c.before.before.before.before.before.before.before.before.before.before.before.before.before.before.before.loop.auto - 1) (unread_at 0 0)).object (get_or c.before.before.before.before.before.before.before.before.before.before.before.before.before.before.before.loop.levels (c.before.before.before.before.before.before.before.before.before.before.before.before.before.before.before.loop.auto - 1) (unread_at 0 0)).done c.before.before.before.before.before.before.before.before.before.before.before.before.before.before.before.loop.level.object c.before.before.before.before.before.before.before.before.before.before.before.before.before.before.before.loop.t (lent c.before.before.before.before.before.before.before.before.before.before.before.before.before.before.before.loop.ot c.before.before.before.before.before.before.before.before.before.before.before.before.before.before.before.loop.st c.before.before.before.before.before.before.before.before.before.before.before.before.before.before.before.loop.vt c.before.before.before.before.before.before.before.before.before.before.before.before.before.before.before.loop.dt c.before.before.before.before.before.before.before.before.before.before.before.before.before.before.before.loop.hr c.before.before.before.before.before.before.before.before.before.before.before.before.before.before.before.loop.c c.before.before.before.before.before.before.before.before.before.before.before.before.before.before.before.loop.u) c.before.before.before.before.before.before.before.before.before.before.before.before.before.before.before.before.before.word_Bytes.ensures.0 c.before.before.before.before.before.put-object.ensures (not-false _ c.if5.false)) (object-index (input c.before.before.before.before.before.before.before.before.before.before.before.before.before.before.before.before.before.before.before.before.before.before.before.before.before.before.args.v.now c.before.before.before.before.before.before.before.before.before.before.before.before.before.before.before.before.before.before.before.before.before.before.before.before.before.before.args.p.now c.before.before.before.before.before.before.before.before.before.before.before.before.before.before.before.before.before.before.before.before.before.before.before.before.before.before.args.k c.before.before.before.before.before.before.before.before.before.before.before.before.before.before.before.before.before.before.before.before.before.before.before.before.before.before.args.tr.now) (get_or c.before.before.before.before.before.before.before.before.before.before.before.before.before.before.before.loop.levels (c.before.before.before.before.before.before.before.before.before.before.before.before.before.before.before.loop.auto - 1) (unread_at 0 0)).object (get_or c.before.before.before.before.before.before.before.before.before.before.before.before.before.before.before.loop.levels (c.before.before.before.before.before.before.before.before.before.before.before.before.before.before.before.loop.auto - 1) (unread_at 0 0)).done c.before.before.before.before.before.before.before.before.before.before.before.before.before.before.before.loop.level.object c.before.before.before.before.before.before.before.before.before.before.before.before.before.before.before.loop.t (lent c.before.before.before.before.before.before.before.before.before.before.before.before.before.before.before.loop.ot c.before.before.before.before.before.before.before.before.before.before.before.before.before.before.before.loop.st c.before.before.before.before.before.before.before.before.before.before.before.before.before.before.before.loop.vt c.before.before.before.before.before.before.before.before.before.before.before.before.before.before.before.loop.dt c.before.before.before.before.before.before.before.before.before.before.before.before.before.before.before.loop.hr c.before.before.before.before.before.before.before.before.before.before.before.before.before.before.before.loop.c c.before.before.before.before.before.before.before.before.before.before.before.before.before.before.before.loop.u) c.before.before.before.before.before.before.before.before.before.before.before.before.before.before.before.before.before.word_Bytes.ensures.0 c.before.before.before.before.before.put-object.ensures (not-false _ c.if5.false) c.before.before.before.before.before.before.before.before.before.before.before.before.before.before.before.loop.invariant.0.ready), c.before.before.before.before.before.before.before.before.before.before.before.before.before.before.before.loop.invariant.1)
+parse-object-loop-again-2 t c = (nest_ends (input c.before.before.before.before.before.before.before.before.before.before.before.before.before.before.before.before.before.before.before.before.before.before.before.before.before.before.args.v.now c.before.before.before.before.before.before.before.before.before.before.before.before.before.before.before.before.before.before.before.before.before.before.before.before.before.before.args.p.now c.before.before.before.before.before.before.before.before.before.before.before.before.before.before.before.before.before.before.before.before.before.before.before.before.before.before.args.k c.before.before.before.before.before.before.before.before.before.before.before.before.before.before.before.before.before.before.before.before.before.before.before.before.before.before.args.tr.now) c.before.before.before.before.before.before.before.before.before.before.before.before.before.before.before.before.before.before.before.before.before.before.before.before.before.before.args.h.now c.before.before.before.before.before.before.before.before.before.before.before.before.before.before.before.before.before.before.before.before.before.before.before.before.before.before.args.d c.before.before.before.before.before.before.before.before.before.before.before.before.before.before.before.loop.invariant.0 (omega (arith, c.before.before.before.before.before.before.before.before.before.before.before.before.before.before.if1.false)) c.before.before.before.before.before.before.before.before.before.before.before.before.if3.false {j = c.before.before.before.before.before.before.before.before.before.before.before.before.before.before.before.loop.auto - 1} (omega (arith, c.before.before.before.before.before.before.before.before.before.before.before.if4.false)) (object_item (input c.before.before.before.before.before.before.before.before.before.before.before.before.before.before.before.before.before.before.before.before.before.before.before.before.before.before.args.v.now c.before.before.before.before.before.before.before.before.before.before.before.before.before.before.before.before.before.before.before.before.before.before.before.before.before.before.args.p.now c.before.before.before.before.before.before.before.before.before.before.before.before.before.before.before.before.before.before.before.before.before.before.before.before.before.before.args.k c.before.before.before.before.before.before.before.before.before.before.before.before.before.before.before.before.before.before.before.before.before.before.before.before.before.before.args.tr.now) (get_or c.before.before.before.before.before.before.before.before.before.before.before.before.before.before.before.loop.levels (c.before.before.before.before.before.before.before.before.before.before.before.before.before.before.before.loop.auto - 1) (unread_at 0 0)).object (get_or c.before.before.before.before.before.before.before.before.before.before.before.before.before.before.before.loop.levels (c.before.before.before.before.before.before.before.before.before.before.before.before.before.before.before.loop.auto - 1) (unread_at 0 0)).done c.before.before.before.before.before.before.before.before.before.before.before.before.before.before.before.loop.level.object c.before.before.before.before.before.before.before.before.before.before.before.before.before.before.before.loop.t (lent c.before.before.before.before.before.before.before.before.before.before.before.before.before.before.before.loop.ot c.before.before.before.before.before.before.before.before.before.before.before.before.before.before.before.loop.st c.before.before.before.before.before.before.before.before.before.before.before.before.before.before.before.loop.vt c.before.before.before.before.before.before.before.before.before.before.before.before.before.before.before.loop.dt c.before.before.before.before.before.before.before.before.before.before.before.before.before.before.before.loop.hr c.before.before.before.before.before.before.before.before.before.before.before.before.before.before.before.loop.c c.before.before.before.before.before.before.before.before.before.before.before.before.before.before.before.loop.u) c.before.before.before.before.before.before.before.before.before.before.before.before.before.before.before.before.before.word_Bytes.ensures.0 c.before.before.before.before.before.put-object.ensures (not-false _ c.if5.false)) (object_index (input c.before.before.before.before.before.before.before.before.before.before.before.before.before.before.before.before.before.before.before.before.before.before.before.before.before.before.args.v.now c.before.before.before.before.before.before.before.before.before.before.before.before.before.before.before.before.before.before.before.before.before.before.before.before.before.before.args.p.now c.before.before.before.before.before.before.before.before.before.before.before.before.before.before.before.before.before.before.before.before.before.before.before.before.before.before.args.k c.before.before.before.before.before.before.before.before.before.before.before.before.before.before.before.before.before.before.before.before.before.before.before.before.before.before.args.tr.now) (get_or c.before.before.before.before.before.before.before.before.before.before.before.before.before.before.before.loop.levels (c.before.before.before.before.before.before.before.before.before.before.before.before.before.before.before.loop.auto - 1) (unread_at 0 0)).object (get_or c.before.before.before.before.before.before.before.before.before.before.before.before.before.before.before.loop.levels (c.before.before.before.before.before.before.before.before.before.before.before.before.before.before.before.loop.auto - 1) (unread_at 0 0)).done c.before.before.before.before.before.before.before.before.before.before.before.before.before.before.before.loop.level.object c.before.before.before.before.before.before.before.before.before.before.before.before.before.before.before.loop.t (lent c.before.before.before.before.before.before.before.before.before.before.before.before.before.before.before.loop.ot c.before.before.before.before.before.before.before.before.before.before.before.before.before.before.before.loop.st c.before.before.before.before.before.before.before.before.before.before.before.before.before.before.before.loop.vt c.before.before.before.before.before.before.before.before.before.before.before.before.before.before.before.loop.dt c.before.before.before.before.before.before.before.before.before.before.before.before.before.before.before.loop.hr c.before.before.before.before.before.before.before.before.before.before.before.before.before.before.before.loop.c c.before.before.before.before.before.before.before.before.before.before.before.before.before.before.before.loop.u) c.before.before.before.before.before.before.before.before.before.before.before.before.before.before.before.before.before.word_Bytes.ensures.0 c.before.before.before.before.before.put-object.ensures (not-false _ c.if5.false) c.before.before.before.before.before.before.before.before.before.before.before.before.before.before.before.loop.invariant.0.ready), c.before.before.before.before.before.before.before.before.before.before.before.before.before.before.before.loop.invariant.1)
 
 -- src/walk.rt:206:19
 pub parse-object-begins-object-requires : (t : ℕ) → parse-object-lts.Need-begins-object-requires (
@@ -991,7 +991,7 @@ pub parse-object-loop-again-3 : (t : ℕ) → parse-object-lts.Need-loop-preserv
   parse-item-below t,
   parse-item.Post,
 ) (parse-object-at t) parse-object.Post parse-object-Inv-loop parse-object-μ-loop
-parse-object-loop-again-3 t c = (nest-begins (input c.before.before.before.before.before.before.before.before.before.before.before.before.before.before.before.before.args.v.now c.before.before.before.before.before.before.before.before.before.before.before.before.before.before.before.before.args.p.now c.before.before.before.before.before.before.before.before.before.before.before.before.before.before.before.before.args.k c.before.before.before.before.before.before.before.before.before.before.before.before.before.before.before.before.args.tr.now) c.before.before.before.before.before.before.before.before.before.before.before.before.before.before.before.before.args.h.now c.before.before.before.before.before.before.before.before.before.before.before.before.before.before.before.before.args.d c.before.before.before.before.before.loop.invariant.0 (omega (arith, c.before.before.before.before.if1.false)) c.before.before.before.if2.false (c.before.before.begins-object.ensures c.before.if6.true) c.child-at.ensures.1 c.child-at.ensures.0, c.before.before.before.before.before.loop.invariant.1)
+parse-object-loop-again-3 t c = (nest_begins (input c.before.before.before.before.before.before.before.before.before.before.before.before.before.before.before.before.args.v.now c.before.before.before.before.before.before.before.before.before.before.before.before.before.before.before.before.args.p.now c.before.before.before.before.before.before.before.before.before.before.before.before.before.before.before.before.args.k c.before.before.before.before.before.before.before.before.before.before.before.before.before.before.before.before.args.tr.now) c.before.before.before.before.before.before.before.before.before.before.before.before.before.before.before.before.args.h.now c.before.before.before.before.before.before.before.before.before.before.before.before.before.before.before.before.args.d c.before.before.before.before.before.loop.invariant.0 (omega (arith, c.before.before.before.before.if1.false)) c.before.before.before.if2.false (c.before.before.begins-object.ensures c.before.if6.true) c.child-at.ensures.1 c.child-at.ensures.0, c.before.before.before.before.before.loop.invariant.1)
 
 -- src/walk.rt:212:17
 pub parse-object-parse-item-requires : (t : ℕ) → parse-object-lts.Need-parse-item-requires (
@@ -1124,7 +1124,7 @@ pub parse-object-returns-5 : (t : ℕ) → parse-object-lts.Need-returns-5 (
   parse-item-below t,
   parse-item.Post,
 ) (parse-object-at t) parse-object.Post parse-object-Inv-loop parse-object-μ-loop
-parse-object-returns-5 t c = (nest-no (input c.before.before.before.before.before.before.before.before.before.before.before.before.before.before.before.before.before.before.before.before.before.before.before.before.before.before.before.before.before.before.before.before.before.before.before.before.before.args.v.now c.before.before.before.before.before.before.before.before.before.before.before.before.before.before.before.before.before.before.before.before.before.before.before.before.before.before.before.before.before.before.before.before.before.before.before.before.before.args.p.now c.before.before.before.before.before.before.before.before.before.before.before.before.before.before.before.before.before.before.before.before.before.before.before.before.before.before.before.before.before.before.before.before.before.before.before.before.before.args.k c.before.before.before.before.before.before.before.before.before.before.before.before.before.before.before.before.before.before.before.before.before.before.before.before.before.before.before.before.before.before.before.before.before.before.before.before.before.args.tr.now) c.before.before.before.before.before.before.before.before.before.before.before.before.before.before.before.before.before.before.before.before.before.before.before.before.before.before.before.before.before.before.before.before.before.before.before.before.before.args.h.now c.before.before.before.before.before.before.before.before.before.before.before.before.before.before.before.before.before.before.before.before.before.before.before.before.before.before.before.before.before.before.before.before.before.before.before.before.before.args.d c.before.before.before.before.before.before.before.before.before.before.before.before.before.before.before.before.before.before.before.before.before.before.before.before.before.before.loop.invariant.0 (omega (arith, c.before.before.before.before.before.before.before.before.before.before.before.before.before.before.before.before.before.before.before.before.before.before.before.before.before.if1.false)) c.before.before.before.before.before.before.before.before.before.before.before.before.before.before.before.before.before.before.before.before.before.before.before.before.if2.false (item_no c.before.before.before.before.before.before.before.before.before.before.before.before.before.parse-item.result (lent _ _ _ _ _ _ _) c.before.before.before.before.before.before.before.before.before.before.before.before.before.parse-item.ensures.0 (not-true _ c.if7.true)), tt)
+parse-object-returns-5 t c = (nest_no (input c.before.before.before.before.before.before.before.before.before.before.before.before.before.before.before.before.before.before.before.before.before.before.before.before.before.before.before.before.before.before.before.before.before.before.before.before.before.args.v.now c.before.before.before.before.before.before.before.before.before.before.before.before.before.before.before.before.before.before.before.before.before.before.before.before.before.before.before.before.before.before.before.before.before.before.before.before.before.args.p.now c.before.before.before.before.before.before.before.before.before.before.before.before.before.before.before.before.before.before.before.before.before.before.before.before.before.before.before.before.before.before.before.before.before.before.before.before.before.args.k c.before.before.before.before.before.before.before.before.before.before.before.before.before.before.before.before.before.before.before.before.before.before.before.before.before.before.before.before.before.before.before.before.before.before.before.before.before.args.tr.now) c.before.before.before.before.before.before.before.before.before.before.before.before.before.before.before.before.before.before.before.before.before.before.before.before.before.before.before.before.before.before.before.before.before.before.before.before.before.args.h.now c.before.before.before.before.before.before.before.before.before.before.before.before.before.before.before.before.before.before.before.before.before.before.before.before.before.before.before.before.before.before.before.before.before.before.before.before.before.args.d c.before.before.before.before.before.before.before.before.before.before.before.before.before.before.before.before.before.before.before.before.before.before.before.before.before.before.loop.invariant.0 (omega (arith, c.before.before.before.before.before.before.before.before.before.before.before.before.before.before.before.before.before.before.before.before.before.before.before.before.before.if1.false)) c.before.before.before.before.before.before.before.before.before.before.before.before.before.before.before.before.before.before.before.before.before.before.before.before.if2.false (item_no c.before.before.before.before.before.before.before.before.before.before.before.before.before.parse-item.result (lent _ _ _ _ _ _ _) c.before.before.before.before.before.before.before.before.before.before.before.before.before.parse-item.ensures.0 (not-true _ c.if7.true)), tt)
 
 -- src/walk.rt:167:5
 pub parse-object-loop-less-4 : (t : ℕ) → parse-object-lts.Need-loop-smaller-4 (
@@ -1143,7 +1143,7 @@ pub parse-object-loop-less-4 : (t : ℕ) → parse-object-lts.Need-loop-smaller-
   parse-item-below t,
   parse-item.Post,
 ) (parse-object-at t) parse-object.Post parse-object-Inv-loop parse-object-μ-loop
-parse-object-loop-less-4 t c = let z = nest-item (input c.before.before.before.before.before.before.before.before.before.before.before.before.before.before.before.before.before.before.before.before.before.before.before.before.before.before.before.before.before.before.before.before.before.before.before.before.before.args.v.now c.before.before.before.before.before.before.before.before.before.before.before.before.before.before.before.before.before.before.before.before.before.before.before.before.before.before.before.before.before.before.before.before.before.before.before.before.before.args.p.now c.before.before.before.before.before.before.before.before.before.before.before.before.before.before.before.before.before.before.before.before.before.before.before.before.before.before.before.before.before.before.before.before.before.before.before.before.before.args.k c.before.before.before.before.before.before.before.before.before.before.before.before.before.before.before.before.before.before.before.before.before.before.before.before.before.before.before.before.before.before.before.before.before.before.before.before.before.args.tr.now) c.before.before.before.before.before.before.before.before.before.before.before.before.before.before.before.before.before.before.before.before.before.before.before.before.before.before.before.before.before.before.before.before.before.before.before.before.before.args.h.now c.before.before.before.before.before.before.before.before.before.before.before.before.before.before.before.before.before.before.before.before.before.before.before.before.before.before.before.before.before.before.before.before.before.before.before.before.before.args.d c.before.before.before.before.before.before.before.before.before.before.before.before.before.before.before.before.before.before.before.before.before.before.before.before.before.before.loop.invariant.0 (omega (arith, c.before.before.before.before.before.before.before.before.before.before.before.before.before.before.before.before.before.before.before.before.before.before.before.before.before.if1.false)) c.before.before.before.before.before.before.before.before.before.before.before.before.before.before.before.before.before.before.before.before.before.before.before.before.if2.false (item_is c.before.before.before.before.before.before.before.before.before.before.before.before.before.parse-item.result (lent _ _ _ _ _ _ _) c.before.before.before.before.before.before.before.before.before.before.before.before.before.parse-item.ensures.0 (not-false _ c.if7.false)) (out_index _ (item_is c.before.before.before.before.before.before.before.before.before.before.before.before.before.parse-item.result (lent _ _ _ _ _ _ _) refl (not-false _ c.if7.false)) c.before.before.before.before.before.before.before.before.before.before.before.before.before.parse-item.ensures.1) in omega (arith, z.1, z.0.ready.sound.within, c.before.before.before.before.before.before.before.before.before.before.before.before.before.before.before.before.before.before.before.before.before.before.before.before.before.if1.false)
+parse-object-loop-less-4 t c = let z = nest_item (input c.before.before.before.before.before.before.before.before.before.before.before.before.before.before.before.before.before.before.before.before.before.before.before.before.before.before.before.before.before.before.before.before.before.before.before.before.before.args.v.now c.before.before.before.before.before.before.before.before.before.before.before.before.before.before.before.before.before.before.before.before.before.before.before.before.before.before.before.before.before.before.before.before.before.before.before.before.before.args.p.now c.before.before.before.before.before.before.before.before.before.before.before.before.before.before.before.before.before.before.before.before.before.before.before.before.before.before.before.before.before.before.before.before.before.before.before.before.before.args.k c.before.before.before.before.before.before.before.before.before.before.before.before.before.before.before.before.before.before.before.before.before.before.before.before.before.before.before.before.before.before.before.before.before.before.before.before.before.args.tr.now) c.before.before.before.before.before.before.before.before.before.before.before.before.before.before.before.before.before.before.before.before.before.before.before.before.before.before.before.before.before.before.before.before.before.before.before.before.before.args.h.now c.before.before.before.before.before.before.before.before.before.before.before.before.before.before.before.before.before.before.before.before.before.before.before.before.before.before.before.before.before.before.before.before.before.before.before.before.before.args.d c.before.before.before.before.before.before.before.before.before.before.before.before.before.before.before.before.before.before.before.before.before.before.before.before.before.before.loop.invariant.0 (omega (arith, c.before.before.before.before.before.before.before.before.before.before.before.before.before.before.before.before.before.before.before.before.before.before.before.before.before.if1.false)) c.before.before.before.before.before.before.before.before.before.before.before.before.before.before.before.before.before.before.before.before.before.before.before.before.if2.false (item_is c.before.before.before.before.before.before.before.before.before.before.before.before.before.parse-item.result (lent _ _ _ _ _ _ _) c.before.before.before.before.before.before.before.before.before.before.before.before.before.parse-item.ensures.0 (not-false _ c.if7.false)) (out_index _ (item_is c.before.before.before.before.before.before.before.before.before.before.before.before.before.parse-item.result (lent _ _ _ _ _ _ _) refl (not-false _ c.if7.false)) c.before.before.before.before.before.before.before.before.before.before.before.before.before.parse-item.ensures.1) in omega (arith, z.1, z.0.ready.sound.within, c.before.before.before.before.before.before.before.before.before.before.before.before.before.before.before.before.before.before.before.before.before.before.before.before.before.if1.false)
 
 -- src/walk.rt:167:5
 pub parse-object-loop-again-4 : (t : ℕ) → parse-object-lts.Need-loop-preserved-4 (
@@ -1162,4 +1162,4 @@ pub parse-object-loop-again-4 : (t : ℕ) → parse-object-lts.Need-loop-preserv
   parse-item-below t,
   parse-item.Post,
 ) (parse-object-at t) parse-object.Post parse-object-Inv-loop parse-object-μ-loop
-parse-object-loop-again-4 t c = ((nest-item (input c.before.before.before.before.before.before.before.before.before.before.before.before.before.before.before.before.before.before.before.before.before.before.before.before.before.before.before.before.before.before.before.before.before.before.before.before.before.args.v.now c.before.before.before.before.before.before.before.before.before.before.before.before.before.before.before.before.before.before.before.before.before.before.before.before.before.before.before.before.before.before.before.before.before.before.before.before.before.args.p.now c.before.before.before.before.before.before.before.before.before.before.before.before.before.before.before.before.before.before.before.before.before.before.before.before.before.before.before.before.before.before.before.before.before.before.before.before.before.args.k c.before.before.before.before.before.before.before.before.before.before.before.before.before.before.before.before.before.before.before.before.before.before.before.before.before.before.before.before.before.before.before.before.before.before.before.before.before.args.tr.now) c.before.before.before.before.before.before.before.before.before.before.before.before.before.before.before.before.before.before.before.before.before.before.before.before.before.before.before.before.before.before.before.before.before.before.before.before.before.args.h.now c.before.before.before.before.before.before.before.before.before.before.before.before.before.before.before.before.before.before.before.before.before.before.before.before.before.before.before.before.before.before.before.before.before.before.before.before.before.args.d c.before.before.before.before.before.before.before.before.before.before.before.before.before.before.before.before.before.before.before.before.before.before.before.before.before.before.loop.invariant.0 (omega (arith, c.before.before.before.before.before.before.before.before.before.before.before.before.before.before.before.before.before.before.before.before.before.before.before.before.before.if1.false)) c.before.before.before.before.before.before.before.before.before.before.before.before.before.before.before.before.before.before.before.before.before.before.before.before.if2.false (item_is c.before.before.before.before.before.before.before.before.before.before.before.before.before.parse-item.result (lent _ _ _ _ _ _ _) c.before.before.before.before.before.before.before.before.before.before.before.before.before.parse-item.ensures.0 (not-false _ c.if7.false)) (out_index _ (item_is c.before.before.before.before.before.before.before.before.before.before.before.before.before.parse-item.result (lent _ _ _ _ _ _ _) refl (not-false _ c.if7.false)) c.before.before.before.before.before.before.before.before.before.before.before.before.before.parse-item.ensures.1)).0, c.before.before.before.before.before.before.before.before.before.before.before.before.before.parse-item.auto.1.1.1.1.1.1.1.1.1.1.1.0 ∙ c.before.before.before.before.before.before.before.before.before.before.before.before.before.before.before.before.before.before.before.before.before.before.before.before.before.before.loop.invariant.1)
+parse-object-loop-again-4 t c = ((nest_item (input c.before.before.before.before.before.before.before.before.before.before.before.before.before.before.before.before.before.before.before.before.before.before.before.before.before.before.before.before.before.before.before.before.before.before.before.before.before.args.v.now c.before.before.before.before.before.before.before.before.before.before.before.before.before.before.before.before.before.before.before.before.before.before.before.before.before.before.before.before.before.before.before.before.before.before.before.before.before.args.p.now c.before.before.before.before.before.before.before.before.before.before.before.before.before.before.before.before.before.before.before.before.before.before.before.before.before.before.before.before.before.before.before.before.before.before.before.before.before.args.k c.before.before.before.before.before.before.before.before.before.before.before.before.before.before.before.before.before.before.before.before.before.before.before.before.before.before.before.before.before.before.before.before.before.before.before.before.before.args.tr.now) c.before.before.before.before.before.before.before.before.before.before.before.before.before.before.before.before.before.before.before.before.before.before.before.before.before.before.before.before.before.before.before.before.before.before.before.before.before.args.h.now c.before.before.before.before.before.before.before.before.before.before.before.before.before.before.before.before.before.before.before.before.before.before.before.before.before.before.before.before.before.before.before.before.before.before.before.before.before.args.d c.before.before.before.before.before.before.before.before.before.before.before.before.before.before.before.before.before.before.before.before.before.before.before.before.before.before.loop.invariant.0 (omega (arith, c.before.before.before.before.before.before.before.before.before.before.before.before.before.before.before.before.before.before.before.before.before.before.before.before.before.if1.false)) c.before.before.before.before.before.before.before.before.before.before.before.before.before.before.before.before.before.before.before.before.before.before.before.before.if2.false (item_is c.before.before.before.before.before.before.before.before.before.before.before.before.before.parse-item.result (lent _ _ _ _ _ _ _) c.before.before.before.before.before.before.before.before.before.before.before.before.before.parse-item.ensures.0 (not-false _ c.if7.false)) (out_index _ (item_is c.before.before.before.before.before.before.before.before.before.before.before.before.before.parse-item.result (lent _ _ _ _ _ _ _) refl (not-false _ c.if7.false)) c.before.before.before.before.before.before.before.before.before.before.before.before.before.parse-item.ensures.1)).0, c.before.before.before.before.before.before.before.before.before.before.before.before.before.parse-item.auto.1.1.1.1.1.1.1.1.1.1.1.0 ∙ c.before.before.before.before.before.before.before.before.before.before.before.before.before.before.before.before.before.before.before.before.before.before.before.before.before.before.loop.invariant.1)

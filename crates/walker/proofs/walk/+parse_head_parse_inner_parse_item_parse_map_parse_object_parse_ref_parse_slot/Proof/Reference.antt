@@ -12,9 +12,9 @@ use Rattle.readers.proofs.prefix.begin.Reads as begin-reads
 use Rattle.readers.proofs.prefix.hold.Reads as hold-reads
 use Rattle.readers.proofs.simple.simple_ref.Reads as simple-ref-reads
 use Rattle.stream.proofs.bytes.byte.Reads as byte-Reads
-use Rattle.readers.proofs.ViewLaws.{seen-got, seen_no}
+use Rattle.readers.proofs.ViewLaws.{seen_got, seen_no}
 use Rattle.walker.proofs.ReadyLaws.{out_index, moved_ready}
-use Rattle.walker.proofs.ReferenceLaws.{ref_deep, ref-end, kind_low, chunks_low, simple-fits, found_by, ref_object, space_low, argument_low, other_simple, inner_starts, inner_small, value_small, ref-simple, ref-refused, ref_value, ref-inner-no, ref-inner-got}
+use Rattle.walker.proofs.ReferenceLaws.{ref_deep, ref_end, kind_low, chunks_low, simple_fits, found_by, ref_object, space_low, argument_low, other_simple, inner_starts, inner_small, value_small, ref_simple, ref_refused, ref_value, ref_inner_no, ref_inner_got}
 use Rattle.walker.proofs.walk.+parse_head_parse_inner_parse_item_parse_map_parse_object_parse_ref_parse_slot.Proof.Common.{parse-inner-below, parse-object-below, parse-ref-at}
 
 -- src/walk.rt:74:9
@@ -49,7 +49,7 @@ pub parse-ref-returns-2 : (t : ℕ) → parse-ref-lts.Need-returns-2 (
   parse-inner-below t,
   parse-inner.Post,
 ) (parse-ref-at t) parse-ref.Post
-parse-ref-returns-2 t c = (ref-end _ _ _ c.before.if1.false c.if2.true, tt)
+parse-ref-returns-2 t c = (ref_end _ _ _ c.before.if1.false c.if2.true, tt)
 
 -- src/walk.rt:81:13
 pub parse-ref-byte-requires : (t : ℕ) → parse-ref-lts.Need-byte-requires (
@@ -372,7 +372,7 @@ pub parse-ref-simple-ref-requires : (t : ℕ) → parse-ref-lts.Need-simple-ref-
   parse-inner-below t,
   parse-inner.Post,
 ) (parse-ref-at t) parse-ref.Post
-parse-ref-simple-ref-requires t c κs = (simple-fits c.before.before.before.before.before.before.before.before.before.before.before.before.before.before.before.before.before.before.before.before.before.before.requires.1.0 c.before.before.before.before.before.before.before.before.before.before.before.before.if2.false, (other_simple _ _ _ _ _ c.before.before.before.before.before.before.before.before.before.before.before.before.before.before.before.before.before.before.before.before.before.before.requires.1.0 c.before.before.before.before.before.before.before.before.before.before.before.before.if2.false _ c.before.before.before.before.before.before.before.before.before.before.before.byte.ensures c.before.before.before.before.before.before.before.before.if3.false _ _ _ (c.before.before.before.before.before.begin.ensures.0 _ _ _) c.before.before.before.enum_told.given.1, found_by c.before.before.before.before.before.before.before.before.before.before.before.before.before.before.before.before.before.before.before.before.before.before.requires.1.0))
+parse-ref-simple-ref-requires t c κs = (simple_fits c.before.before.before.before.before.before.before.before.before.before.before.before.before.before.before.before.before.before.before.before.before.before.requires.1.0 c.before.before.before.before.before.before.before.before.before.before.before.before.if2.false, (other_simple _ _ _ _ _ c.before.before.before.before.before.before.before.before.before.before.before.before.before.before.before.before.before.before.before.before.before.before.requires.1.0 c.before.before.before.before.before.before.before.before.before.before.before.before.if2.false _ c.before.before.before.before.before.before.before.before.before.before.before.byte.ensures c.before.before.before.before.before.before.before.before.if3.false _ _ _ (c.before.before.before.before.before.begin.ensures.0 _ _ _) c.before.before.before.enum_told.given.1, found_by c.before.before.before.before.before.before.before.before.before.before.before.before.before.before.before.before.before.before.before.before.before.before.requires.1.0))
 
 -- src/walk.rt:90:25
 pub parse-ref-enum-known-n : (t : ℕ) → parse-ref-lts.Need-enum-known-n (
@@ -559,7 +559,7 @@ pub parse-ref-returns-4 : (t : ℕ) → parse-ref-lts.Need-returns-4 (
   parse-inner-below t,
   parse-inner.Post,
 ) (parse-ref-at t) parse-ref.Post
-parse-ref-returns-4 t c = ref-simple _ _ _ _ _ c.before.before.before.before.before.before.before.before.before.before.before.before.before.before.before.before.before.before.before.before.before.before.before.requires.1.0 c.before.before.before.before.before.before.before.before.before.before.before.before.before.if2.false _ c.before.before.before.before.before.before.before.before.before.before.before.before.byte.ensures c.before.before.before.before.before.before.before.before.before.if3.false _ _ _ (c.before.before.before.before.before.before.begin.ensures.0 _ _ _) _ c.before.before.before.before.before.before.before.before.before.before.before.before.before.before.if1.false c.simple-ref.result _ c.before.before.before.before.enum_told.given.1 (c.simple-ref.ensures _ _)
+parse-ref-returns-4 t c = ref_simple _ _ _ _ _ c.before.before.before.before.before.before.before.before.before.before.before.before.before.before.before.before.before.before.before.before.before.before.before.requires.1.0 c.before.before.before.before.before.before.before.before.before.before.before.before.before.if2.false _ c.before.before.before.before.before.before.before.before.before.before.before.before.byte.ensures c.before.before.before.before.before.before.before.before.before.if3.false _ _ _ (c.before.before.before.before.before.before.begin.ensures.0 _ _ _) _ c.before.before.before.before.before.before.before.before.before.before.before.before.before.before.if1.false c.simple-ref.result _ c.before.before.before.before.enum_told.given.1 (c.simple-ref.ensures _ _)
 
 -- src/walk.rt:50:1
 pub parse-ref-returns-5 : (t : ℕ) → parse-ref-lts.Need-returns-5 (
@@ -576,7 +576,7 @@ pub parse-ref-returns-5 : (t : ℕ) → parse-ref-lts.Need-returns-5 (
   parse-inner-below t,
   parse-inner.Post,
 ) (parse-ref-at t) parse-ref.Post
-parse-ref-returns-5 t c = (ref-refused _ _ _ _ _ c.before.before.before.before.before.before.before.before.before.before.before.before.before.before.before.before.before.before.before.before.requires.1.0 c.before.before.before.before.before.before.before.before.before.before.if2.false _ c.before.before.before.before.before.before.before.before.before.byte.ensures c.before.before.before.before.before.before.if3.false _ _ _ (c.before.before.before.begin.ensures.0 _ _ _) _ c.before.before.before.before.before.before.before.before.before.before.before.if1.false c.before.n.given.1, tt)
+parse-ref-returns-5 t c = (ref_refused _ _ _ _ _ c.before.before.before.before.before.before.before.before.before.before.before.before.before.before.before.before.before.before.before.before.requires.1.0 c.before.before.before.before.before.before.before.before.before.before.if2.false _ c.before.before.before.before.before.before.before.before.before.byte.ensures c.before.before.before.before.before.before.if3.false _ _ _ (c.before.before.before.begin.ensures.0 _ _ _) _ c.before.before.before.before.before.before.before.before.before.before.before.if1.false c.before.n.given.1, tt)
 
 -- src/walk.rt:50:1
 pub parse-ref-same-length-8 : (t : ℕ) → parse-ref-lts.Need-same-length-8 (
@@ -712,7 +712,7 @@ pub parse-ref-returns-7 : (t : ℕ) → parse-ref-lts.Need-returns-7 (
   parse-inner-below t,
   parse-inner.Post,
 ) (parse-ref-at t) parse-ref.Post
-parse-ref-returns-7 t c = (ref-inner-no _ _ _ _ _ c.before.before.before.before.before.before.before.before.before.before.before.before.before.before.before.before.before.before.before.before.before.before.before.before.before.before.before.before.before.before.before.before.before.before.before.before.before.before.before.before.before.before.requires.1.0 c.before.before.before.before.before.before.before.before.before.before.before.before.before.before.before.before.before.before.before.before.before.before.before.before.before.before.before.before.before.before.before.before.if2.false _ c.before.before.before.before.before.before.before.before.before.before.before.before.before.before.before.before.before.before.before.before.before.before.before.before.before.before.before.before.before.before.before.byte.ensures c.before.before.before.before.before.before.before.before.before.before.before.before.before.before.before.before.before.before.before.before.before.before.before.before.before.before.before.before.if3.false _ _ _ (c.before.before.before.before.before.before.before.before.before.before.before.before.before.before.before.before.before.before.before.before.before.before.before.before.before.begin.ensures.0 _ _ _) _ c.before.before.before.before.before.before.before.before.before.before.before.before.before.before.before.before.before.before.before.before.before.before.before.before.before.before.before.before.before.before.before.before.before.if1.false c.before.before.before.before.before.before.before.before.before.before.before.before.before.before.before.before.before.before.before.before.before.before.before.held2.given.1 (seen_no _ c.before.inner.given.1 c.before.before.before.before.before.before.before.before.before.before.before.before.before.parse-inner.ensures.0), tt)
+parse-ref-returns-7 t c = (ref_inner_no _ _ _ _ _ c.before.before.before.before.before.before.before.before.before.before.before.before.before.before.before.before.before.before.before.before.before.before.before.before.before.before.before.before.before.before.before.before.before.before.before.before.before.before.before.before.before.before.requires.1.0 c.before.before.before.before.before.before.before.before.before.before.before.before.before.before.before.before.before.before.before.before.before.before.before.before.before.before.before.before.before.before.before.before.if2.false _ c.before.before.before.before.before.before.before.before.before.before.before.before.before.before.before.before.before.before.before.before.before.before.before.before.before.before.before.before.before.before.before.byte.ensures c.before.before.before.before.before.before.before.before.before.before.before.before.before.before.before.before.before.before.before.before.before.before.before.before.before.before.before.before.if3.false _ _ _ (c.before.before.before.before.before.before.before.before.before.before.before.before.before.before.before.before.before.before.before.before.before.before.before.before.before.begin.ensures.0 _ _ _) _ c.before.before.before.before.before.before.before.before.before.before.before.before.before.before.before.before.before.before.before.before.before.before.before.before.before.before.before.before.before.before.before.before.before.if1.false c.before.before.before.before.before.before.before.before.before.before.before.before.before.before.before.before.before.before.before.before.before.before.before.held2.given.1 (seen_no _ c.before.inner.given.1 c.before.before.before.before.before.before.before.before.before.before.before.before.before.parse-inner.ensures.0), tt)
 
 -- src/walk.rt:50:1
 pub parse-ref-same-length-14 : (t : ℕ) → parse-ref-lts.Need-same-length-14 (
@@ -814,4 +814,4 @@ pub parse-ref-returns-8 : (t : ℕ) → parse-ref-lts.Need-returns-8 (
   parse-inner-below t,
   parse-inner.Post,
 ) (parse-ref-at t) parse-ref.Post
-parse-ref-returns-8 t c = ref-inner-got _ _ _ _ _ c.before.before.before.before.before.before.before.before.before.before.before.before.before.before.before.before.before.before.before.before.before.before.before.before.before.before.before.before.before.before.before.before.before.before.before.before.before.before.before.before.before.before.before.before.before.before.requires.1.0 c.before.before.before.before.before.before.before.before.before.before.before.before.before.before.before.before.before.before.before.before.before.before.before.before.before.before.before.before.before.before.before.before.before.before.before.before.if2.false _ c.before.before.before.before.before.before.before.before.before.before.before.before.before.before.before.before.before.before.before.before.before.before.before.before.before.before.before.before.before.before.before.before.before.before.before.byte.ensures c.before.before.before.before.before.before.before.before.before.before.before.before.before.before.before.before.before.before.before.before.before.before.before.before.before.before.before.before.before.before.before.before.if3.false _ _ _ (c.before.before.before.before.before.before.before.before.before.before.before.before.before.before.before.before.before.before.before.before.before.before.before.before.before.before.before.before.before.begin.ensures.0 _ _ _) _ c.before.before.before.before.before.before.before.before.before.before.before.before.before.before.before.before.before.before.before.before.before.before.before.before.before.before.before.before.before.before.before.before.before.before.before.before.before.if1.false c.before.before.before.before.before.before.before.before.before.before.before.before.before.before.before.before.before.before.before.before.before.before.before.before.before.before.before.held2.given.1 c.before.before.hold2.result _ _ _ (seen-got _ c.before.before.before.before.before.inner2.given.1 c.before.before.before.before.before.before.before.before.before.before.before.before.before.before.before.before.before.parse-inner.ensures.0) (out_index _ (seen-got _ c.before.before.before.before.before.inner2.given.1 refl) c.before.before.before.before.before.before.before.before.before.before.before.before.before.before.before.before.before.parse-inner.ensures.1) c.before.before.hold2.ensures
+parse-ref-returns-8 t c = ref_inner_got _ _ _ _ _ c.before.before.before.before.before.before.before.before.before.before.before.before.before.before.before.before.before.before.before.before.before.before.before.before.before.before.before.before.before.before.before.before.before.before.before.before.before.before.before.before.before.before.before.before.before.before.requires.1.0 c.before.before.before.before.before.before.before.before.before.before.before.before.before.before.before.before.before.before.before.before.before.before.before.before.before.before.before.before.before.before.before.before.before.before.before.before.if2.false _ c.before.before.before.before.before.before.before.before.before.before.before.before.before.before.before.before.before.before.before.before.before.before.before.before.before.before.before.before.before.before.before.before.before.before.before.byte.ensures c.before.before.before.before.before.before.before.before.before.before.before.before.before.before.before.before.before.before.before.before.before.before.before.before.before.before.before.before.before.before.before.before.if3.false _ _ _ (c.before.before.before.before.before.before.before.before.before.before.before.before.before.before.before.before.before.before.before.before.before.before.before.before.before.before.before.before.before.begin.ensures.0 _ _ _) _ c.before.before.before.before.before.before.before.before.before.before.before.before.before.before.before.before.before.before.before.before.before.before.before.before.before.before.before.before.before.before.before.before.before.before.before.before.before.if1.false c.before.before.before.before.before.before.before.before.before.before.before.before.before.before.before.before.before.before.before.before.before.before.before.before.before.before.before.held2.given.1 c.before.before.hold2.result _ _ _ (seen_got _ c.before.before.before.before.before.inner2.given.1 c.before.before.before.before.before.before.before.before.before.before.before.before.before.before.before.before.before.parse-inner.ensures.0) (out_index _ (seen_got _ c.before.before.before.before.before.inner2.given.1 refl) c.before.before.before.before.before.before.before.before.before.before.before.before.before.before.before.before.before.parse-inner.ensures.1) c.before.before.hold2.ensures

@@ -10,7 +10,7 @@ use Rattle.sheet.proofs.numbers.word_bytes.Reads as word-bytes-reads
 use mathlib.Core.List.{[]}
 use Rattle.definition.specs.Reference.{ref_at}
 use Rattle.walker.specs.Ready.{lent}
-use Rattle.readers.proofs.ViewLaws.{seen-got, seen_no}
+use Rattle.readers.proofs.ViewLaws.{seen_got, seen_no}
 use Rattle.readers.specs.Views.{input}
 use Rattle.walker.proofs.GroundLaws.{place_item_ground, count_index}
 use Rattle.walker.proofs.ReadyLaws.{out_index}
@@ -227,7 +227,7 @@ pub parse-slot-place-item-requires : (t : ℕ) → parse-slot-lts.Need-place-ite
   place-item-reads.Asked,
   place-item-reads.Learnt,
 ) (parse-slot-at t) parse-slot.Post
-parse-slot-place-item-requires t c κs = let a = c.before.before.before.before.before.before.before.before.before.before.before.before.before.before.before.before.before.before.before.before.before.before.before.before.before.before.before.before.before.before.before.before.before.before.before.before.before.before.before.before.before.before.before.before.before.before.before.before.before.args in let p = c.before.before.before.before.before.before.before.before.before.before.before.before.before.before.before.before.before.before.before.before.before.before.before.before.before.before.before.before.before.before.before.before.before.before.before.before.before.before.before.before.before.before.before.before.before.before.before.before.before.requires.1 in let g = unplaced_ready a.s (lent a.ot.now a.st.now a.vt.now a.dt.now a.hr.now a.c.now a.u.now) (c.before.before.before.before.before.before.before.before.before.before.before.before.before.before.before.before.before.before.before.before.before.before.before.before.before.before.before.before.before.before.before.before.before.before.place-weak.ensures.0 c.before.before.before.before.before.before.before.before.before.before.before.before.before.before.before.before.before.before.before.before.before.before.before.before.before.before.if1.false) p.0 in place_asks g _ _ _ p.1.2 p.1.3 (seen-got _ c.before.before.before.before.before.x.given.1 c.before.before.before.before.before.before.before.before.before.before.before.before.before.before.before.before.before.parse-ref.ensures.0) p.1.1 (omega (arith, c.before.before.before.before.before.before.before.before.before.before.before.before.before.before.before.before.before.before.before.before.before.before.before.before.before.before.before.before.before.before.before.before.before.before.place-weak.auto.1.1.1.0, c.before.before.before.before.before.before.before.before.before.before.before.before.before.before.before.before.before.before.before.before.before.before.before.before.before.before.before.before.before.before.before.before.before.before.before.before.before.before.before.before.before.before.before.before.before.before.before.before.before.well-formed.1.1.1.1.1.0.0)) (out_index _ (seen-got (lent _ _ _ _ _ _ _) c.before.before.before.before.before.x.given.1 refl) c.before.before.before.before.before.before.before.before.before.before.before.before.before.before.before.before.before.parse-ref.ensures.1) _ c.before.before.before.before.before.before.before.before.before.before.before.before.before.before.before.before.before.before.before.before.before.before.before.before.before.before.before.before.before.before.before.before.before.before.before.before.before.before.before.before.word_Bytes.ensures.0
+parse-slot-place-item-requires t c κs = let a = c.before.before.before.before.before.before.before.before.before.before.before.before.before.before.before.before.before.before.before.before.before.before.before.before.before.before.before.before.before.before.before.before.before.before.before.before.before.before.before.before.before.before.before.before.before.before.before.before.before.args in let p = c.before.before.before.before.before.before.before.before.before.before.before.before.before.before.before.before.before.before.before.before.before.before.before.before.before.before.before.before.before.before.before.before.before.before.before.before.before.before.before.before.before.before.before.before.before.before.before.before.before.requires.1 in let g = unplaced_ready a.s (lent a.ot.now a.st.now a.vt.now a.dt.now a.hr.now a.c.now a.u.now) (c.before.before.before.before.before.before.before.before.before.before.before.before.before.before.before.before.before.before.before.before.before.before.before.before.before.before.before.before.before.before.before.before.before.before.place-weak.ensures.0 c.before.before.before.before.before.before.before.before.before.before.before.before.before.before.before.before.before.before.before.before.before.before.before.before.before.before.if1.false) p.0 in place_asks g _ _ _ p.1.2 p.1.3 (seen_got _ c.before.before.before.before.before.x.given.1 c.before.before.before.before.before.before.before.before.before.before.before.before.before.before.before.before.before.parse-ref.ensures.0) p.1.1 (omega (arith, c.before.before.before.before.before.before.before.before.before.before.before.before.before.before.before.before.before.before.before.before.before.before.before.before.before.before.before.before.before.before.before.before.before.before.place-weak.auto.1.1.1.0, c.before.before.before.before.before.before.before.before.before.before.before.before.before.before.before.before.before.before.before.before.before.before.before.before.before.before.before.before.before.before.before.before.before.before.before.before.before.before.before.before.before.before.before.before.before.before.before.before.before.well-formed.1.1.1.1.1.0.0)) (out_index _ (seen_got (lent _ _ _ _ _ _ _) c.before.before.before.before.before.x.given.1 refl) c.before.before.before.before.before.before.before.before.before.before.before.before.before.before.before.before.before.parse-ref.ensures.1) _ c.before.before.before.before.before.before.before.before.before.before.before.before.before.before.before.before.before.before.before.before.before.before.before.before.before.before.before.before.before.before.before.before.before.before.before.before.before.before.before.before.word_Bytes.ensures.0
 
 -- src/walk.rt:374:1
 pub parse-slot-same-length-4 : (t : ℕ) → parse-slot-lts.Need-same-length-4 (
@@ -384,6 +384,6 @@ pub parse-slot-returns-3 : (t : ℕ) → parse-slot-lts.Need-returns-3 (
   place-item-reads.Learnt,
 ) (parse-slot-at t) parse-slot.Post
 parse-slot-returns-3 t c = let a = c.before.before.before.before.before.before.before.before.before.before.before.before.before.before.before.before.before.before.before.before.before.before.before.before.before.before.before.before.before.before.before.before.before.before.before.before.before.before.before.before.before.before.before.before.before.before.before.before.before.before.before.before.before.before.before.before.before.before.args in (
-  unplaced_slot a.s (lent a.ot.now a.st.now a.vt.now a.dt.now a.hr.now a.c.now a.u.now) (c.before.before.before.before.before.before.before.before.before.before.before.before.before.before.before.before.before.before.before.before.before.before.before.before.before.before.before.before.before.before.before.before.before.before.before.before.before.before.before.before.before.before.before.place-weak.ensures.0 c.before.before.before.before.before.before.before.before.before.before.before.before.before.before.before.before.before.before.before.before.before.before.before.before.before.before.before.before.before.before.before.before.before.before.before.if1.false) (input a.v.now a.p.now a.k a.tr.now) (ref_at (input a.v.now a.p.now a.k a.tr.now) (64 - a.d)) a.o a.done (slot_got _ _ _ _ _ (seen-got _ c.before.before.before.before.before.before.before.before.before.before.before.before.before.before.x.given.1 c.before.before.before.before.before.before.before.before.before.before.before.before.before.before.before.before.before.before.before.before.before.before.before.before.before.before.parse-ref.ensures.0) (c.before.before.before.before.before.before.before.before.place-item.ensures.0 _ (lent [] [] [] _ _ _ _) (sym c.before.before.before.before.before.before.before.before.before.before.before.before.before.before.before.before.before.before.before.before.before.before.before.before.before.before.before.before.before.before.before.before.before.before.before.before.before.before.before.before.before.before.before.before.before.before.before.before.before.word_Bytes.ensures.0))),
-  count_index _ _ _ _ c.before.before.before.before.before.before.before.before.place-item.ensures.1.1 (out_index _ (seen-got (lent _ _ _ _ _ _ _) c.before.before.before.before.before.before.before.before.before.before.before.before.before.before.x.given.1 refl) c.before.before.before.before.before.before.before.before.before.before.before.before.before.before.before.before.before.before.before.before.before.before.before.before.before.before.parse-ref.ensures.1).linked c.before.before.before.before.before.before.before.before.place-item.result (lent _ _ _ _ _ _ _) (c.before.before.before.before.before.before.before.before.place-item.ensures.0 (input c.before.before.before.before.before.before.before.before.before.before.before.before.before.before.before.before.before.before.before.before.before.before.before.before.before.before.before.before.before.before.before.before.before.before.before.before.before.before.before.before.before.before.before.before.before.before.before.before.before.before.before.before.before.before.before.before.before.before.args.v.now c.before.before.before.before.before.before.before.before.before.before.before.before.before.before.before.before.before.before.before.before.before.before.before.before.before.before.before.before.before.before.before.before.before.before.before.before.before.before.before.before.before.before.before.before.before.before.before.before.before.before.before.before.before.before.before.before.before.before.args.p.now c.before.before.before.before.before.before.before.before.before.before.before.before.before.before.before.before.before.before.before.before.before.before.before.before.before.before.before.before.before.before.before.before.before.before.before.before.before.before.before.before.before.before.before.before.before.before.before.before.before.before.before.before.before.before.before.before.before.before.args.k c.before.before.before.before.before.before.before.before.before.before.before.before.before.before.before.before.before.before.before.before.before.before.before.before.before.before.before.before.before.before.before.before.before.before.before.before.before.before.before.before.before.before.before.before.before.before.before.before.before.before.before.before.before.before.before.before.before.before.args.tr.now) (lent [] [] [] _ _ _ _) (sym c.before.before.before.before.before.before.before.before.before.before.before.before.before.before.before.before.before.before.before.before.before.before.before.before.before.before.before.before.before.before.before.before.before.before.before.before.before.before.before.before.before.before.before.before.before.before.before.before.before.word_Bytes.ensures.0)) (place_item_ground _ c.before.before.before.before.before.before.before.before.before.before.before.before.before.before.before.before.before.before.before.before.before.before.before.before.before.before.before.before.before.before.before.before.before.before.before.before.before.before.before.before.before.before.before.before.before.before.before.before.before.before.before.before.before.before.before.before.before.before.args.o c.before.before.before.before.before.before.before.before.before.before.before.before.before.before.before.before.before.before.before.before.before.before.before.before.before.before.before.before.before.before.before.before.before.before.before.before.before.before.before.before.before.before.before.before.before.before.before.before.before.before.before.before.before.before.before.before.before.before.args.done _ _) c.before.before.before.before.before.before.before.before.place-item.ensures.1.0,
+  unplaced_slot a.s (lent a.ot.now a.st.now a.vt.now a.dt.now a.hr.now a.c.now a.u.now) (c.before.before.before.before.before.before.before.before.before.before.before.before.before.before.before.before.before.before.before.before.before.before.before.before.before.before.before.before.before.before.before.before.before.before.before.before.before.before.before.before.before.before.before.place-weak.ensures.0 c.before.before.before.before.before.before.before.before.before.before.before.before.before.before.before.before.before.before.before.before.before.before.before.before.before.before.before.before.before.before.before.before.before.before.before.if1.false) (input a.v.now a.p.now a.k a.tr.now) (ref_at (input a.v.now a.p.now a.k a.tr.now) (64 - a.d)) a.o a.done (slot_got _ _ _ _ _ (seen_got _ c.before.before.before.before.before.before.before.before.before.before.before.before.before.before.x.given.1 c.before.before.before.before.before.before.before.before.before.before.before.before.before.before.before.before.before.before.before.before.before.before.before.before.before.before.parse-ref.ensures.0) (c.before.before.before.before.before.before.before.before.place-item.ensures.0 _ (lent [] [] [] _ _ _ _) (sym c.before.before.before.before.before.before.before.before.before.before.before.before.before.before.before.before.before.before.before.before.before.before.before.before.before.before.before.before.before.before.before.before.before.before.before.before.before.before.before.before.before.before.before.before.before.before.before.before.before.word_Bytes.ensures.0))),
+  count_index _ _ _ _ c.before.before.before.before.before.before.before.before.place-item.ensures.1.1 (out_index _ (seen_got (lent _ _ _ _ _ _ _) c.before.before.before.before.before.before.before.before.before.before.before.before.before.before.x.given.1 refl) c.before.before.before.before.before.before.before.before.before.before.before.before.before.before.before.before.before.before.before.before.before.before.before.before.before.before.parse-ref.ensures.1).linked c.before.before.before.before.before.before.before.before.place-item.result (lent _ _ _ _ _ _ _) (c.before.before.before.before.before.before.before.before.place-item.ensures.0 (input c.before.before.before.before.before.before.before.before.before.before.before.before.before.before.before.before.before.before.before.before.before.before.before.before.before.before.before.before.before.before.before.before.before.before.before.before.before.before.before.before.before.before.before.before.before.before.before.before.before.before.before.before.before.before.before.before.before.before.args.v.now c.before.before.before.before.before.before.before.before.before.before.before.before.before.before.before.before.before.before.before.before.before.before.before.before.before.before.before.before.before.before.before.before.before.before.before.before.before.before.before.before.before.before.before.before.before.before.before.before.before.before.before.before.before.before.before.before.before.before.args.p.now c.before.before.before.before.before.before.before.before.before.before.before.before.before.before.before.before.before.before.before.before.before.before.before.before.before.before.before.before.before.before.before.before.before.before.before.before.before.before.before.before.before.before.before.before.before.before.before.before.before.before.before.before.before.before.before.before.before.before.args.k c.before.before.before.before.before.before.before.before.before.before.before.before.before.before.before.before.before.before.before.before.before.before.before.before.before.before.before.before.before.before.before.before.before.before.before.before.before.before.before.before.before.before.before.before.before.before.before.before.before.before.before.before.before.before.before.before.before.before.args.tr.now) (lent [] [] [] _ _ _ _) (sym c.before.before.before.before.before.before.before.before.before.before.before.before.before.before.before.before.before.before.before.before.before.before.before.before.before.before.before.before.before.before.before.before.before.before.before.before.before.before.before.before.before.before.before.before.before.before.before.before.before.word_Bytes.ensures.0)) (place_item_ground _ c.before.before.before.before.before.before.before.before.before.before.before.before.before.before.before.before.before.before.before.before.before.before.before.before.before.before.before.before.before.before.before.before.before.before.before.before.before.before.before.before.before.before.before.before.before.before.before.before.before.before.before.before.before.before.before.before.before.before.args.o c.before.before.before.before.before.before.before.before.before.before.before.before.before.before.before.before.before.before.before.before.before.before.before.before.before.before.before.before.before.before.before.before.before.before.before.before.before.before.before.before.before.before.before.before.before.before.before.before.before.before.before.before.before.before.before.before.before.before.args.done _ _) c.before.before.before.before.before.before.before.before.place-item.ensures.1.0,
 )
