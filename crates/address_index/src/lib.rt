@@ -1,3 +1,5 @@
+#![tactic(auto)]
+
 pub mod find;
 pub mod hints;
 pub mod links;

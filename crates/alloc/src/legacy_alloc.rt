@@ -13,7 +13,7 @@ pub struct LegacyAlloc {
 }
 
 // What is to be allocated: an object of so many bytes in a space, with the alignment that is pending, under words of so many bytes.
-#[derive(Drop)]
+#[derive(Clone, Copy)]
 pub struct Request {
     pub space: u64,
     pub size: u64,
@@ -31,7 +31,7 @@ pub struct Allocated {
 }
 
 // What an allocation does in its space: a refusal's number or 0, the alignment that is pending now, and the next free offset.
-#[derive(Drop)]
+#[derive(Clone, Copy)]
 pub struct Placed {
     pub number: u64,
     pub alignment: u64,

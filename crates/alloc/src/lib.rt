@@ -1,4 +1,6 @@
 // Legacy allocation (V8 up to 8.7): where objects are placed, and which object an address stands for.
+#![tactic(auto)]
+
 pub mod fill;
 pub mod legacy_alloc;
 pub mod resolve;

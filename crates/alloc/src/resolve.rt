@@ -5,7 +5,7 @@ ghost use Rattle.alloc.specs.Resolve.{is_address, addressed, resolve_of, ordinal
 
 use crate::fill::fill_to_align;
 
-#[derive(Drop)]
+#[derive(Clone, Copy)]
 pub enum Found {
     Object(u64),
     Nothing,

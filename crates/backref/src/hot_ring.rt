@@ -6,7 +6,7 @@ ghost use Rattle.backref.specs.HotRing.{entered, hot_at};
 use tables::values::{Fields, Ref, SlotValue, fields_of};
 
 // What a place holds.
-#[derive(Drop)]
+#[derive(Clone, Copy)]
 pub enum Hot {
     Is(Ref),
     Empty,

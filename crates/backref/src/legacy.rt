@@ -15,7 +15,7 @@ use stream::putint::{Int, putint};
 use tables::values::Ref;
 
 // What a back-reference stands for and the cursor after it; or the payload ended in it; or its number has no entry, with the cursor.
-#[derive(Drop)]
+#[derive(Clone, Copy)]
 pub enum Backref {
     To(Ref, usize),
     Cut,
@@ -23,7 +23,7 @@ pub enum Backref {
 }
 
 // A place in a space.
-#[derive(Drop)]
+#[derive(Clone, Copy)]
 pub struct Place {
     pub chunk: u64,
     pub offset: u64,

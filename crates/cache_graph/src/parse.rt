@@ -13,7 +13,7 @@ use readers::state::{State, Went};
 use tables::records::clear;
 
 // The refusal's number or 0; then the four record counts and the cursor at the finish, or the refusal's place.
-#[derive(Drop)]
+#[derive(Clone, Copy)]
 pub struct Outcome {
     pub number: u64,
     pub objects: u64,

@@ -1,4 +1,6 @@
 // The entry point for C and Rust; include/dawichko.h declares it.
+#![tactic(auto)]
+
 ghost use Rattle.std.specs.Prelude.{true, ◌≡◌};
 ghost use Rattle.sheet.specs.Sheet as Sheet;
 ghost use Rattle.cache_graph.specs.Promise.{call_of, rooms_of, Reads, Assures};

@@ -1,2 +1,4 @@
 // Deferred entries of legacy closing sections.
+#![tactic(auto)]
+
 pub mod entry;

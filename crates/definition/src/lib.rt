@@ -1,1 +1,3 @@
 // The definition of the walk, from the first byte to the outcome, and the words of the guarantee. It has no code: see specs/.
+#![tactic(auto)]
+

@@ -1,3 +1,5 @@
+#![tactic(auto)]
+
 pub mod closing;
 pub mod padding;
 pub mod walk;

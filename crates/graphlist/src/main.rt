@@ -1,4 +1,6 @@
 // Reads a version sheet, a payload, its reservations and a trusted list from files, and prints the payload's object graph.
+#![tactic(auto)]
+
 mod files;
 mod text;
 

@@ -64,7 +64,7 @@ const ORDER: [u64; 50] = [
 ];
 
 // A row of the order.
-#[derive(Drop)]
+#[derive(Clone, Copy)]
 pub struct Claim {
     pub name: usize,
     pub span: u64,

@@ -1,1 +1,3 @@
 // Pure laws of the definition: what every reader keeps. It has no code: see specs/.
+#![tactic(auto)]
+

@@ -1,4 +1,6 @@
 // Runs vectors of the parts below the walk and prints what they give; crates/leaf_vectors/stdout is what must come out.
+#![tactic(auto)]
+
 use alloc::fill::fill_to_align;
 use alloc::legacy_alloc::{LegacyAlloc, Request};
 use alloc::resolve::{Found, resolve};

@@ -20,7 +20,7 @@ use tables::values::{Fields, Raw, Ref, SlotValue, fields_of};
 
 // Kind, a and b of a slot, its width, the cursor after it, and whether it enters the hot ring. Kind 0: none of these references, or
 // one to refuse.
-#[derive(Drop)]
+#[derive(Clone, Copy)]
 pub struct Leaf {
     pub kind: u64,
     pub a: u64,

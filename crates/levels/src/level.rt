@@ -16,7 +16,7 @@ use tables::values::Fields;
 
 // An object that is being read: its number, its bytes and how many of them have been read, where its head stands, and its space. Nothing read: its
 // size and map are still to come.
-#[derive(Drop)]
+#[derive(Clone, Copy)]
 pub struct Level {
     pub object: usize,
     pub size: u64,
@@ -26,7 +26,7 @@ pub struct Level {
 }
 
 // What reading an item gave: the bytes of its object that have been read then, or a refusal's number and place.
-#[derive(Drop)]
+#[derive(Clone, Copy)]
 pub struct Item {
     pub went: bool,
     pub number: u64,

@@ -1,4 +1,6 @@
 // What is read of an object beside references: its head, items, map and resolves.
+#![tactic(auto)]
+
 pub mod head;
 pub mod item;
 pub mod map;

@@ -17,7 +17,7 @@ use tables::values::Fields;
 
 // An object whose map is a leaf: its size in words, how many bytes that integer has, and the map; with the address records that there are then, and
 // the alignment that is pending. Kind 0 of the map: none.
-#[derive(Drop)]
+#[derive(Clone, Copy)]
 pub struct Opened {
     pub words: u64,
     pub size: usize,
@@ -27,7 +27,7 @@ pub struct Opened {
 }
 
 // Whether an object has its address, the address records that there are then, and the alignment that is pending.
-#[derive(Drop)]
+#[derive(Clone, Copy)]
 struct Address {
     given: bool,
     records: usize,

@@ -1,2 +1,4 @@
 // The bytes of a raw slot.
+#![tactic(auto)]
+
 pub mod view;

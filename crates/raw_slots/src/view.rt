@@ -3,7 +3,7 @@ ghost use Rattle.std.specs.Prelude.{◌≡◌, length, take, drop};
 ghost use Rattle.raw_slots.specs.View.{view_of, viewed};
 
 // Where a raw slot's bytes lie in the payload, or a refusal's number.
-#[derive(Drop)]
+#[derive(Clone, Copy)]
 pub enum View {
     Is(usize, usize),
     Refused(u64),

@@ -1,5 +1,7 @@
 // The reading half of a walk: the payload, borrowed, and a cursor in it. Each function takes the struct apart and calls the one of
 // `stream` on slice and number.
+#![tactic(auto)]
+
 mod cursor;
 
 ghost use Rattle.std.specs.Prelude.{◌≡◌, ◌+◌};
@@ -11,7 +13,7 @@ use crate::cursor::{past_byte, past_int, past_raw, raw_bytes};
 use stream::bytes::{Range, peek, raw};
 use stream::putint::{Int, putint};
 
-#[derive(Drop)]
+#[derive(Clone, Copy)]
 pub struct Reader<'a> {
     pub payload: &'a [u8],
     pub at: usize,

@@ -1,4 +1,6 @@
 // The readers of references that read no other, and of what stands before one: integers, simple references, prefixes.
+#![tactic(auto)]
+
 pub mod ints;
 pub mod parts;
 pub mod prefix;

@@ -11,7 +11,7 @@ use tables::values::SlotValue;
 
 // How the value of the next reference is held (0 as it is, 1 weak, n + 2 repeated n times); the same of a root that was read already; a
 // refusal; or a head that is none of these.
-#[derive(Drop)]
+#[derive(Clone, Copy)]
 pub enum Prefix {
     Inner(u64, State),
     Value(u64, u64, State),

@@ -3,7 +3,7 @@ use tables::values::SlotValue;
 
 // The cursor, the four record counts, the next pending number and how many slots wait, the with-skip amount that stands, and the pending
 // alignment.
-#[derive(Drop)]
+#[derive(Clone, Copy)]
 pub struct State {
     pub at: usize,
     pub objects: usize,
@@ -17,21 +17,21 @@ pub struct State {
 }
 
 // A value; or a refusal's number and place, with the state that it left.
-#[derive(Drop)]
+#[derive(Clone, Copy)]
 pub enum Step {
     Got(SlotValue, State),
     Refused(u64, usize, State),
 }
 
 // A number.
-#[derive(Drop)]
+#[derive(Clone, Copy)]
 pub enum Count {
     Is(u64, State),
     Refused(u64, usize, State),
 }
 
 // Nothing but the state.
-#[derive(Drop)]
+#[derive(Clone, Copy)]
 pub enum Went {
     On(State),
     Refused(u64, usize, State),

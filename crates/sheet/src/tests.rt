@@ -7,7 +7,7 @@ use crate::names::{K_ALIGNMENT_PREFIX, K_BACKREF, K_NEW_META_MAP, K_NEW_OBJECT, 
 use crate::numbers::{legacy, number, number_of_spaces, present};
 
 // An entry of the closing section.
-#[derive(Drop)]
+#[derive(Clone, Copy)]
 pub enum Closing {
     Synchronize,
     Alignment(u64),

@@ -32,7 +32,7 @@ pub fn little_endian(p: &[u8], at: usize, n: usize) -> u64
 }
 
 // Where a raw range ends, or that it passes the payload's end.
-#[derive(Drop)]
+#[derive(Clone, Copy)]
 pub enum Range {
     To(usize),
     Past,

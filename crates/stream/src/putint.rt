@@ -5,7 +5,7 @@ ghost use Rattle.stream.specs.PutInt.{int_at, Small};
 use crate::bytes::{byte, little_endian};
 
 // An integer's value and its byte count, or that the payload ends before it does.
-#[derive(Drop)]
+#[derive(Clone, Copy)]
 pub enum Int {
     Is(u32, usize),
     Cut,

@@ -5,7 +5,7 @@ ghost use Rattle.stream.specs.Smi.{signed, smi_of};
 use crate::bytes::little_endian;
 
 // A small integer, or that the bytes hold none.
-#[derive(Drop)]
+#[derive(Clone, Copy)]
 pub enum Smi {
     Is(i64),
     No,

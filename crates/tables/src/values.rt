@@ -3,7 +3,7 @@ ghost use Rattle.std.specs.Prelude.{◌≡◌, ◌≤◌};
 ghost use Rattle.tables.specs.Values.{triple, ref_fields, fields_of, width_of};
 
 // What a reference stands for.
-#[derive(Drop)]
+#[derive(Clone, Copy)]
 pub enum Ref {
     Object(u64),
     Root(u64),
@@ -12,7 +12,7 @@ pub enum Ref {
 }
 
 // A range of the payload; `advances` is whether it moves on in the object.
-#[derive(Drop)]
+#[derive(Clone, Copy)]
 pub struct Raw {
     pub off: u64,
     pub len: u64,
@@ -20,7 +20,7 @@ pub struct Raw {
 }
 
 // The value of a slot. A repeat and a weak reference name a value record.
-#[derive(Drop)]
+#[derive(Clone, Copy)]
 pub enum SlotValue {
     Ref(Ref),
     Repeat(u32, u64),
@@ -34,7 +34,7 @@ pub enum SlotValue {
 }
 
 // A value as a record has it: document 01's kind, a and b.
-#[derive(Drop)]
+#[derive(Clone, Copy)]
 pub struct Fields {
     pub kind: u64,
     pub a: u64,

@@ -4,7 +4,7 @@ use crate::report::difference;
 use cache_graph::parse::{Outcome, parse_with};
 
 // A case that was run: its family, the frozen number, whether all was equal, and the place after it.
-#[derive(Drop)]
+#[derive(Clone, Copy)]
 pub struct Ran {
     pub family: u64,
     pub outcome: u64,
@@ -13,7 +13,7 @@ pub struct Ran {
 }
 
 // What a case lends besides its tables: how long each is, and the place after them.
-#[derive(Drop)]
+#[derive(Clone, Copy)]
 struct Lent {
     sheet: usize,
     payload: usize,
@@ -23,7 +23,7 @@ struct Lent {
 }
 
 // What is frozen of the answer: the number and whether number, counts, `end` and place are those of the call; the place after them.
-#[derive(Drop)]
+#[derive(Clone, Copy)]
 struct Frozen {
     number: u64,
     objects: u64,
