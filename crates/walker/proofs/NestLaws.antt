@@ -186,8 +186,8 @@ module _ (x : Input) (h : List ℕ) (d : ℕ) where
               let z : d + (k + 1) ≡ d + k + 1 = omega arith in
               rw (z, ← one_less (d + k)) (ref_object w.ready s.inside (get_or x.payload m.at 0) (refl, c) (d + k + 1) (omega (arith, s.deep)) s.kind)
 
-          goes_on : goes_on x (d + k) l child ≡ reading x (d + k) l m
-          goes_on =
+          goes_on_lem : goes_on x (d + k) l child ≡ reading x (d + k) l m
+          goes_on_lem =
               items (ap (λ (u : Out ℕ). and_then (and_then u (items_from x (ref_at x (64 - (d + k))) l.object l.size)) (closed l.object l.tag l.size))
               (item_slot x (ref_at x (64 - (d + k))) l.object l.size l.done m s.not_deferred (ap (λ (u : Out SlotValue). and_then u (place_item x l.object l.done)) is_reference)))
 
@@ -196,7 +196,7 @@ module _ (x : Input) (h : List ℕ) (d : ℕ) where
               resumed_suc x d (set ls k l) (omega arith) child
               ∙ ap (λ (l₁ : Level). resumed x d (set ls k l) k (goes_on x (d + k) l₁ child)) (get_or-set_same ls k l nowhere (omega (arith, w.eight, s.roomy)))
               ∙ resumed_set x d ls k k l (omega arith) (goes_on x (d + k) l child)
-              ∙ goes goes_on
+              ∙ goes goes_on_lem
 
           kept_more : (i : ℕ) → i < k + 1 → (t : Bool) → eqb i k ≡ t → (Held (moved (m.at + 1) m) (get_or (set ls k l) i nowhere)) × (0 < (get_or (set ls k l) i nowhere).done) × ((get_or (set ls k l) i nowhere).done < (get_or (set ls k l) i nowhere).size)
           kept_more i low₁ true e = let z = eqb-true i k e in rw (z, get_or-set_same ls k l nowhere (omega (arith, w.eight, s.roomy))) (held_on (omega arith) (w.held b).0, b, low)

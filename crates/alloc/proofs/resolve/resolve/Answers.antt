@@ -1,0 +1,19 @@
+use native.Mathlib.Omega.{arith}
+use Rattle.alloc.proofs.Laws.{fill_bound, exact, no_filler, after_filler}
+use Rattle.alloc.proofs.resolve.resolve.Goals as goal
+
+pub returns-in-Object : goal.returns-in-Object
+returns-in-Object c = exact _ _ _ _ _ _ _ c.find_address-found.ensures c.in-Object.is
+
+pub returns-then-pad-eq0 : goal.returns-then-pad-eq0
+returns-then-pad-eq0 c =
+    no_filler _ _ _ _ _ _ _ c.find_address-found.ensures c.enum_told-in_default-1.given.1 c.fill_to_align-pad.ensures c.if-pad-eq0.true
+
+pub overflow_add-offset : goal.overflow_add-offset
+overflow_add-offset c =
+    omega (arith, fill_bound c.args.offset c.args.alignment c.args.word c.requires.2)
+
+pub returns : goal.returns
+returns c =
+    after_filler _ _ _ _ _ _ _ c.find_address-found.ensures c.enum_told-in_default-1.given.1 c.fill_to_align-pad.ensures
+    c.if-pad-eq0.false c.find_address.ensures

@@ -1,0 +1,5 @@
+use Rattle.readers.proofs.SimpleLaws.{pending_is}
+use Rattle.readers.proofs.simple.pending_ref.Goals as goal
+
+pub returns : goal.returns
+returns c = pending_is _

@@ -1,0 +1,26 @@
+use borrow.Author.Rules.{rules}
+use native.Mathlib.Omega.{arith}
+use Rattle.stream.proofs.SmiLaws.{word_below, smi8_is, smi8_no, smi4_is, smi4_no, smi_no}
+use Rattle.stream.proofs.smi.decode_smi_bytes.Goals as goal
+
+pub returns-then-raw-eq0 : goal.returns-then-raw-eq0
+returns-then-raw-eq0 c = smi8_is _ c.if-d-eq8.true c.little_endian-raw.ensures c.if-raw-eq0.true (search rules) c.signed32.ensures
+
+pub returns-then-d-eq8 : goal.returns-then-d-eq8
+returns-then-d-eq8 c = smi8_no _ c.if-d-eq8.true c.little_endian-raw.ensures c.if-raw-eq0.false
+
+pub signed32-requires-then-raw-eq0-2 : goal.signed32-requires-then-raw-eq0-2
+signed32-requires-then-raw-eq0-2 c =
+    word_below _ (λ i. omega (arith, c.type_inv.d i)) c.little_endian-raw-then-d-eq4.ensures
+
+pub returns-then-raw-eq0-2 : goal.returns-then-raw-eq0-2
+returns-then-raw-eq0-2 c =
+    smi4_is _ c.if-d-eq4.true c.little_endian-raw-then-d-eq4.ensures c.if-raw-eq0-2.true
+    (word_below _ (λ i. omega (arith, c.type_inv.d i)) c.little_endian-raw-then-d-eq4.ensures)
+    c.signed32-then-raw-eq0-2.ensures
+
+pub returns-else-raw-eq0-2 : goal.returns-else-raw-eq0-2
+returns-else-raw-eq0-2 c = smi4_no _ c.if-d-eq4.true c.little_endian-raw-then-d-eq4.ensures c.if-raw-eq0-2.false
+
+pub returns-else-d-eq4 : goal.returns-else-d-eq4
+returns-else-d-eq4 c = smi_no _ c.if-d-eq8.false c.if-d-eq4.false
