@@ -264,7 +264,7 @@ module _ {x : Input} {h sc : List ℕ} {m : Mem} (g : Ready x h m sc) (l : m.at 
         ready_after g (subst (Holds x m (Referred x m)) (sym w) (ref_keeps g.proper 1 m g.sound g.counted))
         (subst (Ordered Free) (sym w) (ref_numbered g.proper m g.sound g.counted g.numbered 1))
         (subst (StaysAscending x) (sym w) (ref_ascending g.proper m g.sound g.counted g.ascending 1))
-        (idle_of (length x.payload) (moved (m.at + 1) m) sc (moved_ready g l).index m' (same_no records_of z head-idle))
+        (idle_of (length x.payload) (moved (m.at + 1) m) sc (moved_ready g l).index m' (same_no records_of {m = moved (m.at + 1) m} {m' = m'} z head-idle))
 
 -- ---- kinds are small, by one computed test over the order of heads
 
