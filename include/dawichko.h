@@ -1,4 +1,4 @@
-/* Dawichko: the object graph of a V8 code-cache payload. Link with libdawichko.a (rt staticlib dawichko). */
+/* Dawichko: the object graph of a V8 code-cache payload. Link with libdawichko.a (rt lib in crates/dawichko). */
 #ifndef DAWICHKO_H
 #define DAWICHKO_H
 

@@ -10,7 +10,7 @@ fn main() {
     let root = Path::new(&here).join("..");
     let given = env::var_os("DAWICHKO_LIB");
     // A relative path counts from the repository's root.
-    let folder = root.join(given.as_deref().unwrap_or("target/staticlib".as_ref()));
+    let folder = root.join(given.as_deref().unwrap_or("crates/dawichko/out".as_ref()));
     let archive = folder.join("libdawichko.a");
     if !archive.exists() {
         // A folder that was named is not filled: the archive that was meant lies elsewhere.
@@ -22,12 +22,12 @@ fn main() {
     println!("cargo:rustc-link-lib=static=dawichko");
 }
 
-/// Proves the library and writes target/staticlib/libdawichko.a, which takes many minutes.
+/// Proves the library and writes crates/dawichko/out/libdawichko.a, which takes many minutes.
 fn prove(root: &Path) {
-    let done = Command::new("rt").args(["staticlib", "dawichko"]).current_dir(root).output();
+    let done = Command::new("rt").arg("lib").current_dir(root.join("crates/dawichko")).output();
     let done = done.unwrap_or_else(|e| {
-        panic!("no libdawichko.a in target/staticlib, and rt, which makes it, can't be run: {e} (see DAWICHKO_LIB)")
+        panic!("no libdawichko.a in crates/dawichko/out, and rt, which makes it, can't be run: {e} (see DAWICHKO_LIB)")
     });
     let said = String::from_utf8_lossy(&done.stdout) + String::from_utf8_lossy(&done.stderr);
-    assert!(done.status.success(), "rt staticlib dawichko failed:\n{said}");
+    assert!(done.status.success(), "rt lib failed in crates/dawichko:\n{said}");
 }

@@ -29,4 +29,4 @@ module _ {A : Type 0} {x : Input} {h sc : List ℕ} {m : Mem} (g : Ready x h m s
 
   -- it left the slots and the address records as they were
   pub idle_ready : Idle m o → {v : A} {m' : Mem} → got v m' ≡ o → Ready x h m' sc
-  idle_ready u {m' = m'} e = let z = law_went e in ready_after g z.kept z.numbered z.ascending (idle_of (length x.payload) m sc g.index m' (same_got records_of e u))
+  idle_ready u {m' = m'} e = let z = law_went e in ready_after g z.kept z.numbered z.ascending (idle_of (length x.payload) m sc g.index m' (same_got records_of {m = m} {m' = m'} e u))

@@ -5,7 +5,6 @@ use mathlib.Core.List.{List, [], ◌∷◌}
 use Prim.Native.Nat.{ℕ, zero, suc, ◌+◌, ◌-◌, ◌*◌, ◌/◌, ◌^◌, ◌<◌, ◌≤◌, max}
 use native.Mathlib.Omega.{arith}
 use denote.Enum.Declared.{tag_of}
-use types.Run.{OneOf, miss}
 use lib.ListN.{length, set, length-set}
 use Rattle.tables.specs.contracts.values.SlotValue.{the_type}
 use Rattle.tables.specs.declared.values.SlotValue.{SlotValue}
@@ -32,9 +31,9 @@ use Rattle.objects.proofs.WaiterLaws.{indexed_plain}
 pub repeat_fields : (values : Table) {v : SlotValue} {n k : ℕ} {f : Fields} → v ≡ Repeat n k → f ≡ triple (field 3 values.rows k 0) (field 3 values.rows k 1) (field 3 values.rows k 2) → f ≡ entry_fields values v
 repeat_fields values e h = rw e h
 
-pub other_fields : (values : Table) (v : SlotValue) → OneOf (0 ∷ 2 ∷ 3 ∷ 4 ∷ 5 ∷ 6 ∷ 7 ∷ 8 ∷ []) (tag_of the_type v) → fields_of v ≡ entry_fields values v
+pub other_fields : (values : Table) (v : SlotValue) → ((n k : ℕ) → v ≡ Repeat n k → ⊥) → fields_of v ≡ entry_fields values v
 other_fields values (Ref r) h = refl
-other_fields values (Repeat n k) h = absurd (miss (0 ∷ 2 ∷ 3 ∷ 4 ∷ 5 ∷ 6 ∷ 7 ∷ 8 ∷ []) 1 tt h)
+other_fields values (Repeat n k) h = absurd (h n k refl)
 other_fields values (RepeatPrev n) h = refl
 other_fields values (Skip n) h = refl
 other_fields values (StreamBytes n) h = refl
@@ -45,11 +44,11 @@ other_fields values (PendingRef n) h = refl
 
 -- ---- how many slots it makes, and what it adds to the count
 
-pub not_skip : (v : SlotValue) → OneOf (0 ∷ 1 ∷ 2 ∷ 4 ∷ 5 ∷ 6 ∷ 7 ∷ 8 ∷ []) (tag_of the_type v) → is_skip v ≡ false
+pub not_skip : (v : SlotValue) → ((n : ℕ) → v ≡ Skip n → ⊥) → is_skip v ≡ false
 not_skip (Ref r) h = refl
 not_skip (Repeat n k) h = refl
 not_skip (RepeatPrev n) h = refl
-not_skip (Skip n) h = absurd (miss (0 ∷ 1 ∷ 2 ∷ 4 ∷ 5 ∷ 6 ∷ 7 ∷ 8 ∷ []) 3 tt h)
+not_skip (Skip n) h = absurd (h n refl)
 not_skip (StreamBytes n) h = refl
 not_skip (Raw r) h = refl
 not_skip ClearedWeak h = refl

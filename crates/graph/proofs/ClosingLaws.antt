@@ -1,16 +1,13 @@
 -- The closing section at each way out of the code. Assumes nothing.
 use mathlib.Core.Path.{◌≡◌, refl, sym, ap, subst, ◌∙◌}
 use mathlib.Core.Bool.{Bool, true, false, not, ◌&&◌, ◌||◌}
-use mathlib.Core.List.{List, [], ◌∷◌}
+use mathlib.Core.List.{List, []}
 use Prim.Native.Nat.{ℕ, suc, ◌+◌, ◌-◌, ◌<◌, ◌≤◌}
 use native.Mathlib.Omega.{arith}
 use borrow.Author.Tests.{le-leb, lt-leb, lt-ltb}
-use denote.Enum.Declared.{tag_of}
-use types.Run.{OneOf, miss}
 use lib.Dec.{eqb}
 use lib.ListN.{length}
 use Rattle.stream.specs.Bytes.{peek_at}
-use Rattle.sheet.specs.contracts.tests.Closing.{the_type}
 use Rattle.sheet.specs.Sheet.{is_legacy}
 use Rattle.sheet.specs.declared.tests.Closing.{Closing}
 use Rattle.sheet.specs.declared.tests.Closing.TheVariants.{Synchronize, Alignment, Deferred, Reference}
@@ -52,10 +49,10 @@ module _ (x : Input) {e : Closing} (m : Mem) where
   pub one_deferred : {space : ℕ} {out : Out (Unit {0})} → e ≡ Deferred space → out ≡ entry x space m → out ≡ one_entry x e m
   one_deferred g h = rw g h
 
-pub drops : (x : Input) (e : Closing) → OneOf (0 ∷ 1 ∷ 3 ∷ []) (tag_of the_type e) → (m : Mem) → drop_reference x m ≡ one_entry x e m
+pub drops : (x : Input) (e : Closing) → ((space : ℕ) → e ≡ Deferred space → ⊥) → (m : Mem) → drop_reference x m ≡ one_entry x e m
 drops x Synchronize h m = refl
 drops x (Alignment a) h m = refl
-drops x (Deferred space) h m = absurd (miss (0 ∷ 1 ∷ 3 ∷ []) 2 tt h)
+drops x (Deferred space) h m = absurd (h space refl)
 drops x Reference h m = refl
 
 module _ (x : Input) (m : Mem) where
@@ -88,9 +85,13 @@ module _ (x : Input) (m : Mem) where
     unfolding entries
     left_by = rw (one_more, lt-leb (length x.payload) m.at h, c)
 
-by_one : (x : Input) (k : Reader (Unit {0})) (e : Closing) → OneOf (2 ∷ 3 ∷ []) (tag_of the_type e) → (m : Mem) → after_entry x k (one_entry x e m) ≡ by_entry x k e m
-by_one x k Synchronize h m = absurd (miss (2 ∷ 3 ∷ []) 0 tt h)
-by_one x k (Alignment a) h m = absurd (miss (2 ∷ 3 ∷ []) 1 tt h)
+-- neither kSynchronize nor an alignment: an entry that holds references
+abbrev pub IsReading : Closing → Type 0
+IsReading e = (e ≡ Synchronize → ⊥) × ((a : ℕ) → e ≡ Alignment a → ⊥)
+
+by_one : (x : Input) (k : Reader (Unit {0})) (e : Closing) → IsReading e → (m : Mem) → after_entry x k (one_entry x e m) ≡ by_entry x k e m
+by_one x k Synchronize h m = absurd (h.0 refl)
+by_one x k (Alignment a) h m = absurd (h.1 a refl)
 by_one x k (Deferred space) h m = refl
 by_one x k Reference h m = refl
 
@@ -135,7 +136,7 @@ module _ (x : Input) (h : List ℕ) (m₀ : Mem) (s : State) (l : Lent) (sc : Li
           record { ready = ready_after w.ready k w.ready.numbered w.ready.ascending (record { pending = w.ready.index.pending; linked = w.ready.index.linked }); same = fuel ∙ left_aligned ∙ w.same; onward = onward_trans w.onward k.onward }
 
     -- an entry that holds references
-    module _ (e : Closing) (c : closing_of x.sheet (peek x (mem s l)) ≡ e) (t : OneOf (2 ∷ 3 ∷ []) (tag_of the_type e)) where
+    module _ (e : Closing) (c : closing_of x.sheet (peek x (mem s l)) ≡ e) (t : IsReading e) where
       pub in_legacy : InLegacy x.sheet e
       in_legacy space q = deferred_legacy x.sheet (peek x (mem s l)) space (c ∙ q)
 

@@ -1,44 +1,61 @@
 // The input files. A file that can't be used is named on standard error with the reason, and its count is NONE.
-use libc::STDERR_FILENO;
+ghost use Rattle.std.specs.Prelude.{◌≤◌, length, IfOk};
+
+use std::fmt::Display;
+use std::io::{Error, ErrorKind, Read};
+use std::rt::Files;
+use std::{fs, io};
 
 // More than any count.
 pub const NONE: usize = 65537;
 
 // Says why a file can't be used.
-fn complain(name: &[u8], reason: &[u8]) -> usize {
-    io::write_all(STDERR_FILENO, name);
-    io::write_all(STDERR_FILENO, reason);
-    NONE
+fn complain(rt: &impl Eprint, name: &str, reason: impl Display + Drop) -> io::Result<usize> {
+    eprintln!(rt; "{name}: {reason}")?;
+    Ok(NONE)
 }
 
-// The bytes of an open file at the start of buf: how many.
-fn read_open(name: &[u8], fd: i32, buf: &mut [u8]) -> usize {
-    let n = io::read_full(fd, buf);
+// Reads until buf is full or the file ends: how many bytes.
+fn read_full(file: &mut impl Read, buf: &mut [u8]) -> io::Result<usize>
+    ensures { IfOk result (λ n. n ≤ length buf.new) }
+{
+    let mut done = 0;
+    while done < buf.len() {
+        let n = file.read(&mut buf[done..])?;
+        if n == 0 {
+            break;
+        }
+        done += n;
+    }
+    Ok(done)
+}
+
+// The bytes of an open file at the start of buf: how many. One that goes on past buf is refused.
+fn read_open(file: &mut impl Read, buf: &mut [u8]) -> io::Result<usize> {
+    let n = read_full(file, buf)?;
     let mut more = [0u8; 1];
-    let got = libc::read(fd, &mut more);
-    if got < 0 {
-        os::fail(name);
-        return NONE;
+    if file.read(&mut more)? > 0 {
+        return Err(Error::other("more than 65,536 bytes"));
     }
-    if got > 0 {
-        return complain(name, b": more than 65,536 bytes\n");
-    }
-    n
+    Ok(n)
 }
 
 // The bytes of a file at the start of buf: how many. One that is missing counts as empty unless it must be there.
-pub fn read_bytes(name: &[u8], needed: bool, buf: &mut [u8]) -> usize {
-    let fd = os::open_read(name);
-    if fd < 0 {
-        if !needed && os::errno() == libc::ENOENT {
-            return 0;
-        }
-        os::fail(name);
-        return NONE;
+pub fn read_bytes(
+    rt: &(impl Files + Eprint),
+    name: &str,
+    needed: bool,
+    buf: &mut [u8],
+) -> io::Result<usize> {
+    let mut file = match fs::open(rt, name) {
+        Ok(file) => file,
+        Err(e) if !needed && e.kind() == ErrorKind::NotFound => return Ok(0),
+        Err(e) => return complain(rt, name, e),
+    };
+    match read_open(&mut file, buf) {
+        Ok(n) => Ok(n),
+        Err(e) => complain(rt, name, e),
     }
-    let n = read_open(name, fd, buf);
-    libc::close(fd);
-    n
 }
 
 fn two_bytes(low: u8, high: u8) -> u16 {
@@ -78,29 +95,29 @@ fn fill_reservations(bytes: &[u8], numbers: &mut [u32]) {
 }
 
 // The sheet: 58 numbers, or none where the file has another length, which is no usable sheet.
-pub fn read_sheet(sheet: &mut [u16]) -> usize {
+pub fn read_sheet(rt: &(impl Files + Eprint), sheet: &mut [u16]) -> io::Result<usize> {
     let mut bytes = [0u8; 65536];
-    let n = read_bytes(b"sheet.bin", true, &mut bytes);
+    let n = read_bytes(rt, "sheet.bin", true, &mut bytes)?;
     if n == NONE {
-        return NONE;
+        return Ok(NONE);
     }
     if n != 116 {
-        return 0;
+        return Ok(0);
     }
     fill_sheet(&bytes, sheet);
-    58
+    Ok(58)
 }
 
 // The reservations: how many.
-pub fn read_reservations(numbers: &mut [u32]) -> usize {
+pub fn read_reservations(rt: &(impl Files + Eprint), numbers: &mut [u32]) -> io::Result<usize> {
     let mut bytes = [0u8; 65536];
-    let n = read_bytes(b"reserve.bin", false, &mut bytes);
+    let n = read_bytes(rt, "reserve.bin", false, &mut bytes)?;
     if n == NONE {
-        return NONE;
+        return Ok(NONE);
     }
     if n % 4 != 0 {
-        return complain(b"reserve.bin", b": not whole numbers of four bytes\n");
+        return complain(rt, "reserve.bin", "not whole numbers of four bytes");
     }
     fill_reservations(&bytes, numbers);
-    n / 4
+    Ok(n / 4)
 }

@@ -1,75 +1,79 @@
 // Lines of words and numbers, gathered in an array and written when it is full.
-use libc::STDOUT_FILENO;
+use itoa::Buffer;
+use std::io;
 
 // Writes the first n bytes of out.
-pub fn flush(out: &[u8], n: usize) {
+pub fn flush(rt: &impl Print, out: &[u8], n: usize) -> io::Result<()> {
     if n <= out.len() {
-        io::write_all(STDOUT_FILENO, &out[0..n]);
+        rt.write_all(&out[0..n])?;
     }
+    Ok(())
 }
 
 // Each function below adds to the n bytes of out that are not written yet, and answers how many there are then.
-fn byte(out: &mut [u8], n: usize, b: u8) -> usize {
+fn byte(rt: &impl Print, out: &mut [u8], n: usize, b: u8) -> io::Result<usize> {
     if n < out.len() {
         out[n] = b;
-        return n + 1;
+        return Ok(n + 1);
     }
-    flush(out, n);
+    flush(rt, out, n)?;
     if out.len() == 0 {
-        return 0;
+        return Ok(0);
     }
     out[0] = b;
-    1
+    Ok(1)
 }
 
-fn bytes(out: &mut [u8], n: usize, s: &[u8]) -> usize {
+fn bytes(rt: &impl Print, out: &mut [u8], n: usize, s: &[u8]) -> io::Result<usize> {
     let mut at = n;
-    let mut i: usize = 0;
-    while i < s.len() {
-        at = byte(out, at, s[i]);
-        i += 1;
+    for b in s {
+        at = byte(rt, out, at, *b)?;
     }
-    at
+    Ok(at)
 }
 
-fn number(out: &mut [u8], n: usize, x: u64) -> usize {
-    let mut digits = [0u8; 20];
-    let k = io::decimal(x, &mut digits);
-    let at = byte(out, n, b' ');
-    bytes(out, at, &digits[..k])
+fn number(rt: &impl Print, out: &mut [u8], n: usize, x: u64) -> io::Result<usize> {
+    let mut digits = Buffer::new();
+    let at = byte(rt, out, n, b' ')?;
+    bytes(rt, out, at, digits.format(x).as_bytes())
 }
 
 // A word and some numbers.
-pub fn line(out: &mut [u8], n: usize, word: &[u8], numbers: &[u64]) -> usize {
-    let mut at = bytes(out, n, word);
-    let mut i: usize = 0;
-    while i < numbers.len() {
-        at = number(out, at, numbers[i]);
-        i += 1;
+pub fn line(
+    rt: &impl Print,
+    out: &mut [u8],
+    n: usize,
+    word: &str,
+    numbers: &[u64],
+) -> io::Result<usize> {
+    let mut at = bytes(rt, out, n, word.as_bytes())?;
+    for x in numbers {
+        at = number(rt, out, at, *x)?;
     }
-    byte(out, at, b'\n')
+    byte(rt, out, at, b'\n')
 }
 
 // So many records of a table, each of some fields.
 pub fn records(
+    rt: &impl Print,
     out: &mut [u8],
     n: usize,
-    word: &[u8],
+    word: &str,
     table: &[u64],
     fields: usize,
     count: u64,
-) -> usize {
+) -> io::Result<usize> {
     let mut at = n;
     let mut start: usize = 0;
     let mut left = count;
     while left > 0 {
         if table.len() - start < fields {
-            return at;
+            return Ok(at);
         }
         let end = start + fields;
-        at = line(out, at, word, &table[start..end]);
+        at = line(rt, out, at, word, &table[start..end])?;
         start = end;
         left -= 1;
     }
-    at
+    Ok(at)
 }

@@ -1,22 +1,19 @@
 -- Slots and items of an object, at each way out of the code. Assumes nothing.
-use mathlib.Core.Path.{◌≡◌, refl, sym, ap, subst, ◌∙◌}
+use mathlib.Core.Path.{◌≡◌, refl, sym, ap, ◌∙◌}
 use mathlib.Core.Bool.{Bool, true, false}
-use mathlib.Core.List.{List, [], ◌∷◌}
+use mathlib.Core.List.{List}
 use Prim.Native.Nat.{ℕ, ◌+◌, ◌*◌, ◌/◌, ◌^◌, ◌<◌}
 use native.Mathlib.Omega.{arith}
 use borrow.Author.Tests.{ltb-true}
-use denote.Enum.Declared.{tag_of}
-use types.Run.{OneOf, miss}
 use lib.Dec.{ltb}
 use lib.ListN.{set}
-use Rattle.tables.specs.contracts.values.SlotValue.{the_type}
 use Rattle.tables.specs.declared.values.SlotValue.{SlotValue}
 use Rattle.tables.specs.declared.values.SlotValue.TheVariants.{Ref, Repeat, RepeatPrev, Skip, StreamBytes, Raw, ClearedWeak, WeakRef, PendingRef}
 use Rattle.tables.specs.declared.values.Fields.{Fields}
 use Rattle.tables.specs.Values.{fields_of, width_of}
 use Rattle.tables.specs.Records.{room, field, slot_row, value_row, written, Put}
 use Rattle.definition.specs.Memory.{Input, Kept, Table, table, Mem, Out, got, no, word, choose, refuse, append, has_room}
-use Rattle.definition.specs.Slots.{add_value, counted, add_slot, waiter, waits_of, keep_item, previous, repeat_previous, place_item}
+use Rattle.definition.specs.Slots.{add_value, counted, add_slot, waits_of, keep_item, previous, repeat_previous, place_item}
 use Rattle.readers.specs.declared.state.State.{State}
 use Rattle.readers.specs.declared.state.Count.{Count}
 use Rattle.readers.specs.declared.state.Count.TheVariants.{Is, Refused as CountRefused}
@@ -118,8 +115,8 @@ module _ (s : State) (o done ts : ℕ) (v : SlotValue) (waits : ℕ) (ot st ot' 
   unfolding keep_item
   keep_is g f x l e = rw (e, ← w, ← count_is (objects_is ot' (slots_is st' l)) g (h l), f)
 
--- a value whose tag is not that of a pending reference does not wait
-pub tag_waits : (v : SlotValue) → OneOf (0 ∷ 1 ∷ 2 ∷ 3 ∷ 4 ∷ 5 ∷ 6 ∷ 7 ∷ []) (tag_of the_type v) → 0 ≡ waits_of v
+-- a value that is no pending reference does not wait
+pub tag_waits : (v : SlotValue) → ((n : ℕ) → v ≡ PendingRef n → ⊥) → 0 ≡ waits_of v
 tag_waits (Ref r) h = refl
 tag_waits (Repeat n k) h = refl
 tag_waits (RepeatPrev n) h = refl
@@ -128,7 +125,7 @@ tag_waits (StreamBytes n) h = refl
 tag_waits (Raw r) h = refl
 tag_waits ClearedWeak h = refl
 tag_waits (WeakRef k) h = refl
-tag_waits (PendingRef n) h = absurd (miss (0 ∷ 1 ∷ 2 ∷ 3 ∷ 4 ∷ 5 ∷ 6 ∷ 7 ∷ []) 8 tt h)
+tag_waits (PendingRef n) h = absurd (h n refl)
 
 -- after a slot record was added: its number has room, and the index is right
 module _ (s : State) (o index : ℕ) (v : SlotValue) (waits : ℕ) (ot st ot' st' : List ℕ) {r : Count} (h : (l : Lent) → seen_count r (objects_is ot' (slots_is st' l)) ≡ slot_of o index (fields_of v) waits (mem s (objects_is ot (slots_is st l)))) {k : ℕ} {t : State} (g : r ≡ Is k t) where
@@ -182,13 +179,16 @@ pub skip-fits : (done skip ts : ℕ) {v : SlotValue} {n limit : ℕ} → v ≡ S
 skip-fits done skip ts p f = let h = rw p at f in omega (arith, h)
 
 -- every other item
-pub place_keep : (x : Input) (o done : ℕ) (v : SlotValue) (m : Mem) → OneOf (0 ∷ 1 ∷ 5 ∷ 6 ∷ 7 ∷ 8 ∷ []) (tag_of the_type v) → {r : Out ℕ} → r ≡ keep_item x o done v m → r ≡ place_item x o done v m
+abbrev pub MakesSlot : SlotValue → Type 0
+MakesSlot v = ((n : ℕ) → v ≡ Skip n → ⊥) × ((n : ℕ) → v ≡ StreamBytes n → ⊥) × ((n : ℕ) → v ≡ RepeatPrev n → ⊥)
+
+pub place_keep : (x : Input) (o done : ℕ) (v : SlotValue) (m : Mem) → MakesSlot v → {r : Out ℕ} → r ≡ keep_item x o done v m → r ≡ place_item x o done v m
 unfolding place_item
 place_keep x o done (Ref r) m h e = e
 place_keep x o done (Repeat n k) m h e = e
-place_keep x o done (RepeatPrev n) m h e = absurd (miss (0 ∷ 1 ∷ 5 ∷ 6 ∷ 7 ∷ 8 ∷ []) 2 tt h)
-place_keep x o done (Skip n) m h e = absurd (miss (0 ∷ 1 ∷ 5 ∷ 6 ∷ 7 ∷ 8 ∷ []) 3 tt h)
-place_keep x o done (StreamBytes n) m h e = absurd (miss (0 ∷ 1 ∷ 5 ∷ 6 ∷ 7 ∷ 8 ∷ []) 4 tt h)
+place_keep x o done (RepeatPrev n) m h e = absurd (h.2 n refl)
+place_keep x o done (Skip n) m h e = absurd (h.0 n refl)
+place_keep x o done (StreamBytes n) m h e = absurd (h.1 n refl)
 place_keep x o done (Raw r) m h e = e
 place_keep x o done ClearedWeak m h e = e
 place_keep x o done (WeakRef k) m h e = e
@@ -202,7 +202,7 @@ pub record AsKept (s : State) (st vt sc : List ℕ) (o done ts : ℕ) (v : SlotV
   pub is : (x : Input) (ot : List ℕ) (l : Lent) {r : Out ℕ} → r ≡ keep_item x o done w (mem t (objects_is ot (slots_is st (values_is vt' l)))) → r ≡ place_item x o done v (mem s (objects_is ot (slots_is st (values_is vt l))))
 
 module _ (s : State) (st vt sc : List ℕ) (o done ts : ℕ) (v : SlotValue) (i : Indexed st s.slots sc) (low : s.waiting < 2 ^ 63) (f : done + s.skip + width_of ts v < 2 ^ 64) where
-  pub kept_itself : OneOf (0 ∷ 1 ∷ 5 ∷ 6 ∷ 7 ∷ 8 ∷ []) (tag_of the_type v) → AsKept s st vt sc o done ts v s v vt
+  pub kept_itself : MakesSlot v → AsKept s st vt sc o done ts v s v vt
   kept_itself h = record { waiting = low; fits = f; indexed = i; is = λ x ot l. place_keep x o done v (mem s (objects_is ot (slots_is st (values_is vt l)))) h }
 
   pub kept_previous : (vt' : List ℕ) {r : Count} → ((l : Lent) → seen_count r (slots_is st (values_is vt' l)) ≡ repeat_previous (mem s (slots_is st (values_is vt l)))) → {k : ℕ} {t : State} → r ≡ Is k t → {n : ℕ} → v ≡ RepeatPrev n → AsKept s st vt sc o done ts v t (Repeat n k) vt'

@@ -1,7 +1,7 @@
 -- What follows an object's map, at each way out of the code. Assumes nothing.
 use mathlib.Core.Path.{◌≡◌, refl, sym, ap, subst, ◌∙◌}
 use mathlib.Core.Bool.{Bool, true, false, not, ◌&&◌}
-use mathlib.Core.List.{List, [], ◌∷◌}
+use mathlib.Core.List.{List}
 use mathlib.Core.Logic.{⊎_elim}
 use Prim.Native.Nat.{ℕ, zero, suc, ◌+◌, ◌-◌, ◌*◌, ◌<◌, ◌≤◌}
 use native.Mathlib.Omega.{arith}
@@ -9,10 +9,6 @@ use borrow.Author.Tests.{ltb-true, ltb-false, eq-eqb, ne_eqb}
 use lib.Dec.{eqb, ltb}
 use lib.ListN.{length, get_or, set, length-set, get_or-eq_default}
 use lib.Seq.{get_or-set_other}
-use types.Run.{OneOf, miss}
-use denote.Enum.Declared.{tag_of}
-use Rattle.tables.specs.contracts.values.Ref.{the_type as ref-type}
-use Rattle.tables.specs.contracts.values.SlotValue.{the_type as value-type}
 use Rattle.tables.specs.declared.values.Ref.{Ref}
 use Rattle.tables.specs.declared.values.Ref.TheVariants.{Object, Root, RoRef, Attached}
 use Rattle.tables.specs.declared.values.SlotValue.{SlotValue}
@@ -227,8 +223,8 @@ module _ (x : Input) (before space bytes o : ℕ) (m : Mem) where
 -- ---- the flag of a trusted map
 
 module _ (x : Input) where
-  pub flagged_other : (v : SlotValue) → OneOf (1 ∷ 2 ∷ 3 ∷ 4 ∷ 5 ∷ 6 ∷ 7 ∷ 8 ∷ []) (tag_of value-type v) → false ≡ flags x v
-  flagged_other (IsRef r) h = absurd (miss (1 ∷ 2 ∷ 3 ∷ 4 ∷ 5 ∷ 6 ∷ 7 ∷ 8 ∷ []) 0 tt h)
+  pub flagged_other : (v : SlotValue) → ((r : Ref) → v ≡ IsRef r → ⊥) → false ≡ flags x v
+  flagged_other (IsRef r) h = absurd (h r refl)
   flagged_other (Repeat n k) h = refl
   flagged_other (RepeatPrev n) h = refl
   flagged_other (Skip n) h = refl
@@ -238,14 +234,14 @@ module _ (x : Input) where
   flagged_other (WeakRef k) h = refl
   flagged_other (PendingRef n) h = refl
 
-  other_ref : (r : Ref) → OneOf (0 ∷ 2 ∷ 3 ∷ []) (tag_of ref-type r) → false ≡ flags x (IsRef r)
+  other_ref : (r : Ref) → ((i : ℕ) → r ≡ Root i → ⊥) → false ≡ flags x (IsRef r)
   other_ref (Object o) h = refl
-  other_ref (Root i) h = absurd (miss (0 ∷ 2 ∷ 3 ∷ []) 1 tt h)
+  other_ref (Root i) h = absurd (h i refl)
   other_ref (RoRef c o) h = refl
   other_ref (Attached i) h = refl
 
   module _ {v : SlotValue} {r : Ref} (e : v ≡ IsRef r) where
-    pub flagged_no_root : OneOf (0 ∷ 2 ∷ 3 ∷ []) (tag_of ref-type r) → false ≡ flags x v
+    pub flagged_no_root : ((i : ℕ) → r ≡ Root i → ⊥) → false ≡ flags x v
     flagged_no_root h = rw e (other_ref r h)
 
     module _ {i : ℕ} (f : r ≡ Root i) where

@@ -1,11 +1,11 @@
 -- The two parts of scratch: the first n places, and the rest. Assumes nothing.
-use mathlib.Core.Path.{◌≡◌, refl, sym, ap, ◌∙◌}
+use mathlib.Core.Path.{◌≡◌, refl, ap, ◌∙◌}
 use mathlib.Core.List.{List, [], ◌∷◌, ◌++◌}
 use Prim.Native.Nat.{ℕ, zero, suc, ◌-◌, ◌<◌, ◌≤◌, min}
 use native.Mathlib.Nat.{zero-min, min-zero, suc-min-suc, min-eq_left}
 use native.Mathlib.Omega.{arith}
 use lib.ListN.{length, get_or, set, take, drop, length-drop, length-take, drop_of_length-le}
-use borrow.Rule.Slice.PartMut.{put_mid, take_put}
+use borrow.Rule.Slice.PartMut.{put_mid}
 
 -- a place of the first part
 pub in_front : (n : ℕ) (l : List ℕ) (i : ℕ) → i < n → i < length l → (i < length (take n l)) × (get_or (take n l) i 0 ≡ get_or l i 0)

@@ -4,7 +4,7 @@ use Rattle.heads.specs.Kinds.{next_chunk, alignment, weak_prefix, pointer_prefix
 use Rattle.tables.specs.declared.values.Ref.TheVariants.{Root}
 use Rattle.tables.specs.declared.values.SlotValue.{SlotValue}
 use Rattle.tables.specs.declared.values.SlotValue.TheVariants.{Ref as IsRef}
-use Rattle.definition.specs.Memory.{Input, Out, no, Reader, ◌>>=◌, give}
+use Rattle.definition.specs.Memory.{Input, no, Reader, ◌>>=◌, give}
 use Rattle.definition.specs.Reference.{weak_of, repeat_of, repeat_root, by_head}
 use Rattle.readers.specs.declared.state.State.{State}
 use Rattle.readers.specs.declared.prefix.Prefix.{Prefix}

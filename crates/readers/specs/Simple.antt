@@ -1,7 +1,6 @@
 -- What the heads with one and two integers make of them, and which heads are simple. Assumes nothing: these are definitions.
 use Rattle.std.specs.Prelude.{◌≡◌, Bool, true, false, ℕ, ◌^◌, ◌-◌, ◌<◌, eqb}
 use Rattle.heads.specs.Kinds.{new_object, legacy_backref_with_skip, next_chunk, alignment, hot, hot_with_skip, root_constant_with_skip, read_only, attached, builtin, external, api, internal, deoptimizer, stream_bytes, off_heap_target, cache, weak_prefix, pointer_prefix, dispatch_entry, skip, fixed_repeat, fixed_repeat_root, variable_repeat, variable_repeat_root}
-use Rattle.tables.specs.declared.values.Ref.{Ref}
 use Rattle.tables.specs.declared.values.Ref.TheVariants.{Root, RoRef, Attached}
 use Rattle.tables.specs.declared.values.SlotValue.{SlotValue}
 use Rattle.tables.specs.declared.values.SlotValue.TheVariants.{Ref as IsRef, RepeatPrev, Skip, StreamBytes, ClearedWeak}

@@ -1,6 +1,6 @@
 -- What the code holds, as the definition's `Mem`, and what it answers, as an `Out`. Nobody listens to code. Assumes nothing: these are
 -- definitions.
-use Rattle.std.specs.Prelude.{List, ℕ, ◌^◌, ◌<◌}
+use Rattle.std.specs.Prelude.{List, ℕ, ◌<◌}
 use Rattle.tables.specs.declared.values.SlotValue.{SlotValue}
 use Rattle.definition.specs.Memory.{Input, off, table, Mem, Out, got, no}
 use Rattle.readers.specs.declared.state.State.{State}

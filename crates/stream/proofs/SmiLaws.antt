@@ -1,10 +1,10 @@
 -- Signed numbers and Smi words at each way out. Assumes nothing.
-use mathlib.Core.Path.{◌≡◌, refl, ap, sym, ◌∙◌}
+use mathlib.Core.Path.{◌≡◌, ap, ◌∙◌}
 use mathlib.Core.Bool.{Bool, true, false}
 use mathlib.Core.List.{List}
 use Prim.Native.Nat.{ℕ, ◌-◌, ◌/◌, ◌%◌, ◌^◌, ◌<◌, ◌≤◌, suc}
 use native.Mathlib.Omega.{arith}
-use native.Mathlib.Nat.{lt_of_lt_of_le, lt_of_le_of_lt}
+use native.Mathlib.Nat.{lt_of_le_of_lt}
 use borrow.Author.Tests.{lt-ltb, le-ltb, eq-eqb, ne_eqb}
 use mir.Syntax.{w64}
 use mir.Val.{SFits, to_z, of_z}
@@ -13,7 +13,6 @@ use lib.IntN.{ℤ, pos, negsuc, ◌-ℤ◌}
 use lib.Signed.{shr_z, mag, mag_shr}
 use lib.ListN.{length}
 use lib.Dec.{ltb}
-use Rattle.stream.specs.declared.smi.Smi.{Smi}
 use Rattle.stream.specs.declared.smi.Smi.TheVariants.{Is, No}
 use Rattle.stream.specs.Bytes.{little_endian}
 use Rattle.stream.specs.Smi.{pick_ℤ, signed, smi_of}

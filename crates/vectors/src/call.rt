@@ -2,9 +2,10 @@
 use crate::numbers::{at_most, fill_bytes, fill_halves, fill_sheet, next, same_table};
 use crate::report::difference;
 use cache_graph::parse::{Outcome, parse_with};
+use std::io;
 
 // A case that was run: its family, the frozen number, whether all was equal, and the place after it.
-#[derive(Clone, Copy)]
+#[derive(Drop)]
 pub struct Ran {
     pub family: u64,
     pub outcome: u64,
@@ -13,7 +14,7 @@ pub struct Ran {
 }
 
 // What a case lends besides its tables: how long each is, and the place after them.
-#[derive(Clone, Copy)]
+#[derive(Drop)]
 struct Lent {
     sheet: usize,
     payload: usize,
@@ -23,7 +24,7 @@ struct Lent {
 }
 
 // What is frozen of the answer: the number and whether number, counts, `end` and place are those of the call; the place after them.
-#[derive(Clone, Copy)]
+#[derive(Drop)]
 struct Frozen {
     number: u64,
     objects: u64,
@@ -109,6 +110,7 @@ fn numbers_of(count: u64, fields: u64) -> u64 {
 
 // Holds what a call gave to what is frozen. `k` is the case's number.
 fn hold(
+    rt: &impl Print,
     cases: &[u8],
     start: usize,
     k: u64,
@@ -118,7 +120,7 @@ fn hold(
     slots: &[u64],
     values: &[u64],
     addresses: &[u64],
-) -> Ran {
+) -> io::Result<Ran> {
     let f = read_frozen(cases, start, o);
     let a = same_table(cases, f.at, numbers_of(f.objects, 4), objects);
     let b = same_table(cases, a.at, numbers_of(f.slots, 6), slots);
@@ -126,18 +128,19 @@ fn hold(
     let d = same_table(cases, c.at, numbers_of(f.addresses, 5), addresses);
     let equal = f.same & a.same & b.same & c.same & d.same;
     if !equal {
-        difference(k, f.same, a.same, b.same, c.same, d.same);
+        difference(rt, k, f.same, a.same, b.same, c.same, d.same)?;
     }
-    Ran {
+    Ok(Ran {
         family,
         outcome: f.number,
         equal,
         at: d.at,
-    }
+    })
 }
 
 // Runs a call over tables of the frozen rooms, and compares. What scratch holds before could be the number of a slot and of a record.
 fn compare(
+    rt: &impl Print,
     cases: &[u8],
     start: usize,
     k: u64,
@@ -150,7 +153,7 @@ fn compare(
     slots: &mut [u64],
     values: &mut [u64],
     addresses: &mut [u64],
-) -> Ran {
+) -> io::Result<Ran> {
     let mut scratch = [7u64; 512];
     let o = parse_with(
         sheet,
@@ -164,12 +167,18 @@ fn compare(
         &mut scratch,
     );
     hold(
-        cases, start, k, family, o, objects, slots, values, addresses,
+        rt, cases, start, k, family, o, objects, slots, values, addresses,
     )
 }
 
 // The case at a place. Its tables hold other numbers before the call.
-pub fn run_case(cases: &[u8], start: usize, sheets: &[u8], k: u64) -> Ran {
+pub fn run_case(
+    rt: &impl Print,
+    cases: &[u8],
+    start: usize,
+    sheets: &[u8],
+    k: u64,
+) -> io::Result<Ran> {
     let family = next(cases, start);
     let mut sheet = [0u16; 59];
     let mut payload = [0u8; 512];
@@ -189,6 +198,7 @@ pub fn run_case(cases: &[u8], start: usize, sheets: &[u8], k: u64) -> Ran {
     let r = at_most(l.reservations as u64, 16);
     let t = at_most(l.trusted as u64, 64);
     with_tables(
+        rt,
         cases,
         l.at,
         k,
@@ -201,6 +211,7 @@ pub fn run_case(cases: &[u8], start: usize, sheets: &[u8], k: u64) -> Ran {
 }
 
 fn with_tables(
+    rt: &impl Print,
     cases: &[u8],
     start: usize,
     k: u64,
@@ -209,7 +220,7 @@ fn with_tables(
     payload: &[u8],
     reservations: &[u32],
     trusted: &[u8],
-) -> Ran {
+) -> io::Result<Ran> {
     let mut objects = [7u64; 2048];
     let mut slots = [7u64; 2048];
     let mut values = [7u64; 2048];
@@ -223,6 +234,7 @@ fn with_tables(
     let nv = at_most(c.value, 2048);
     let nd = at_most(d.value, 2048);
     compare(
+        rt,
         cases,
         d.at,
         k,

@@ -4,7 +4,7 @@ ghost use Rattle.std.specs.Prelude.{◌≤◌};
 use stream::bytes::{byte, little_endian};
 
 // A number, and the place after it.
-#[derive(Clone, Copy)]
+#[derive(Drop)]
 pub struct Number {
     pub value: u64,
     pub at: usize,
@@ -98,7 +98,7 @@ pub fn fill_halves(data: &[u8], start: usize, out: &mut [u32]) -> usize {
 }
 
 // Whether a table has the numbers frozen at a place, so many of them, and zeros after them; and the place after the numbers.
-#[derive(Clone, Copy)]
+#[derive(Drop)]
 pub struct Same {
     pub same: bool,
     pub at: usize,

@@ -1,81 +1,70 @@
 // What is printed.
-use libc::{STDERR_FILENO, STDOUT_FILENO};
+use std::io;
 
-fn text(s: &[u8]) {
-    io::write_all(STDOUT_FILENO, s);
+pub fn file_failed(rt: &impl Eprint, name: &str, error: io::Error) -> io::Result<()> {
+    eprintln!(rt; "{name}: {error}")?;
+    eprintln!(rt; "no cases were run")
 }
 
-fn decimal(n: u64) {
-    io::print_decimal(STDOUT_FILENO, n);
-}
-
-pub fn file_failed(name: &[u8]) {
-    os::fail(name);
-    io::write_all(STDERR_FILENO, b"no cases were run\n");
-}
-
-fn part(differs: bool, name: &[u8]) {
+fn part(rt: &impl Print, differs: bool, name: &str) -> io::Result<()> {
     if differs {
-        text(name);
+        print!(rt; "{name}")?;
     }
+    Ok(())
 }
 
 // The case's number and what differs in it.
 pub fn difference(
+    rt: &impl Print,
     k: u64,
     outcome: bool,
     objects: bool,
     slots: bool,
     values: bool,
     addresses: bool,
-) {
-    text(b"case ");
-    decimal(k);
-    text(b" differs:");
-    part(!outcome, b" outcome");
-    part(!objects, b" objects");
-    part(!slots, b" slots");
-    part(!values, b" values");
-    part(!addresses, b" addresses");
-    text(b"\n");
+) -> io::Result<()> {
+    print!(rt; "case {k} differs:")?;
+    part(rt, !outcome, " outcome")?;
+    part(rt, !objects, " objects")?;
+    part(rt, !slots, " slots")?;
+    part(rt, !values, " values")?;
+    part(rt, !addresses, " addresses")?;
+    println!(rt)
 }
 
-fn line(name: &[u8], n: u64) {
-    text(name);
-    text(b": ");
-    decimal(n);
-    text(b"\n");
+fn line(rt: &impl Print, name: &str, n: u64) -> io::Result<()> {
+    println!(rt; "{name}: {n}")
 }
 
 // A line for each refusal number with cases.
-fn refusals(outcomes: &[u64]) {
-    let mut i: usize = 1;
-    while i < outcomes.len() {
-        if outcomes[i] != 0 {
-            text(b"refused with ");
-            decimal(i as u64);
-            text(b": ");
-            decimal(outcomes[i]);
-            text(b"\n");
+fn refusals(rt: &impl Print, outcomes: &[u64]) -> io::Result<()> {
+    for (i, n) in outcomes.iter().enumerate() {
+        if i != 0 && *n != 0 {
+            println!(rt; "refused with {i}: {n}")?;
         }
-        i += 1;
     }
+    Ok(())
 }
 
-pub fn summary(families: &[u64; 8], outcomes: &[u64; 18], differ: u64) {
-    line(b"document 01", families[0]);
-    line(b"modern", families[1]);
-    line(b"legacy", families[2]);
-    line(b"map-first", families[3]);
-    line(b"6.x", families[4]);
-    line(b"shared bytes", families[5]);
-    line(b"unusable", families[6]);
-    line(b"rooms", families[7]);
-    line(b"accepted", outcomes[0]);
-    refusals(outcomes);
+pub fn summary(
+    rt: &impl Print,
+    families: &[u64; 8],
+    outcomes: &[u64; 18],
+    differ: u64,
+) -> io::Result<()> {
+    line(rt, "document 01", families[0])?;
+    line(rt, "modern", families[1])?;
+    line(rt, "legacy", families[2])?;
+    line(rt, "map-first", families[3])?;
+    line(rt, "6.x", families[4])?;
+    line(rt, "shared bytes", families[5])?;
+    line(rt, "unusable", families[6])?;
+    line(rt, "rooms", families[7])?;
+    line(rt, "accepted", outcomes[0])?;
+    refusals(rt, outcomes)?;
     if differ == 0 {
-        text(b"all equal\n");
+        println!(rt; "all equal")
     } else {
-        line(b"differ", differ);
+        line(rt, "differ", differ)
     }
 }

@@ -14,13 +14,13 @@ pub legacy_backref-requires : goal.legacy_backref-requires
 legacy_backref-requires c =
     let a = c.args in
     let p = c.requires in
-    record { n_bound = p.0; linked = (rw (rest_from (length a.p.now) a.scratch.now c.index_start-start.ensures) p.1.0, p.1.1) }
+    record { n_bound = p.addresses_bound; linked = (rw (rest_from (length a.p.now) a.scratch.now c.index_start-start.ensures) p.linked.0, p.linked.1) }
 
 pub returns-in-To : goal.returns-in-To
-returns-in-To c = legacy_to _ _ _ c.legacy_backref.ensures.0 c.legacy_backref.ensures.1 c.in-To.is
+returns-in-To c = λ tr sp l. legacy_to _ _ _ c.legacy_backref.ensures.0 c.legacy_backref.ensures.1 c.in-To.is
 
 pub returns-in-Cut : goal.returns-in-Cut
-returns-in-Cut c = legacy_cut _ _ _ c.legacy_backref.ensures.0 c.legacy_backref.ensures.1 c.in-Cut.is
+returns-in-Cut c = λ tr sp l. legacy_cut _ _ _ c.legacy_backref.ensures.0 c.legacy_backref.ensures.1 c.in-Cut.is
 
 pub returns-in-Unknown : goal.returns-in-Unknown
-returns-in-Unknown c = legacy_unknown _ _ _ c.legacy_backref.ensures.0 c.legacy_backref.ensures.1 c.in-Unknown.is
+returns-in-Unknown c = λ tr sp l. legacy_unknown _ _ _ c.legacy_backref.ensures.0 c.legacy_backref.ensures.1 c.in-Unknown.is

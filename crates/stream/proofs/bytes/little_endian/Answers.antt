@@ -1,6 +1,5 @@
 use native.Mathlib.Omega.{arith}
 use mathlib.Core.Path.{◌∙◌}
-use Prim.Native.Nat.{◌-◌}
 use Rattle.stream.proofs.ByteLaws.{le_zero, le_next, le_all}
 use Rattle.stream.proofs.bytes.little_endian.Goals as goal
 
