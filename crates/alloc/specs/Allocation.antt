@@ -1,7 +1,7 @@
 -- Allocation in legacy spaces (`LegacyAlloc`; V8's `DeserializerAllocator` up to 8.7). Assumes nothing: these are definitions.
 -- Here the Rust leaves V8: map and large-object spaces run through the counters too (D28), a space without counters leaves the
 -- alignment pending (D30), and chunk ends are not checked (D32); docs/DIFFERENCES.md.
-use Rattle.std.specs.Prelude.{◌≡◌, Bool, true, false, ◌||◌, List, [], ◌∷◌, ℕ, suc, ◌+◌, ◌^◌, ltb, leb, eqb, length, get_or, set, replicate}
+use Rattle.std.specs.Prelude.{◌≡◌, Bool, true, false, ◌||◌, List, [], ◌∷◌, ℕ, ◌+◌, ◌^◌, ltb, leb, eqb, get_or, set, replicate}
 use Rattle.tables.specs.Records.{room, written, address_row}
 use Rattle.alloc.specs.Fill.{pick_ℕ, max_fill_to_align, fill_to_align}
 use Rattle.alloc.specs.declared.legacy_alloc.LegacyAlloc.{LegacyAlloc}

@@ -99,7 +99,7 @@ pub fn allocate(
     want: Request,
 ) -> Placed
     requires { (want.space < 256) × (want.word ≤ 8) }
-    ensures { outcome result.number result.alignment (record { cur = cur.entry.now; used = used.new }) table.new ≡ allocate_of table.old n spaces want (record { cur = cur.entry.now; used = used.old }) }
+    ensures { outcome result.number result.alignment (record { cur = cur.now; used = used.new }) table.new ≡ allocate_of table.old n spaces want (record { cur = cur.now; used = used.old }) }
 {
     let i = want.space as usize;
     let free = counter(used, i);
@@ -113,7 +113,7 @@ pub fn allocate(
 // A chunk change: the space goes on at offset 0 of its next chunk. A space without counters stays.
 pub fn next_chunk(cur: &mut [u32; 256], used: &mut [u32; 256], spaces: u64, space: u64)
     requires { (space < 256) × (get_or cur.old space 0 < 2 ^ 32 - 1) }
-    ensures { (cur.exit.now ≡ (next_chunk (record { cur = cur.entry.now; used = used.old }) spaces space).cur) × (used.new ≡ (next_chunk (record { cur = cur.entry.now; used = used.old }) spaces space).used) }
+    ensures { (cur.new ≡ (next_chunk (record { cur = cur.old; used = used.old }) spaces space).cur) × (used.new ≡ (next_chunk (record { cur = cur.old; used = used.old }) spaces space).used) }
 {
     if spaces <= space {
         return;

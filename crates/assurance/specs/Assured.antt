@@ -1,28 +1,18 @@
--- What is assured of a payload that is accepted under a plain sheet (demand 3). The words are those of Words.antt. Assumes nothing.
+-- What is assured of a payload that is accepted under a plain sheet (demand 3). The words are those of Words.antt. Assumes nothing: these are
+-- definitions.
 use Rattle.std.specs.Prelude.{◌≡◌, ◌⊎◌, ◌≢◌, ℕ, ◌*◌, ◌/◌, ◌<◌, ◌≤◌, length, get_or}
-use Rattle.std.proofs.Common.{ap, arith}
 use Rattle.sheet.specs.Names.{k_synchronize}
 use Rattle.sheet.specs.Sheet.{number, word_bytes}
 use Rattle.tables.specs.declared.values.Fields.{Fields}
 use Rattle.tables.specs.Values.{triple}
 use Rattle.tables.specs.Records.{field}
-use Rattle.definition.specs.Memory.{Kept, in_map, in_slot, in_value, Event, opened, passed, item, value, Table, Mem}
-use Rattle.definition.specs.Call.{Rooms, Call, input_of, empty, events_of, told_of}
-use Rattle.assurance.specs.Words.{Accepted, events, Told, openings, place_of, words_of, RangesBelow, EndsAt, filled_of, items_in, EndToEnd, ItemOf, in_slots, in_values, LeftPending, FilledBy}
+use Rattle.definition.specs.Memory.{Kept, in_map, in_slot, in_value, opened, passed, item, value, Table}
+use Rattle.definition.specs.Call.{Rooms, Call, input_of, empty}
+use Rattle.assurance.specs.Words.{events, Told, openings, place_of, words_of, RangesBelow, EndsAt, filled_of, items_in, EndToEnd, ItemOf, in_slots, in_values, LeftPending, FilledBy}
 use Rattle.assurance.specs.Records.{SlotHas, ValueHas, SlotAt, slots_of, ZeroRest}
-use Rattle.assurance.specs.On.{all_told}
 use Rattle.assurance.specs.Steps.{OpensAt}
-use Rattle.assurance.specs.Listed.{listed}
-use Rattle.assurance.specs.Standing.{Right}
-use Rattle.assurance.specs.Referred.{referred}
-use Rattle.assurance.specs.Pending.{either}
-use Rattle.assurance.specs.Ranges.{ranges}
-use Rattle.assurance.specs.Raws.{IsRange, raw_ranged}
-use Rattle.assurance.specs.Filled.{items_fill}
-use Rattle.assurance.specs.Placed.{slots_placed}
-use Rattle.assurance.specs.Widths.{item_of}
-use Rattle.assurance.specs.Kept.{KeptInSlot, KeptInValue, kept_once, slot_value, value_value}
-use Rattle.assurance.specs.Clean.{clean}
+use Rattle.assurance.specs.Raws.{IsRange}
+use Rattle.assurance.specs.Kept.{KeptInSlot, KeptInValue}
 
 -- of the call c, with these tables as it leaves them and the cursor at the finish
 pub record Assured (c : Call) (rooms : Rooms) (objects slots values addresses : Table) (end : ℕ) : Type 0 where
@@ -72,58 +62,3 @@ pub record Assured (c : Call) (rooms : Rooms) (objects slots values addresses : 
   pub slots_rest_zero : ZeroRest 6 slots
   pub values_rest_zero : ZeroRest 3 values
   pub no_addresses : addresses ≡ empty rooms.addresses
-
--- a pending value is its number alone
-pending_fields : (v : Fields) → v.kind ≡ 13 → v.b ≡ 0 → v ≡ triple 13 v.a 0
-pending_fields v k b = λ i. record { kind = k i; a = v.a; b = b i }
-
--- THE THEOREM
-pub assured : (c : Call) (rooms : Rooms) (m : Mem) → Accepted c rooms m → Assured c rooms m.objects m.slots m.values m.addresses m.at
-assured c rooms m a =
-    let e : events c rooms ≡ told_of m.log = ap events_of a.accepted in
-    let l = listed c rooms m a in
-    let s = referred c rooms m a in
-    let right : (x : Event) → Told (told_of m.log) x → Right m.objects.count m.slots m.values x = λ x t. all_told (Right m.objects.count m.slots m.values) (told_of m.log) x s.right t in
-    let r = ranges c rooms m a in
-    let f = items_fill c rooms m a in
-    let p = slots_placed c rooms m a in
-    let k = kept_once c rooms m a in
-    let z = clean c rooms m a in
-    record {
-      opened_at_heads = rw e l.heads;
-      listed_as_opened = rw e l.counted;
-      listed_place = rw e l.places;
-      listed_size = rw e l.sizes;
-      referred_is_listed = rw e (λ v t i. (right (value v t) i).0.object);
-      repeat_holds_value = rw e (λ v t i. (right (value v t) i).0.repeat);
-      weak_holds_value = rw e (λ v t i. (right (value v t) i).0.weak);
-      map_stands = rw e (λ v n i. (right (value v (in_map n)) i).1);
-      slot_stands = rw e (λ v n i. (right (value v (in_slot n)) i).1);
-      value_stands = rw e (λ v n i. (right (value v (in_value n)) i).1);
-      pending_left_or_filled = rw e (λ v n i q. either (told_of m.log) n v.a (rw (pending_fields v q ((right (value v (in_slot n)) i).0.pending q)) at i));
-      left_stands = rw e s.left;
-      filled_stands = rw e s.resolved;
-      final = r.final;
-      final_inside = r.inside;
-      final_byte = r.is_final;
-      final_ends_closing = rw e r.told_last;
-      end_after_final = r.before_end;
-      end_inside = r.end_inside;
-      raw_is_range = rw e (raw_ranged c rooms m a);
-      ranges_in_order = rw e r.ranges;
-      items_end_to_end = rw e f.laid;
-      items_fill_object = rw e f.full;
-      index_below_words = rw e f.index;
-      item_of_value = rw e (item_of c rooms m a);
-      item_has_record = rw e p.seat;
-      record_has_item = rw e p.one_item;
-      slot_counts = p.slot_counts;
-      slot_keeps_one = rw e (λ n g. (k.0.one n g, slot_value (told_of m.log) n (omega (arith, k.0.one n g))));
-      no_slot_beyond = rw e k.0.none;
-      value_keeps_one = rw e (λ n g. (k.1.one n g, value_value (told_of m.log) n (omega (arith, k.1.one n g))));
-      no_value_beyond = rw e k.1.none;
-      objects_rest_zero = z.objects_rest;
-      slots_rest_zero = z.slots_rest;
-      values_rest_zero = z.values_rest;
-      no_addresses = z.no_addresses;
-    }

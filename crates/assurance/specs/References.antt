@@ -10,7 +10,6 @@ use Rattle.stream.specs.declared.bytes.Range.TheVariants.{To as RangeTo, Past}
 use Rattle.stream.specs.Bytes.{raw_at}
 use Rattle.stream.proofs.ByteLaws.{Bytes}
 use Rattle.sheet.specs.Sheet.{raw_advances}
-use Rattle.heads.specs.Kinds.{hot}
 use Rattle.heads.specs.Heads.{head, head_of}
 use Rattle.sheet.specs.Tests.{opens}
 use Rattle.tables.specs.declared.values.Ref.{Ref}

@@ -1,6 +1,5 @@
 -- A call that is refused gets one of document 01's numbers, 1 to 16. Assumes nothing.
 use Rattle.std.specs.Prelude.{◌≡◌, refl, Bool, true, false, not, ◌&&◌, ◌||◌, ltb, leb, List, length, get_or, set}
-use Rattle.std.proofs.Common.{sym, subst, ◌∙◌}
 use Prim.Native.Nat.{ℕ, zero, suc, ◌+◌, ◌-◌, ◌*◌, ◌/◌, ◌<◌, ◌≤◌}
 use native.Mathlib.Omega.{arith}
 use borrow.Author.Tests.{eqb-true, eqb-false}
@@ -11,7 +10,7 @@ use Rattle.stream.specs.Bytes.{peek_at, raw_at}
 use Rattle.stream.specs.declared.putint.Int.{Int}
 use Rattle.stream.specs.declared.putint.Int.TheVariants.{Is as IntIs, Cut as IntCut}
 use Rattle.stream.specs.PutInt.{int_at}
-use Rattle.sheet.specs.Sheet.{usable, is_legacy, is_six_x, is_map_first, lo_space, raw_advances}
+use Rattle.sheet.specs.Sheet.{usable, is_legacy, is_six_x, is_map_first, lo_space}
 use Rattle.heads.specs.Kinds.{new_object, backref, legacy_backref, legacy_backref_with_skip, next_chunk, alignment, hot, hot_with_skip, root_array, root_constant, root_constant_with_skip, read_only, attached, builtin, external, api, internal, deoptimizer, stream_bytes, embedder_fields, off_heap_target, cache, register_pending, cleared_weak, weak_prefix, pointer_prefix, dispatch_entry, fixed_raw, variable_raw, skip, fixed_repeat, fixed_repeat_root, repeat_previous, variable_repeat, variable_repeat_previous, variable_repeat_root, meta_map}
 use Rattle.heads.specs.Heads.{head_of}
 use Rattle.sheet.specs.declared.tests.Closing.{Closing}
@@ -33,12 +32,12 @@ use Rattle.backref.specs.HotRing.{hot_at}
 use Rattle.backref.specs.declared.legacy.Backref.{Backref}
 use Rattle.backref.specs.declared.legacy.Backref.TheVariants.{To, Cut, Unknown}
 use Rattle.backref.specs.Legacy.{backref_of}
-use Rattle.definition.specs.Memory.{Input, word, Kept, in_map, in_slot, item, Table, Mem, Out, got, no, Reader, and_then, ◌>>=◌, ◌>>◌, choose, give, change, refuse_at, moved, with_skip, aligned, tell, after_int, byte, int, has_room}
+use Rattle.definition.specs.Memory.{Input, word, Kept, in_map, in_slot, item, Mem, Out, got, no, Reader, and_then, ◌>>=◌, ◌>>◌, choose, give, change, refuse_at, moved, with_skip, aligned, tell, after_int, byte, int, has_room}
 use Rattle.definition.specs.Slots.{add_value, add_slot, resolved, waits_of, keep_item, previous, place_item}
-use Rattle.definition.specs.Object.{peek, add_object, large_byte, change_chunk, after_allocation, allocate, alignment_byte, chunk_changes, map_first, map_then_allocate, read_map, flags, flag_object, keep_map, resolves, items, closed, body, object}
-use Rattle.definition.specs.Reference.{skip_amount, backref_to, of_hot, hot_place, of_backref, legacy_reference, pending_reference, after_raw, raw_data, weak_of, repeat_of, repeat_root, by_head, reference, ref_at}
+use Rattle.definition.specs.Object.{peek, add_object, large_byte, change_chunk, allocate, alignment_byte, chunk_changes, map_first, read_map, flags, flag_object, keep_map, resolves, items, body, object}
+use Rattle.definition.specs.Reference.{skip_amount, backref_to, of_hot, hot_place, of_backref, legacy_reference, pending_reference, after_raw, raw_data, repeat_of, repeat_root, by_head, reference, ref_at}
 use Rattle.definition.specs.Closing.{entry, drop_reference, ends_legacy, after_entry, by_entry, entries, padding, closing}
-use Rattle.definition.specs.Call.{Rooms, Call, input_of, top_space, walk, too_long, called, graph}
+use Rattle.definition.specs.Call.{Call, input_of, top_space, walk, too_long, called}
 use Rattle.laws.specs.Leaves.{deferred_legacy}
 
 -- of what a reader gives: a refusal's number is one of them

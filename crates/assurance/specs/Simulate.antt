@@ -13,7 +13,7 @@ use Rattle.stream.specs.PutInt.{int_at}
 use Rattle.stream.specs.Bytes.{peek_at}
 use Rattle.sheet.specs.Sheet.{is_legacy}
 use Rattle.tables.specs.Records.{field}
-use Rattle.definition.specs.Memory.{Input, Event, value, synchronize, Log, note, Table, table, Mem, Out, got, no, Reader, and_then, ◌>>=◌, ◌>>◌, choose, give, change, refuse, refuse_at, moved, noted, tell, cut, byte, after_int, int}
+use Rattle.definition.specs.Memory.{Input, Event, synchronize, Log, note, Table, table, Mem, Out, got, no, Reader, and_then, ◌>>=◌, ◌>>◌, choose, give, change, refuse, refuse_at, moved, noted, tell, cut, byte, after_int, int}
 use Rattle.definition.specs.Object.{peek}
 use Rattle.definition.specs.Closing.{ends_legacy}
 use Rattle.definition.specs.Call.{Rooms}

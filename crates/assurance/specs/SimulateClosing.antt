@@ -22,7 +22,7 @@ use Rattle.definition.specs.Reference.{ref_at}
 use Rattle.definition.specs.Closing.{entry_fields, add_slots, entry_slots, entry_count, entry_item, entry_items, entry_body, entry_of, entry, drop_reference, ends_legacy, after_entry, by_entry, entries, padding, closing}
 use Rattle.definition.specs.Call.{top_space, walk}
 use Rattle.assurance.specs.Wider.{wide_get}
-use Rattle.assurance.specs.Simulate.{wider, Pair, x', φ, Recorded, Fits, fit_moved, fit_noted, Follows, Alike, Any, gives, via, choose_at, then_at, then_law, seq_law, lower_at, choose_law, give_law, refuse_law, refuse_at_law, change_law, tell_law, byte_law, int_law, peek_same}
+use Rattle.assurance.specs.Simulate.{over, wider, Pair, x', φ, Recorded, Fits, fit_moved, fit_noted, Follows, Alike, Any, gives, via, choose_at, then_at, then_law, seq_law, lower_at, choose_law, give_law, refuse_law, refuse_at_law, change_law, tell_law, byte_law, int_law, peek_same}
 use Rattle.assurance.specs.SimulateSteps.{add_slot_law}
 use Rattle.assurance.specs.SimulateLegacy.{legacy_reference_law}
 use Rattle.assurance.specs.SimulateReaders.{legacy-ends, object_law, ref_at_law}
@@ -191,10 +191,10 @@ module _ (S : Pair) where
       out true e l =
           let compared : S.Compared 4 = S.legacy_compared 4 (legacy-ends S.x 4 e refl) in
           let shared : S.Shared m.at = S.compared_shared 4 compared m.at in
-          let same : S.p' ≡ S.x.payload = S.Compared-same 4 compared in
+          let same : S.p' ≡ S.x.payload = S.compared_same 4 compared in
           record { seen = (fit, λ v. (shared, entries_out (x' S) n' (n' - 1) (φ S m) (S.fuel_more 1 m.at n n' shared fuel) (rw same l) ∙ rw e), S.stop_legacy e m) }
       out false e l =
-          record { seen = (fit, λ v. let same : S.p' ≡ S.x.payload = S.Compared-same 13 v in entries_out (x' S) n' (n' - 1) (φ S m) (S.fuel_more 1 m.at n n' (S.compared_shared 13 v m.at) fuel) (rw same l) ∙ rw (e, same)) }
+          record { seen = (fit, λ v. let same : S.p' ≡ S.x.payload = S.compared_same 13 v in entries_out (x' S) n' (n' - 1) (φ S m) (S.fuel_more 1 m.at n n' (S.compared_shared 13 v m.at) fuel) (rw same l) ∙ rw (e, same)) }
 
       turn : (t : Bool) → leb (length S.x.payload) m.at ≡ t → ((m₁ : Mem) → Fits S m₁ → m.at < m₁.at → Ends S m₁ (entries S.x n m₁) (entries (x' S) (n' - 1) (φ S m₁))) → Ends S m (choose t (choose (is_legacy S.x.sheet) (give tt) (refuse_at 13 (length S.x.payload))) (by_entry S.x (entries S.x n) (closing_of S.x.sheet (peek S.x m))) m) (entries (x' S) n' (φ S m))
       turn true e g = out (is_legacy S.x.sheet) refl (leb-true _ _ e)
@@ -222,7 +222,7 @@ module _ (S : Pair) where
     unfolding padding
     padding-law zero m fit = (give_law S {P = Any} tt tt).at_law m fit
     padding-law (suc n) m fit =
-        via S (λ v. rw same)
+        via S (λ v. ap (λ p. choose (leb (length p) m.at) (give tt) (choose (is_nop S.x.sheet (peek (over S.x p) m)) (byte (x' S) >> padding (x' S) n) (choose (is_legacy S.x.sheet) (give tt) (refuse 14))) (φ S m)) same)
         (choose_at S (leb (length S.x.payload) m.at) _ _ (give tt) (choose (is_nop S.x.sheet (peek S.x m)) (byte (x' S) >> padding (x' S) n) (choose (is_legacy S.x.sheet) (give tt) (refuse 14)))
         (λ _. (give_law S {P = Any} tt tt).at_law m fit)
         (λ _. choose_at S (is_nop S.x.sheet (peek S.x m)) _ _ (byte (x' S) >> padding (x' S) n) (choose (is_legacy S.x.sheet) (give tt) (refuse 14))

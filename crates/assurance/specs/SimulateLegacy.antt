@@ -99,7 +99,7 @@ module _ (S : Pair) where
     where
       go : (i : Int) → int_at S.x.payload a ≡ i → Finds a (with_int i a f) (with_int (int_at S.p' a) a f')
       go (Is v n) e = finds_on a (a + n) (f v (a + n)) (f' v (a + n)) (with_int (int_at S.p' a) a f') (omega arith) (λ l. rw (S.on_int a v n l e)) (g v (a + n) (S.in_int a v n e))
-      go CutInt e = λ v. rw (S.Compared-same 4 v, e)
+      go CutInt e = λ v. rw (S.compared_same 4 v, e)
 
   by_place_finds : (f : Found) (place : Place) (next : ℕ) → S.In next → RecordedFound S f → Finds next (by_place f place next) (by_place f place next)
   by_place_finds (Object o) place next i recorded = (λ e. recorded, omega arith, λ v. refl, i)
@@ -139,7 +139,7 @@ module _ (S : Pair) where
     where
       go : (m : Mem) → Fits S m → (b b' : Backref) → Finds m.at b b' → Follows S 0 (RecordedValue S) m (of_backref S.x b m) (of_backref (x' S) b' (φ S m))
       go m fit (To r next) b' f = gives S (fit_moved f.3 fit) f.0 (omega (arith, f.1)) (λ v. rw (f.2 v))
-      go m fit Cut b' f = stops S (fit_moved (S.in_payload _ (omega arith)) fit) (λ v. rw (f v, S.Compared-same 4 v))
+      go m fit Cut b' f = stops S (fit_moved (S.in_payload _ (omega arith)) fit) (λ v. rw (f v, S.compared_same 4 v))
       go m fit (Unknown next) b' f = stops S (fit_moved f.1 fit) (λ v. rw (f.0 v))
 
 -- ---- allocation

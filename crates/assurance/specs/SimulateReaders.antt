@@ -118,13 +118,13 @@ module _ (S : Pair) where
   -- legacy sheets with a map that comes first: there both payloads are the same
   module _ (legacy : is_legacy S.x.sheet ≡ true) where
     same : S.p' ≡ S.x.payload
-    same = S.Compared-same 4 (S.legacy_compared 4 (legacy-ends S.x 4 legacy refl))
+    same = S.compared_same 4 (S.legacy_compared 4 (legacy-ends S.x 4 legacy refl))
 
     chunk_changes-law : (space n : ℕ) (m : Mem) → Fits S m → Follows S 0 Any m (chunk_changes S.x space n m) (chunk_changes (x' S) space n (φ S m))
     unfolding chunk_changes
     chunk_changes-law space zero m fit = (give_law S {P = Any} tt tt).at_law m fit
     chunk_changes-law space (suc n) m fit =
-        via S (λ v. rw same)
+        via S (λ v. ap (λ p. choose (is_next_chunk S.x.sheet (peek (over S.x p) m) && eqb (peek_at p (m.at + 1)) space) (change (λ m. change_chunk (x' S) space (moved (m.at + 2) m)) >> chunk_changes (x' S) space n) (give tt) (φ S m)) same)
         (choose_at S (is_next_chunk S.x.sheet (peek S.x m) && eqb (peek_at S.x.payload (m.at + 1)) space) _ _ (change (λ m. change_chunk (x' S) space (moved (m.at + 2) m)) >> chunk_changes (x' S) space n) (give tt)
         (λ _. then_at S _ (λ _. chunk_changes (x' S) space n) ((change_law S (λ m. change_chunk S.x space (moved (m.at + 2) m)) (λ m. change_chunk (x' S) space (moved (m.at + 2) m)) (λ m fit. fit_moved (S.in_legacy legacy (m.at + 2)) fit) (λ m. omega arith) (λ m fit. refl)).at_law m fit) (λ a m₁ fit₁ _ up. chunk_changes-law space n m₁ fit₁))
         (λ _. (give_law S {P = Any} tt tt).at_law m fit))

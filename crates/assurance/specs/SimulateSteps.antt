@@ -155,6 +155,6 @@ module _ (S : Pair) where
   raw_data_law n advances = record { at_law = (λ m fit. go m fit (ltb (length S.x.payload) (m.at + n)) refl) }
     where
       go : (m : Mem) → Fits S m → (b : Bool) → ltb (length S.x.payload) (m.at + n) ≡ b → Follows S 0 Any m (after_raw n advances (pick_range b Past (To (m.at + n))) m) (raw_data (x' S) n advances (φ S m))
-      go m fit true e = stops S fit (λ v. rw (S.Compared-same 7 v, e))
+      go m fit true e = stops S fit (λ v. rw (S.compared_same 7 v, e))
       go m fit false e =
           gives S (fit_noted (passed m.at n) (fit_moved (S.in_payload (m.at + n) (ltb-false _ _ e)) fit)) tt (omega arith) (λ v. rw (le-ltb (length S.p') (m.at + n) (S.on_raw (m.at + n) v (ltb-false _ _ e)), S.on_note (passed m.at n) m.log))

@@ -20,7 +20,7 @@ use Rattle.laws.specs.Waiting.{waits_start}
 use Rattle.laws.specs.Addresses.{start_ascending}
 use Rattle.assurance.specs.Quiet.{answer_quiet, table_quiet}
 use Rattle.assurance.specs.Refusals.{Known, refusal_known}
-use Rattle.assurance.specs.Guarantee.{guaranteed}
+use Rattle.assurance.proofs.Guarantee.{guaranteed}
 use Rattle.readers.specs.declared.state.State.{State}
 use Rattle.readers.specs.declared.state.Went.{Went}
 use Rattle.readers.specs.declared.state.Went.TheVariants.{On, Refused}

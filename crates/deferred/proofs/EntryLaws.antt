@@ -23,7 +23,7 @@ use Rattle.laws.specs.Steps.{Good, Ends, gives, refuses, either, by, then₁, th
 use Rattle.laws.specs.Keeps.{Any, Passed, sheet_gives, word_low, byte_keeps, int_keeps}
 use Rattle.laws.specs.References.{legacy_reference_keeps}
 use Rattle.laws.specs.ClosingKeeps.{Slots, entry_item-ends}
-use Rattle.laws.specs.Fuel.{entry_items_fuel}
+use Rattle.laws.proofs.Fuel.{entry_items_fuel}
 use Rattle.readers.proofs.ViewLaws.{then_got, then_no}
 use Rattle.readers.specs.declared.state.State.{State}
 use Rattle.readers.specs.declared.state.Went.{Went as Answer}

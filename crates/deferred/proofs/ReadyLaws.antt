@@ -8,7 +8,8 @@ use Rattle.definition.specs.Memory.{Input, Mem, Out, got}
 use Rattle.laws.specs.Sound.{Holds}
 use Rattle.laws.specs.Rules.{Frame, Rules}
 use Rattle.laws.specs.Steps.{Good, Ends}
-use Rattle.laws.specs.Theorems.{Nothing, NoValue, rules, holds, begin}
+use Rattle.laws.specs.Rules.{Nothing, NoValue}
+use Rattle.laws.proofs.Theorems.{rules, holds, begin}
 use Rattle.laws.specs.Addresses.{Seated, seated_rules, stays, from}
 use Rattle.laws.specs.Numbered.{Numbered, FreshValue, Numbers, Ordered, numbered-rules, orders, good}
 use Rattle.walker.specs.Ready.{Ready}

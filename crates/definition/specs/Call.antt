@@ -1,5 +1,5 @@
 -- A whole call: its checks, the walk of the payload, and what it leaves in the tables. Assumes nothing: these are definitions.
-use Rattle.std.specs.Prelude.{Bool, true, false, ◌||◌, List, [], ℕ, ◌-◌, ◌^◌, ltb, leb, length, replicate}
+use Rattle.std.specs.Prelude.{Bool, ◌||◌, List, [], ℕ, ◌-◌, ltb, length, replicate}
 use Rattle.sheet.specs.Names.{k_new_object}
 use Rattle.sheet.specs.Sheet.{pick_ℕ, number, is_legacy, usable}
 use Rattle.sheet.specs.Tests.{opens}

@@ -1,17 +1,15 @@
 -- The closing section, with legacy deferred entries, and the padding after it. Assumes nothing: these are definitions.
-use Rattle.std.specs.Prelude.{Bool, true, false, not, ◌&&◌, ◌||◌, List, ℕ, zero, suc, ◌+◌, ◌-◌, ◌/◌, max, ltb, leb, eqb, length}
+use Rattle.std.specs.Prelude.{Bool, true, false, not, ◌&&◌, ◌||◌, ℕ, zero, suc, ◌+◌, ◌-◌, ◌/◌, max, leb, eqb, length}
 use Rattle.sheet.specs.Sheet.{is_legacy}
 use Rattle.sheet.specs.declared.tests.Closing.{Closing}
 use Rattle.sheet.specs.declared.tests.Closing.TheVariants.{Synchronize, Alignment, Deferred, Reference}
 use Rattle.sheet.specs.Tests.{closing_of, is_nop}
-use Rattle.tables.specs.declared.values.Ref.{Ref}
-use Rattle.tables.specs.declared.values.Ref.TheVariants.{Object, Root, RoRef, Attached}
 use Rattle.tables.specs.declared.values.SlotValue.{SlotValue}
 use Rattle.tables.specs.declared.values.SlotValue.TheVariants.{Ref as IsRef, Repeat, RepeatPrev, Skip, StreamBytes, Raw, ClearedWeak, WeakRef, PendingRef}
 use Rattle.tables.specs.declared.values.Fields.{Fields}
 use Rattle.tables.specs.Values.{pick_ℕ, triple, fields_of, width_of}
 use Rattle.tables.specs.Records.{field}
-use Rattle.definition.specs.Memory.{Input, word, in_slot, dropped, value, synchronize, Table, Mem, Out, got, no, Reader, ◌>>=◌, ◌>>◌, choose, give, change, refuse, refuse_at, moved, aligned, tell, byte, int}
+use Rattle.definition.specs.Memory.{Input, word, in_slot, dropped, value, synchronize, Table, Out, got, no, Reader, ◌>>=◌, ◌>>◌, choose, give, change, refuse, refuse_at, aligned, tell, byte, int}
 use Rattle.definition.specs.Slots.{add_slot}
 use Rattle.definition.specs.Object.{peek}
 use Rattle.definition.specs.Reference.{legacy_reference, ref_at}

@@ -1,7 +1,7 @@
 -- An object: its head, map, resolves and items. Assumes nothing: these are definitions.
 -- Where the Rust leaves V8 here: an object is numbered before its map is read (D1, D2, D3), its map is any value and one word (D4), resolves
 -- stand directly after the map (D5, D7), kNop is no item (D6), kDeferred may stand before any item (D34); docs/DIFFERENCES.md.
-use Rattle.std.specs.Prelude.{Bool, true, false, not, ◌&&◌, List, ℕ, zero, suc, ◌+◌, ◌-◌, ◌*◌, leb, eqb, length, get_or, set}
+use Rattle.std.specs.Prelude.{Bool, false, not, ◌&&◌, ℕ, zero, suc, ◌+◌, ◌-◌, ◌*◌, leb, eqb, length, get_or, set}
 use Rattle.stream.specs.Bytes.{peek_at}
 use Rattle.sheet.specs.Sheet.{is_legacy, is_six_x, is_map_first, lo_space}
 use Rattle.sheet.specs.Tests.{is_resolve, is_deferred, is_next_chunk, alignment_of}
@@ -12,7 +12,7 @@ use Rattle.tables.specs.declared.values.SlotValue.TheVariants.{Ref as IsRef, Rep
 use Rattle.tables.specs.Values.{fields_of}
 use Rattle.tables.specs.Records.{object_row}
 use Rattle.alloc.specs.Allocation.{Outcome, allocate_of, next_chunk}
-use Rattle.definition.specs.Memory.{Input, word, in_map, opened, item, Table, table, Mem, Out, got, Reader, ◌>>=◌, ◌>>◌, choose, give, change, refuse, refuse_at, moved, with_objects, with_alloc, aligned, noted, tell, byte, int, added, append}
+use Rattle.definition.specs.Memory.{Input, word, in_map, opened, item, Table, table, Mem, Reader, ◌>>=◌, ◌>>◌, choose, give, change, refuse, refuse_at, moved, with_objects, with_alloc, aligned, noted, tell, byte, int, added, append}
 use Rattle.definition.specs.Slots.{add_slot, resolved, place_item}
 
 -- the byte at the cursor; 256 where none is left

@@ -1,12 +1,12 @@
 -- A reference: what its head byte says, in the order of the Rust's `parse_ref_inner` (specs/Heads.antt of the crate sheet). Assumes nothing:
 -- these are definitions.
-use Rattle.std.specs.Prelude.{Bool, true, false, List, ℕ, zero, suc, ◌+◌, ◌*◌, ◌^◌, ◌-◌, max, ltb, leb, eqb, length}
+use Rattle.std.specs.Prelude.{Bool, true, ℕ, zero, suc, ◌+◌, ◌*◌, ◌^◌, ◌-◌, max, ltb, eqb}
 use Rattle.stream.specs.declared.bytes.Range.{Range}
 use Rattle.stream.specs.declared.bytes.Range.TheVariants.{To as RangeTo, Past}
 use Rattle.stream.specs.Bytes.{raw_at}
 use Rattle.sheet.specs.Sheet.{pick_ℕ, is_legacy, raw_advances}
 use Rattle.heads.specs.Kinds.{new_object, backref, legacy_backref, legacy_backref_with_skip, next_chunk, alignment, hot, hot_with_skip, root_array, root_constant, root_constant_with_skip, read_only, attached, builtin, external, api, internal, deoptimizer, stream_bytes, embedder_fields, off_heap_target, cache, register_pending, cleared_weak, weak_prefix, pointer_prefix, dispatch_entry, fixed_raw, variable_raw, skip, fixed_repeat, fixed_repeat_root, repeat_previous, variable_repeat, variable_repeat_previous, variable_repeat_root, meta_map}
-use Rattle.heads.specs.Heads.{Head, head_of}
+use Rattle.heads.specs.Heads.{head_of}
 use Rattle.tables.specs.declared.values.Ref.{Ref}
 use Rattle.tables.specs.declared.values.Ref.TheVariants.{Object, Root, RoRef, Attached}
 use Rattle.tables.specs.declared.values.SlotValue.{SlotValue}
@@ -18,7 +18,7 @@ use Rattle.backref.specs.HotRing.{entered, hot_at}
 use Rattle.backref.specs.declared.legacy.Backref.{Backref}
 use Rattle.backref.specs.declared.legacy.Backref.TheVariants.{To, Cut, Unknown}
 use Rattle.backref.specs.Legacy.{backref_of}
-use Rattle.definition.specs.Memory.{Input, word, passed, Mem, Out, got, no, Reader, ◌>>=◌, ◌>>◌, choose, give, change, refuse, refuse_at, moved, with_hot, with_pending, with_skip, aligned, noted, here, cut, byte, int}
+use Rattle.definition.specs.Memory.{Input, word, passed, got, Reader, ◌>>=◌, ◌>>◌, choose, give, change, refuse, refuse_at, moved, with_hot, with_pending, with_skip, aligned, noted, here, cut, byte, int}
 use Rattle.definition.specs.Slots.{add_value}
 use Rattle.definition.specs.Object.{change_chunk, object}
 

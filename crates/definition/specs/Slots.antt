@@ -1,11 +1,11 @@
 -- Slots, values and pending forward references. Assumes nothing: these are definitions.
-use Rattle.std.specs.Prelude.{Bool, true, false, ◌&&◌, List, ℕ, zero, suc, ◌+◌, ◌-◌, ◌*◌, ◌/◌, eqb, set}
+use Rattle.std.specs.Prelude.{Bool, ◌&&◌, List, ℕ, zero, suc, ◌+◌, ◌-◌, ◌*◌, ◌/◌, eqb, set}
 use Rattle.tables.specs.declared.values.SlotValue.{SlotValue}
 use Rattle.tables.specs.declared.values.SlotValue.TheVariants.{Ref, Repeat, RepeatPrev, Skip, StreamBytes, Raw, ClearedWeak, WeakRef, PendingRef}
 use Rattle.tables.specs.declared.values.Fields.{Fields}
 use Rattle.tables.specs.Values.{pick_ℕ, triple, fields_of, width_of}
 use Rattle.tables.specs.Records.{field, slot_row, value_row, filled}
-use Rattle.definition.specs.Memory.{Input, word, Kept, in_map, in_slot, in_value, Event, item, value, resolve, Table, table, Mem, Out, Reader, ◌>>=◌, ◌>>◌, give, change, with_objects, with_slots, with_values, with_pending, with_skip, noted, tell, added, append}
+use Rattle.definition.specs.Memory.{Input, word, Kept, in_slot, in_value, item, value, resolve, Table, table, Mem, Reader, ◌>>=◌, ◌>>◌, give, change, with_objects, with_slots, with_values, with_pending, with_skip, noted, tell, added, append}
 
 -- ---- records
 

@@ -23,7 +23,7 @@ use Rattle.laws.specs.Steps.{Ends, onward_trans}
 use Rattle.laws.specs.Keeps.{Reads}
 use Rattle.laws.specs.Leaves.{deferred_legacy}
 use Rattle.laws.specs.ClosingKeeps.{entry-ends, drop_reference_ends}
-use Rattle.laws.specs.Fuel.{entries_fuel}
+use Rattle.laws.proofs.Fuel.{entries_fuel}
 use Rattle.readers.specs.declared.state.State.{State}
 use Rattle.readers.specs.Views.{Lent, mem}
 use Rattle.readers.proofs.ViewLaws.{then_got, then_no}

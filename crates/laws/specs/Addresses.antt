@@ -1,13 +1,13 @@
 -- THE THEOREM on legacy addresses: in every reading the addresses of a space do not fall, in the order of allocating. They are at most the
 -- space's counters, since a filler is no longer than what the next free offset moves by: with words of 8 bytes offsets are multiples of 8,
 -- and there is none. Assumes nothing.
-use Rattle.std.specs.Prelude.{◌≡◌, ◌≢◌, ◌⊎◌, Bool, ◌&&◌, ◌||◌, List, [], ◌∷◌, ℕ, zero, suc, ◌+◌, ◌-◌, ◌*◌, ◌%◌, ◌<◌, ◌≤◌, leb, length, get_or, set}
+use Rattle.std.specs.Prelude.{◌≡◌, ◌⊎◌, Bool, ◌&&◌, ◌||◌, List, [], ◌∷◌, ℕ, zero, suc, ◌+◌, ◌-◌, ◌%◌, ◌<◌, ◌≤◌, leb, length, get_or, set}
 use Rattle.std.proofs.Math.Path.{refl}
-use Rattle.std.proofs.Common.{sym, ap, subst, ◌∙◌, inl, inr, ⊎_elim, length-set, get_or-set_same, get_or-set_other}
+use Rattle.std.proofs.Common.{sym, ap, subst, ◌∙◌, inl, inr, length-set, get_or-set_same, get_or-set_other}
 use Rattle.std.proofs.Math.Bool.{true, false, not}
 use Rattle.std.proofs.Math.Nat.{zero-mod, mul-mod_left}
 use native.Mathlib.Omega.{arith}
-use borrow.Author.Tests.{leb-true, leb-false, ltb-true, ltb-false, le-leb, lt-leb, eqb-true, eqb-false, eq-eqb, ne_eqb}
+use borrow.Author.Tests.{leb-true, leb-false, ltb-true, ltb-false, le-leb, lt-leb, eqb-true, eqb-false}
 use Rattle.std.proofs.Math.Dec.{ltb, eqb}
 use Rattle.std.proofs.Math.Seq.{set_out}
 use Rattle.tables.specs.Records.{room, field, address_row, written}
@@ -15,13 +15,13 @@ use Rattle.tables.proofs.RecordLaws.{written_same, written_else}
 use Rattle.alloc.specs.Fill.{pick_ℕ, max_fill_to_align, fill_to_align}
 use Rattle.alloc.specs.declared.legacy_alloc.LegacyAlloc.{LegacyAlloc}
 use Rattle.alloc.specs.declared.legacy_alloc.Request.{Request}
-use Rattle.alloc.specs.Allocation.{pick_alloc, next_chunk, advance_of, Outcome, outcome, pick_outcome, placed, allocate_of}
+use Rattle.alloc.specs.Allocation.{pick_alloc, next_chunk, advance_of, Outcome, allocate_of}
 use Rattle.address_index.specs.Links.{space_of}
 use Rattle.address_index.specs.Sorted.{AtMost, Sorted}
 use Rattle.address_index.proofs.FindLaws.{space_field}
 use Rattle.definition.specs.Memory.{Input, word, resolve, Log, Table, table, Mem, Out, got, no, noted}
 use Rattle.definition.specs.Slots.{waiter, fill_waiter, resolved}
-use Rattle.definition.specs.Object.{change_chunk, read_map, object}
+use Rattle.definition.specs.Object.{read_map, object}
 use Rattle.definition.specs.Reference.{ref_at}
 use Rattle.definition.specs.Call.{Rooms, start, walk}
 use Rattle.laws.specs.Leaves.{pick_outcome_case}
@@ -31,7 +31,7 @@ use Rattle.laws.specs.Steps.{Good, Result, Ends}
 use Rattle.laws.specs.Keeps.{sheet_gives, map_ends, object-keeping}
 use Rattle.laws.specs.References.{ref_keeping}
 use Rattle.laws.specs.ClosingKeeps.{zero_at, walk_ends}
-use Rattle.laws.specs.Theorems.{NoValue}
+use Rattle.laws.specs.Rules.{NoValue}
 
 -- ---- what an allocation leaves
 

@@ -6,7 +6,5 @@ pub mod Steps
 pub mod Keeps
 pub mod References
 pub mod ClosingKeeps
-pub mod Theorems
 pub mod Numbered
-pub mod Fuel
 pub mod Addresses

@@ -169,3 +169,10 @@ pub record Rules (x : Input) (I : List Frame → Mem → Type 0) (W : Mem → Sl
   pub on_synchronize : (m : Mem) → I [] m → m.at < length x.payload → closing_of x.sheet (peek x m) ≡ Synchronize → I [] (noted (synchronize m.at) m)
   pub on_entry : (m : Mem) (o index : ℕ) (f : Fields) → Sound x m → is_legacy x.sheet ≡ true → I [] m → m.slots.count < room 6 m.slots.rows → I [] (with_slot o index f 0 in_slot m)
   pub on_fault : (S : List Frame) (m : Mem) → is_legacy x.sheet ≡ true → I S m → I [] m
+
+-- the invariant that says nothing
+abbrev pub Nothing : List Frame → Mem → Type 0
+Nothing S m = Unit {0}
+
+abbrev pub NoValue : Mem → SlotValue → Type 0
+NoValue m v = Unit {0}

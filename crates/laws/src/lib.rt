@@ -1,3 +1,2 @@
-// Pure laws of the definition: what every reader keeps. It has no code: see specs/.
+// Pure laws of the definition: what every reader keeps. It has no code: see specs/ and proofs/.
 #![tactic(auto)]
-

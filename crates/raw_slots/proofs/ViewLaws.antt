@@ -1,11 +1,12 @@
 -- The view of a raw slot at each way out of the code. Assumes nothing.
 use mathlib.Core.Path.{◌≡◌, refl}
-use mathlib.Core.Bool.{Bool, true, false, not}
+use mathlib.Core.Logic.{◌⊎◌, ⊎_elim}
+use mathlib.Core.Bool.{Bool, true, false}
 use mathlib.Core.List.{List}
 use Prim.Native.Nat.{ℕ, ◌+◌, ◌-◌, ◌<◌, ◌≤◌}
 use native.Mathlib.Omega.{arith}
-use borrow.Author.Tests.{lt-ltb, le-ltb, le-leb, lt-leb, ne_eqb, leb-true, eqb-true, not-true, not-false}
-use lib.Dec.{leb, ltb, eqb}
+use borrow.Author.Tests.{lt-ltb, le-ltb, le-leb, lt-leb, ne_eqb, leb-true}
+use lib.Dec.{leb, ltb}
 use lib.ListN.{drop, take}
 use Rattle.tables.specs.Records.{room, field}
 use Rattle.raw_slots.specs.declared.view.View.{View}
@@ -13,12 +14,15 @@ use Rattle.raw_slots.specs.declared.view.View.TheVariants.{Is, Refused}
 use Rattle.raw_slots.specs.View.{is_raw, pick_view, view_of, viewed}
 
 module _ (slots : List ℕ) (k : ℕ) where
-  pub raw_5 : field 6 slots k 2 ≡ 5 → is_raw slots k ≡ true
+  raw_5 : field 6 slots k 2 ≡ 5 → is_raw slots k ≡ true
   raw_5 e = rw e
 
-  -- the second half of an `&&` is known as an equation of its flag
-  pub raw_6 : not (eqb (field 6 slots k 2) 6) ≡ false → is_raw slots k ≡ true
-  raw_6 e = rw (eqb-true (field 6 slots k 2) 6 (not-false _ e))
+  raw_6 : field 6 slots k 2 ≡ 6 → is_raw slots k ≡ true
+  raw_6 e = rw e
+
+  -- past the test of the kind, the slot is raw
+  pub raw_either : ((field 6 slots k 2 ≡ 5 → ⊥) × (field 6 slots k 2 ≡ 6)) ⊎ (field 6 slots k 2 ≡ 5) → is_raw slots k ≡ true
+  raw_either h = ⊎_elim (λ w. raw_6 w.1) raw_5 h
 
 module _ (bytes : ℕ) (slots : List ℕ) (count k : ℕ) where
   pub view_count : room 6 slots < count → Refused 17 ≡ view_of bytes slots count k
@@ -31,9 +35,9 @@ module _ (bytes : ℕ) (slots : List ℕ) (count k : ℕ) where
     view_unlisted l = rw (le-ltb (room 6 slots) count h, le-leb count k l)
 
     module _ (l : k < count) where
-      pub view_other : (field 6 slots k 2 ≡ 5 → ⊥) → not (eqb (field 6 slots k 2) 6) ≡ true → Refused 17 ≡ view_of bytes slots count k
+      pub view_other : (field 6 slots k 2 ≡ 5 → ⊥) → (field 6 slots k 2 ≡ 6 → ⊥) → Refused 17 ≡ view_of bytes slots count k
       unfolding view_of
-      view_other n5 n6 = rw (le-ltb (room 6 slots) count h, lt-leb count k l, ne_eqb (field 6 slots k 2) 5 n5, not-true (eqb (field 6 slots k 2) 6) n6)
+      view_other n5 n6 = rw (le-ltb (room 6 slots) count h, lt-leb count k l, ne_eqb (field 6 slots k 2) 5 n5, ne_eqb (field 6 slots k 2) 6 n6)
 
       module _ (raw : is_raw slots k ≡ true) where
         pub view_past : bytes < field 6 slots k 3 + field 6 slots k 4 → Refused 17 ≡ view_of bytes slots count k

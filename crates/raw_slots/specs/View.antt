@@ -1,5 +1,5 @@
 -- The view of a raw slot (refusal 17 of document 01). Assumes nothing: these are definitions.
-use Rattle.std.specs.Prelude.{Bool, true, false, ◌||◌, List, [], ℕ, ◌+◌, length, take, drop, ltb, leb, eqb}
+use Rattle.std.specs.Prelude.{Bool, true, false, ◌||◌, List, [], ℕ, ◌+◌, take, drop, ltb, leb, eqb}
 use Rattle.raw_slots.specs.declared.view.View.{View}
 use Rattle.raw_slots.specs.declared.view.View.TheVariants.{Is, Refused}
 use Rattle.tables.specs.Records.{room, field}

@@ -7,6 +7,7 @@ use stream::bytes::{Range, raw};
 use stream::putint::Int;
 
 // Past a byte.
+#[tactic(auto, using(crate::proofs::Laws::past_read, crate::proofs::Laws::past_none))]
 pub fn past_byte(p: &[u8], at: usize) -> usize
     ensures { result ≡ past_byte p.now at }
 {
@@ -35,6 +36,7 @@ pub fn past_raw(r: Range, at: usize) -> usize
 }
 
 // The bytes of a raw range.
+#[tactic(auto, using(crate::proofs::Laws::raw_within, crate::proofs::Laws::raw_seen))]
 pub fn raw_bytes<'a>(p: &'a [u8], at: usize, n: usize) -> &'a [u8]
     ensures { result.now ≡ bytes_of p.now at n (raw_at p.now at n) }
 {

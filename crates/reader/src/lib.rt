@@ -62,6 +62,7 @@ impl<'a> Reader<'a> {
     }
 
     // The integer at the cursor. The cursor moves past it.
+    #[tactic(auto, using(crate::proofs::Laws::past_int_fits))]
     pub fn putint(&mut self) -> Int
         ensures { (result ≡ int_at self.old.payload.now self.old.at) × (Small result × (self.new ≡ moved_to self.old (past_int result self.old.at))) }
     {
@@ -72,7 +73,8 @@ impl<'a> Reader<'a> {
     }
 }
 
-// The size integer of a new object whose tag stands at a place. Its parameters are plain, so whoever calls it needs no walk by hand.
+// The size integer of a new object whose tag stands at a place.
+#[tactic(auto, using(crate::proofs::Laws::int_past))]
 pub fn size_after_tag(payload: &[u8], at: usize) -> Int
     ensures { result ≡ int_at payload.now (at + 1) }
 {

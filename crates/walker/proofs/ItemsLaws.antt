@@ -22,10 +22,10 @@ use Rattle.definition.specs.Reference.{ref_at}
 use Rattle.laws.specs.Sound.{Proper, Sound, Counted, Referred}
 use Rattle.laws.specs.Leaves.{tag_inside}
 use Rattle.laws.specs.Keeps.{sheet_gives, word_low, Placed}
-use Rattle.laws.specs.Theorems.{ref_keeps, place_item_keeps}
+use Rattle.laws.proofs.Theorems.{ref_keeps, place_item_keeps}
 use Rattle.laws.specs.Numbered.{Numbered, FreshValue, place_item-numbered}
 use Rattle.laws.specs.Addresses.{Ascending}
-use Rattle.laws.specs.Fuel.{items_fuel}
+use Rattle.laws.proofs.Fuel.{items_fuel}
 use Rattle.readers.proofs.ViewLaws.{then_got, then_no}
 use Rattle.objects.specs.Index.{Indexed}
 use Rattle.levels.specs.declared.level.Item.{Item}

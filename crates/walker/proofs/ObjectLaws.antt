@@ -24,7 +24,7 @@ use Rattle.laws.specs.Sound.{Proper, Sound, Counted, Onward, Kept, Holds, Referr
 use Rattle.laws.specs.Steps.{kept_trans}
 use Rattle.laws.specs.Keeps.{Appended}
 use Rattle.laws.specs.Waiting.{Waits}
-use Rattle.laws.specs.Theorems.{byte_keeps, int_keeps, add_object_keeps, keep_map_keeps, resolves_keep}
+use Rattle.laws.proofs.Theorems.{byte_keeps, int_keeps, add_object_keeps, keep_map_keeps, resolves_keep}
 use Rattle.laws.specs.Addresses.{Ascending}
 use Rattle.laws.specs.Numbered.{Numbered, keep_map-numbered, resolves-numbered}
 use Rattle.readers.specs.declared.state.State.{State}

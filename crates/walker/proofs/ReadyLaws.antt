@@ -11,7 +11,7 @@ use Rattle.definition.specs.Object.{read_map, keep_map, object}
 use Rattle.definition.specs.Reference.{ref_at}
 use Rattle.laws.specs.Sound.{Kept, Holds, Referred}
 use Rattle.laws.specs.Keeps.{More}
-use Rattle.laws.specs.Theorems.{ref_keeps, object_keeps, map_keeps, keep_map_keeps}
+use Rattle.laws.proofs.Theorems.{ref_keeps, object_keeps, map_keeps, keep_map_keeps}
 use Rattle.laws.specs.Numbered.{Numbered, FreshValue, Ordered, ref_numbered, object-numbered, map_numbered, keep_map-numbered}
 use Rattle.laws.specs.Addresses.{Ascending, StaysAscending, ref_ascending, object_ascending, map_ascending}
 use Rattle.walker.specs.Ready.{Index, OutIndex, Ready}

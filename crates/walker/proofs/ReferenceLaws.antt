@@ -37,7 +37,7 @@ use Rattle.definition.specs.Slots.{add_value}
 use Rattle.definition.specs.Object.{change_chunk, object}
 use Rattle.definition.specs.Reference.{skip_amount, backref_to, of_hot, hot_place, of_backref, legacy_reference, pending_reference, after_raw, raw_data, repeat_root, by_head, reference, ref_at}
 use Rattle.laws.specs.Sound.{Kept, Holds, Referred}
-use Rattle.laws.specs.Theorems.{ref_keeps}
+use Rattle.laws.proofs.Theorems.{ref_keeps}
 use Rattle.laws.specs.Numbered.{Numbered, Ordered, ref_numbered}
 use Rattle.laws.specs.Addresses.{StaysAscending, ascending_sorted, ref_ascending}
 use Rattle.readers.specs.declared.state.State.{State}

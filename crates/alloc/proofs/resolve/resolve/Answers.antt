@@ -7,7 +7,7 @@ returns-in-Object c = exact _ _ _ _ _ _ _ c.find_address-found.ensures c.in-Obje
 
 pub returns-then-pad-eq0 : goal.returns-then-pad-eq0
 returns-then-pad-eq0 c =
-    no_filler _ _ _ _ _ _ _ c.find_address-found.ensures c.enum_told-in_default-1.given.1 c.fill_to_align-pad.ensures c.if-pad-eq0.true
+    no_filler _ _ _ _ _ _ _ c.find_address-found.ensures c.in_default.is c.fill_to_align-pad.ensures c.if-pad-eq0.true
 
 pub overflow_add-offset : goal.overflow_add-offset
 overflow_add-offset c =
@@ -15,5 +15,5 @@ overflow_add-offset c =
 
 pub returns : goal.returns
 returns c =
-    after_filler _ _ _ _ _ _ _ c.find_address-found.ensures c.enum_told-in_default-1.given.1 c.fill_to_align-pad.ensures
+    after_filler _ _ _ _ _ _ _ c.find_address-found.ensures c.in_default.is c.fill_to_align-pad.ensures
     c.if-pad-eq0.false c.find_address.ensures

@@ -1,5 +1,4 @@
 use mathlib.Core.Path.{refl}
-use Prim.Native.Nat.{◌-◌}
 use native.Mathlib.Omega.{arith}
 use Rattle.heads.proofs.Assigning.{assigned_none, assigned_more, assigned_as}
 use Rattle.heads.proofs.Rules.{argument_small}

@@ -13,10 +13,19 @@ pub returns-in_default : goal.returns-in_default
 returns-in_default c = λ h. absurd (h c.unopened-in_default.ensures)
 
 pub overflow_add-at : goal.overflow_add-at
-overflow_add-at c = omega (arith, int_end _ _ c.putint.ensures.0 _ c.in-Is.is)
+overflow_add-at c = omega (arith, int_end _ _ c.putint.ensures.value _ c.in-Is.is)
 
 pub returns-then-is_flagged : goal.returns-then-is_flagged
 returns-then-is_flagged c = λ h. absurd (h c.unopened-then-is_flagged.ensures)
 
 pub returns : goal.returns
-returns c = λ h. record { no_large_byte = sym c.six_x.ensures ∙ c.if-six_x.false; not_first = sym c.map_first.ensures ∙ c.if-map_first.false; sized = sym c.in-Is.is ∙ c.putint.ensures.0; small = rw c.in-Is.is at c.putint.ensures.1; there = c.leaf_at-map.ensures.0 h; found = c.leaf_at-map.ensures.1; unflagged = λ sh q sp. rw (← c.value_of_lem.ensures) (sym (c.is_flagged.ensures sh q sp) ∙ c.if-is_flagged.false) }
+returns c = λ h.
+    record {
+      no_large_byte = sym c.six_x.ensures ∙ c.if-six_x.false;
+      not_first = sym c.map_first.ensures ∙ c.if-map_first.false;
+      sized = sym c.in-Is.is ∙ c.putint.ensures.value;
+      small = rw c.in-Is.is at c.putint.ensures.small;
+      there = c.leaf_at-map.ensures.at_in_bounds h;
+      found = c.leaf_at-map.ensures.found;
+      unflagged = λ sh q sp. rw (← c.value_of.ensures) (sym (c.is_flagged.ensures sh q sp) ∙ c.if-is_flagged.false);
+    }

@@ -14,7 +14,7 @@ use Rattle.tables.proofs.RecordLaws.{written_same, written_else, filled_same, fi
 use Rattle.definition.specs.Memory.{Table, table, added}
 use Rattle.definition.specs.Slots.{waits_for, waiter, renumbered}
 use Rattle.assurance.specs.PlainSheet.{clash}
-use Rattle.assurance.specs.Listed.{below}
+use Rattle.assurance.proofs.Listed.{below}
 
 -- slot record k waits
 abbrev pub WaitsAt : List ℕ → ℕ → Type 0

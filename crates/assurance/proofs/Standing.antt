@@ -11,7 +11,7 @@ use Rattle.tables.proofs.RecordLaws.{written_same, written_else, filled_same}
 use Rattle.definition.specs.Memory.{Kept, in_map, in_slot, in_value, dropped, Event, opened, passed, item, value, resolve, synchronize, Table, table, added}
 use Rattle.definition.specs.Slots.{waiter}
 use Rattle.assurance.specs.On.{All, all_map}
-use Rattle.assurance.specs.Waiting.{WaitsAt, Waits, filled_other, unknown}
+use Rattle.assurance.proofs.Waiting.{WaitsAt, Waits, filled_other, unknown}
 use Rattle.assurance.specs.Words.{LeftPending, FilledBy}
 use Rattle.assurance.specs.Records.{SlotHas, ValueHas}
 

@@ -7,7 +7,7 @@ use Rattle.definition.specs.Memory.{Input, word, Event, opened, passed, item, va
 use Rattle.definition.specs.Call.{Rooms, Call, input_of, told_of}
 use Rattle.assurance.specs.Steps.{OpensAt}
 use Rattle.assurance.specs.On.{All, all_told}
-use Rattle.assurance.specs.EventRules.{EventRules, tables_have}
+use Rattle.assurance.proofs.EventRules.{EventRules, tables_have}
 use Rattle.assurance.specs.Words.{Accepted, Told, openings, place_of, words_of}
 
 -- an object is opened at a new-object head

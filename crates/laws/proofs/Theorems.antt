@@ -13,18 +13,11 @@ use Rattle.definition.specs.Reference.{legacy_reference, raw_data, reference, re
 use Rattle.definition.specs.Closing.{entry, drop_reference, entries, padding, closing}
 use Rattle.definition.specs.Call.{walk}
 use Rattle.laws.specs.Sound.{Proper, Sound, Counted, Holds, Keeps, Referred}
-use Rattle.laws.specs.Rules.{Frame, frame, Listed, Aside, Rules}
+use Rattle.laws.specs.Rules.{Frame, frame, Listed, Aside, Rules, Nothing, NoValue}
 use Rattle.laws.specs.Steps.{listed_up, Good, Result, Ends, Keeping, law, append-ends, kept_noted, kept_value, kept_slot}
 use Rattle.laws.specs.Keeps.{Any, Reads, Passed, More, Appended, Placed, Filled, Refers, byte_keeps as byte_law, int_keeps as int_law, add_object_ends, chunks_keep as chunks_law, allocate-ends, map_ends, keep_map_ends, resolves_end, place_item-ends, items_end, body-ends, object-keeping}
 use Rattle.laws.specs.References.{legacy_reference_keeps as legacy-law, raw_data_keeps as raw-law, reference-keeping, ref_keeping}
 use Rattle.laws.specs.ClosingKeeps.{entry-ends, drop_reference_ends, entries_end, padding_keeps as padding-law, closing_ends, walk_ends}
-
--- the invariant that says nothing
-abbrev pub Nothing : List Frame → Mem → Type 0
-Nothing S m = Unit {0}
-
-abbrev pub NoValue : Mem → SlotValue → Type 0
-NoValue m v = Unit {0}
 
 module _ (x : Input) where
   pub rules : Rules x Nothing NoValue

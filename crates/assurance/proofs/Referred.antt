@@ -13,10 +13,10 @@ use Rattle.definition.specs.Call.{Rooms, Call, input_of, told_of}
 use Rattle.assurance.specs.Steps.{Frame, frame, Base, Rules, keeping_map, keeping_item, resolve_case}
 use Rattle.assurance.specs.Induct.{graph_has}
 use Rattle.assurance.specs.On.{On, on_note, on_note_two, on_told, All}
-use Rattle.assurance.specs.EventRules.{waiter_is}
-use Rattle.assurance.specs.Waiting.{Waits, Fresh, waits_in, renumber, slot_waits, fill_waits, found}
+use Rattle.assurance.proofs.EventRules.{waiter_is}
+use Rattle.assurance.proofs.Waiting.{Waits, Fresh, waits_in, renumber, slot_waits, fill_waits, found}
 use Rattle.assurance.specs.Ring.{Ring, ring_enter, ring_up, ring-start, hot_case}
-use Rattle.assurance.specs.Standing.{Refers, Standing, told_standing, open_standing, value_standing, map_standing, item_standing, unknown_standing, fill_standing}
+use Rattle.assurance.proofs.Standing.{Refers, Standing, told_standing, open_standing, value_standing, map_standing, item_standing, unknown_standing, fill_standing}
 use Rattle.assurance.specs.Words.{Accepted, LeftPending, FilledBy}
 
 -- what is known of a value that was given

@@ -10,7 +10,7 @@ use Rattle.assurance.specs.Steps.{Frame, frame}
 use Rattle.assurance.specs.PlainSheet.{word_pos}
 use Rattle.assurance.specs.Induct.{plainly}
 use Rattle.assurance.specs.On.{All, all_map, all_told}
-use Rattle.assurance.specs.EventRules.{EventRules, tables_have}
+use Rattle.assurance.proofs.EventRules.{EventRules, tables_have}
 use Rattle.assurance.specs.Words.{Accepted, Told, openings, words_of, filled_of, items_of, EndToEnd}
 
 -- the objects that are being read are below a bound, the outer below the inner; each has its size, and so many bytes of it were read

@@ -12,8 +12,8 @@ use Rattle.definition.specs.Memory.{Input, word, Kept, in_map, in_slot, in_value
 use Rattle.definition.specs.Slots.{counted}
 use Rattle.definition.specs.Call.{Rooms, Call, input_of, told_of}
 use Rattle.assurance.specs.On.{All, all_map, all_told}
-use Rattle.assurance.specs.EventRules.{Placing, EventRules, tables_have}
-use Rattle.assurance.specs.Listed.{below}
+use Rattle.assurance.proofs.EventRules.{Placing, EventRules, tables_have}
+use Rattle.assurance.proofs.Listed.{below}
 use Rattle.assurance.specs.Words.{Accepted, Told, items_in}
 use Rattle.assurance.specs.Records.{SlotAt, slots_of}
 

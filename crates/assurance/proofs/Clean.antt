@@ -8,7 +8,7 @@ use Rattle.definition.specs.Call.{Rooms, Call, input_of, empty}
 use Rattle.assurance.specs.Words.{Accepted}
 use Rattle.assurance.specs.Records.{ZeroRest}
 use Rattle.assurance.specs.Induct.{graph_has}
-use Rattle.assurance.specs.EventRules.{EventRules, tables_have}
+use Rattle.assurance.proofs.EventRules.{EventRules, tables_have}
 use Rattle.assurance.specs.Whole.{Any, steady}
 
 -- by records, of w fields each

@@ -24,7 +24,8 @@ use Rattle.laws.specs.Rules.{frame}
 use Rattle.laws.specs.Steps.{Good, Ends, Keeping, gives, here, by, last, then₁, then₂, law, good_aligned}
 use Rattle.laws.specs.Keeps.{Reads, Passed, sheet_gives, resolved_kept, resolved_objects, byte_keeps as byte_law, int_keeps as int_law, place_item-ends}
 use Rattle.laws.specs.ClosingKeeps.{Slots, entry_item-ends}
-use Rattle.laws.specs.Theorems.{Nothing, rules, holds, begin, keeping, byte_keeps, ref_keeps, entry_keeps, drop_reference_keeps}
+use Rattle.laws.specs.Rules.{Nothing}
+use Rattle.laws.proofs.Theorems.{rules, holds, begin, keeping, byte_keeps, ref_keeps, entry_keeps, drop_reference_keeps}
 
 -- ---- two readings alike
 

@@ -6,7 +6,7 @@ use Rattle.definition.specs.Memory.{Input, word, in_map, in_slot, in_value, drop
 use Rattle.definition.specs.Call.{Rooms, Call, input_of, told_of}
 use Rattle.assurance.specs.Words.{Accepted, Told, ItemOf}
 use Rattle.assurance.specs.On.{All, all_map, all_told}
-use Rattle.assurance.specs.EventRules.{EventRules, tables_have}
+use Rattle.assurance.proofs.EventRules.{EventRules, tables_have}
 
 abbrev Made : ℕ → List Event → Event → Type 0
 Made ts es (item o s w k) = ItemOf ts es s w k

@@ -1,0 +1,15 @@
+pub mod EventRules
+pub mod Listed
+pub mod Ranges
+pub mod Filled
+pub mod Placed
+pub mod Clean
+pub mod Widths
+pub mod Kept
+pub mod Waiting
+pub mod Standing
+pub mod Pending
+pub mod Referred
+pub mod Assured
+pub mod Prefix
+pub mod Guarantee
