@@ -43,7 +43,7 @@ pub fn allocate_record(
     want: Request,
 ) -> Placed
     requires { (want.space < 256) × (want.word ≤ 8) × Linked addresses.old n (drop size scratch.old) }
-    ensures addresses_after { outcome result.number result.alignment (record { cur = cur.entry.now; used = used.new }) addresses.new ≡ allocate_of addresses.old n spaces want (record { cur = cur.entry.now; used = used.old }) }
+    ensures addresses_after { outcome result.number result.alignment (record { cur = cur.now; used = used.new }) addresses.new ≡ allocate_of addresses.old n spaces want (record { cur = cur.now; used = used.old }) }
     ensures linked { result.number ≡ 0 → Linked addresses.new (n + 1) (drop size scratch.new) }
     ensures front { take size scratch.new ≡ take size scratch.old }
     ensures kept { (result.number ≡ 0 → ⊥) → scratch.new ≡ scratch.old }
