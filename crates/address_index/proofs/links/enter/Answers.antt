@@ -5,26 +5,28 @@ use Rattle.address_index.specs.Links.{space_of}
 use Rattle.address_index.proofs.LinkLaws.{newest_low, count_low, enters}
 use Rattle.address_index.proofs.links.enter.Goals as goal
 
-pub newest-p-requires : goal.newest-p-requires
-newest-p-requires c = let q = c.requires in let f = c.if1.false in omega (arith, q.1, f)
-
 pub jump_from-j-requires : goal.jump_from-j-requires
-jump_from-j-requires c = let a = c.args in let q = c.requires in let fits = c.if1.false in let w = q.2 (omega (arith, fits)) in (omega (arith, fits), w, (c.newest.ensures ∙ w.heads _ q.1))
+jump_from-j-requires c =
+    let q = c.requires in
+    let fits = c.if-index-at.false in
+    let w = q.2 (omega (arith, fits)) in
+    (omega (arith, fits), w, (c.newest-p.ensures ∙ w.heads _ q.1))
 
 pub ordinal_after-o-requires : goal.ordinal_after-o-requires
-ordinal_after-o-requires c = let a = c.args in let q = c.requires in let fits = c.if1.false in let w = q.2 (omega (arith, fits)) in (omega (arith, fits), w, (c.newest.ensures ∙ w.heads _ q.1))
-
-pub bounds-index-at-2 : goal.bounds-index-at-2
-bounds-index-at-2 c = simp length-set (omega (arith, c.if1.false))
-
-pub bounds-index-at-3 : goal.bounds-index-at-3
-bounds-index-at-3 c = simp length-set (omega (arith, c.if1.false))
-
-pub bounds-index-space : goal.bounds-index-space
-bounds-index-space c = simp length-set (omega (arith, c.if1.false, c.requires.1))
+ordinal_after-o-requires c =
+    let q = c.requires in
+    let fits = c.if-index-at.false in
+    let w = q.2 (omega (arith, fits)) in
+    (omega (arith, fits), w, (c.newest-p.ensures ∙ w.heads _ q.1))
 
 pub keep_hint-requires : goal.keep_hint-requires
-keep_hint-requires c = let a = c.args in let q = c.requires in let fits = c.if1.false in let w = q.2 (omega (arith, fits)) in let e = c.newest.ensures ∙ w.heads _ q.1 in let o = c.ordinal_after-o.ensures in let p-low = newest_low a.table.now (space_of a.table.now a.n) a.n in let o-low = count_low a.table.now (space_of a.table.now a.n) a.n in (q.0, simp length-set (omega (arith, fits)), omega (arith, e, p-low), omega (arith, o, o-low), (λ r. enters a.table.now a.index.now a.n _ _ _ q.1 fits w e c.jump-from.ensures o))
-
-pub returns : goal.returns
-returns c = c.keep_hint.ensures
+keep_hint-requires c =
+    let a = c.args in
+    let q = c.requires in
+    let fits = c.if-index-at.false in
+    let w = q.2 (omega (arith, fits)) in
+    let e = c.newest-p.ensures ∙ w.heads _ q.1 in
+    let o = c.ordinal_after-o.ensures in
+    let p_low = newest_low a.table.now (space_of a.table.now a.n) a.n in
+    let o_low = count_low a.table.now (space_of a.table.now a.n) a.n in
+    (q.0, simp length-set (omega (arith, fits)), omega (arith, e, p_low), omega (arith, o, o_low), (λ r. enters a.table.now a.index.now a.n _ _ _ q.1 fits w e c.jump_from-j.ensures o))

@@ -1,5 +1,4 @@
 use native.Mathlib.Omega.{arith}
-use borrow.Author.Tests.{not-false}
 use Rattle.alloc.proofs.Laws.{fill_bound, exact, no_filler, after_filler}
 use Rattle.address_index.proofs.FindLaws.{room_test}
 use Rattle.address_index.proofs.resolve.resolve.Goals as goal
@@ -7,7 +6,7 @@ use Rattle.address_index.proofs.resolve.resolve.Goals as goal
 pub find-found-requires : goal.find-found-requires
 find-found-requires c =
     let q = c.requires in
-    let h = room_test _ _ c.args.index.now c.has_room.ensures (not-false _ c.if-not-has_room.false) in
+    let h = room_test _ _ c.args.index.now c.has_room.ensures c.if-not-has_room.false in
     (q.0, h.0, h.1, q.3 h.1, q.4)
 
 pub returns-in-Object : goal.returns-in-Object
@@ -15,7 +14,7 @@ returns-in-Object c = exact _ _ _ _ _ _ _ c.find-found.ensures c.in-Object.is
 
 pub returns-then-pad-eq0 : goal.returns-then-pad-eq0
 returns-then-pad-eq0 c =
-    no_filler _ _ _ _ _ _ _ c.find-found.ensures c.enum_told-in_default-1.given.1 c.fill_to_align-pad.ensures c.if-pad-eq0.true
+    no_filler _ _ _ _ _ _ _ c.find-found.ensures c.in_default.is c.fill_to_align-pad.ensures c.if-pad-eq0.true
 
 pub overflow_add-offset : goal.overflow_add-offset
 overflow_add-offset c =
@@ -23,11 +22,10 @@ overflow_add-offset c =
 
 pub find-requires : goal.find-requires
 find-requires c =
-    let s = c in
-    let q = s.requires in
-    let h = room_test _ _ s.args.index.now c.has_room.ensures (not-false _ c.if-not-has_room.false) in
+    let q = c.requires in
+    let h = room_test _ _ c.args.index.now c.has_room.ensures c.if-not-has_room.false in
     (q.0, h.0, h.1, q.3 h.1, q.4)
 
 pub returns : goal.returns
 returns c =
-    after_filler _ _ _ _ _ _ _ c.find-found.ensures c.enum_told-in_default-1.given.1 c.fill_to_align-pad.ensures c.if-pad-eq0.false c.find.ensures
+    after_filler _ _ _ _ _ _ _ c.find-found.ensures c.in_default.is c.fill_to_align-pad.ensures c.if-pad-eq0.false c.find.ensures
