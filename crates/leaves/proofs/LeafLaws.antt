@@ -12,7 +12,6 @@ use Rattle.stream.specs.Bytes.{raw_at}
 use Rattle.stream.specs.declared.putint.Int.TheVariants.{Is as IntIs}
 use Rattle.stream.specs.PutInt.{int_at}
 use Rattle.sheet.specs.Sheet.{word_bytes}
-use Rattle.heads.specs.Kinds.{hot}
 use Rattle.tables.specs.declared.values.Ref.{Ref}
 use Rattle.tables.specs.declared.values.Ref.TheVariants.{Object, Root, RoRef, Attached}
 use Rattle.tables.specs.declared.values.SlotValue.{SlotValue}
@@ -32,7 +31,7 @@ use Rattle.readers.specs.Views.{Lent, input, mem, hot_is}
 use Rattle.readers.proofs.ViewLaws.{then_got}
 use Rattle.readers.proofs.SimpleLaws.{backref_in, hot_is_lem, legacy_to, raw_to}
 use Rattle.leaves.specs.declared.leaf.Leaf.{Leaf}
-use Rattle.leaves.specs.Leaf.{ring, after, value_of, entering, Entered, Stands, Found, FoundIn, Placed}
+use Rattle.leaves.specs.Leaf.{ring, value_of, entering, Entered, Stands, Found, FoundIn, Placed}
 
 -- nothing is said of none
 pub none_found : (p hot : List ℕ) (objects ts at kind a : ℕ) (r : Leaf) → r.kind ≡ 0 → Found p hot objects ts at kind a r

@@ -9,7 +9,7 @@ use Rattle.tables.specs.declared.values.SlotValue.TheVariants.{Ref as IsRef, Raw
 use Rattle.tables.specs.Values.{ref_fields, triple, fields_of, width_of}
 use Rattle.tables.specs.Records.{room, field, slot_row, written}
 use Rattle.backref.specs.HotRing.{entered}
-use Rattle.definition.specs.Memory.{Input, word, Mem, Out, got, Reader}
+use Rattle.definition.specs.Memory.{Input, word, Mem, got, Reader}
 use Rattle.definition.specs.Slots.{waits_of, keep_item, place_item}
 use Rattle.definition.specs.Reference.{by_head}
 use Rattle.readers.specs.declared.state.State.{State}

@@ -1,10 +1,7 @@
 use native.Mathlib.Omega.{arith}
 use mathlib.Core.Path.{refl}
-use Rattle.leaves.proofs.LeafLaws.{none_found, hot_object, hot_root}
+use Rattle.leaves.proofs.LeafLaws.{hot_object, hot_root}
 use Rattle.leaves.proofs.leaf.hot_leaf.Goals as goal
-
-pub returns-then-kind-ne2 : goal.returns-then-kind-ne2
-returns-then-kind-ne2 c = λ p objects. none_found p _ objects _ _ _ _ _ c.none.ensures
 
 pub returns-else-kind-ne2 : goal.returns-else-kind-ne2
 returns-else-kind-ne2 c = λ p objects. hot_root p _ objects _ _ _ _ _ refl refl (omega arith)
