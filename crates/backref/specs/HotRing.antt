@@ -2,7 +2,6 @@
 -- As a list: three numbers for each place, then the place to fill next. Assumes nothing: these are definitions.
 use Rattle.std.specs.Prelude.{Bool, true, false, List, [], ◌∷◌, ℕ, ◌+◌, ◌*◌, ◌%◌, eqb, get_or, set, replicate}
 use Rattle.std.proofs.lemmas.List.Edits.{sets}
-use Rattle.tables.specs.declared.values.Ref.{Ref}
 use Rattle.tables.specs.declared.values.Ref.TheVariants.{Object, Root, RoRef}
 use Rattle.tables.specs.declared.values.Fields.{Fields}
 use Rattle.backref.specs.declared.hot_ring.Hot.{Hot}

@@ -4,7 +4,6 @@ use Rattle.stream.specs.declared.putint.Int.{Int}
 use Rattle.stream.specs.declared.putint.Int.TheVariants.{Is, Cut as CutInt}
 use Rattle.stream.specs.PutInt.{int_at}
 use Rattle.sheet.specs.Sheet.{pick_ℕ, is_six_x, map_space, lo_space, space_tag_size, page_size_bits, word_bytes}
-use Rattle.tables.specs.declared.values.Ref.{Ref}
 use Rattle.tables.specs.declared.values.Ref.TheVariants.{Object as ObjectRef, RoRef}
 use Rattle.tables.specs.Values.{ref_fields}
 use Rattle.alloc.specs.declared.resolve.Found.{Found}

@@ -184,6 +184,7 @@ fn plain_backref(
 }
 
 // A back-reference to a space.
+#[tactic(auto, unfolding(crate::specs::Legacy::backref_of))]
 pub fn backref_at(
     sheet: &[u16],
     p: &[u8],
