@@ -1,6 +1,5 @@
 -- Slots leave the address records and the chunk counters as they are. Assumes nothing.
-use mathlib.Core.Path.{◌≡◌, refl, sym, ap, subst, ◌∙◌}
-use mathlib.Core.Bool.{Bool, true, false}
+use mathlib.Core.Path.{◌≡◌, refl, sym, subst}
 use mathlib.Core.List.{List}
 use Prim.Native.Nat.{ℕ, zero, suc}
 use lib.Dec.{ltb}
@@ -12,9 +11,9 @@ use Rattle.sheet.specs.Tests.{is_resolve}
 use Rattle.tables.specs.declared.values.SlotValue.{SlotValue}
 use Rattle.tables.specs.declared.values.SlotValue.TheVariants.{Ref, Repeat, RepeatPrev, Skip, StreamBytes, Raw, ClearedWeak, WeakRef, PendingRef}
 use Rattle.tables.specs.declared.values.Fields.{Fields}
-use Rattle.tables.specs.Values.{fields_of, width_of}
+use Rattle.tables.specs.Values.{fields_of}
 use Rattle.alloc.specs.declared.legacy_alloc.LegacyAlloc.{LegacyAlloc}
-use Rattle.definition.specs.Memory.{Input, word, Kept, in_slot, Table, Mem, Out, got, no, Reader, ◌>>=◌, ◌>>◌, choose, change, with_skip, after_int, byte, int, has_room}
+use Rattle.definition.specs.Memory.{Input, Kept, in_slot, Table, Mem, Out, got, no, ◌>>=◌, ◌>>◌, change, with_skip, after_int, byte, int, has_room}
 use Rattle.definition.specs.Slots.{add_value, add_slot, waiter, fill_waiter, resolved, waits_of, keep_item, repeat_previous, place_item}
 use Rattle.definition.specs.Object.{peek, flags, flag_object, keep_map, resolves}
 use Rattle.laws.specs.Addresses.{Ascending, StaysAscending}

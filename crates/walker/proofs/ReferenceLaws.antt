@@ -3,7 +3,7 @@
 use mathlib.Core.Path.{◌≡◌, refl, sym, ap, subst, ◌∙◌}
 use mathlib.Core.Bool.{Bool, true, false, ◌&&◌}
 use mathlib.Core.List.{List, [], ◌∷◌}
-use Prim.Native.Nat.{ℕ, zero, suc, ◌+◌, ◌-◌, ◌*◌, ◌^◌, ◌<◌, ◌≤◌}
+use Prim.Native.Nat.{ℕ, zero, suc, ◌+◌, ◌-◌, ◌^◌, ◌<◌, ◌≤◌}
 use native.Mathlib.Omega.{arith}
 use borrow.Author.Tests.{lt-ltb, le-ltb, ltb-true, eqb-true}
 use lib.Dec.{ltb, eqb}
@@ -36,13 +36,12 @@ use Rattle.definition.specs.Memory.{Input, Table, Mem, Out, got, no, Reader, and
 use Rattle.definition.specs.Slots.{add_value}
 use Rattle.definition.specs.Object.{change_chunk, object}
 use Rattle.definition.specs.Reference.{skip_amount, backref_to, of_hot, hot_place, of_backref, legacy_reference, pending_reference, after_raw, raw_data, repeat_root, by_head, reference, ref_at}
-use Rattle.laws.specs.Sound.{Kept, Holds, Referred}
+use Rattle.laws.specs.Sound.{Holds, Referred}
 use Rattle.laws.proofs.Theorems.{ref_keeps}
-use Rattle.laws.specs.Numbered.{Numbered, Ordered, ref_numbered}
+use Rattle.laws.specs.Numbered.{Ordered, ref_numbered}
 use Rattle.laws.specs.Addresses.{StaysAscending, ascending_sorted, ref_ascending}
 use Rattle.readers.specs.declared.state.State.{State}
 use Rattle.readers.specs.declared.state.Step.{Step}
-use Rattle.readers.specs.declared.state.Step.TheVariants.{Got, Refused as StepRefused}
 use Rattle.readers.specs.declared.prefix.Prefix.{Prefix}
 use Rattle.readers.specs.declared.prefix.Prefix.TheVariants.{Inner, Value, Refused, Other}
 use Rattle.readers.specs.Views.{Lent, mem, seen, values_is, addresses_is, hot_is, counters_is}

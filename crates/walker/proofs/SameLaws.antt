@@ -2,18 +2,8 @@
 -- nothing.
 use mathlib.Core.Path.{◌≡◌, refl, sym, subst, ◌∙◌}
 use mathlib.Core.Bool.{Bool, true, false}
-use mathlib.Core.List.{List}
-use Prim.Native.Nat.{ℕ, zero, suc}
-use lib.Dec.{eqb}
-use lib.ListN.{length}
-use Rattle.tables.specs.declared.values.SlotValue.{SlotValue}
-use Rattle.tables.specs.declared.values.SlotValue.TheVariants.{Ref, Repeat, RepeatPrev, Skip, StreamBytes, Raw, ClearedWeak, WeakRef, PendingRef}
-use Rattle.tables.specs.declared.values.Fields.{Fields}
-use Rattle.tables.specs.Values.{fields_of}
-use Rattle.alloc.specs.declared.legacy_alloc.LegacyAlloc.{LegacyAlloc}
-use Rattle.stream.specs.declared.putint.Int.{Int}
-use Rattle.stream.specs.declared.putint.Int.TheVariants.{Is as IntIs, Cut as IntCut}
-use Rattle.definition.specs.Memory.{Table, Mem, Out, got, no, Reader, and_then, ◌>>=◌, ◌>>◌, choose}
+use Prim.Native.Nat.{ℕ}
+use Rattle.definition.specs.Memory.{Mem, Out, got, no, Reader, and_then, ◌>>=◌, ◌>>◌, choose}
 
 module _ {B : Type 0} (view : Mem → B) where
   abbrev pub Same : {A : Type 0} → Mem → Out A → Type 0

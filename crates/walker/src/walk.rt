@@ -27,8 +27,11 @@ use stream::bytes::{byte, peek};
 use tables::values::{Ref, SlotValue};
 use weak_leaves::weak::place_weak;
 
+// How deep a reference may stand.
+const DEEPEST: usize = 64;
+
 // A reference at depth d.
-#[cycle(parse_head_parse_inner_parse_item_parse_map_parse_object_parse_ref_parse_slot)]
+#[cycle(walk)]
 pub fn parse_ref(
     v: &[u16],
     h: &[u16; 512],
@@ -52,7 +55,7 @@ pub fn parse_ref(
     ensures index { OutIndex (length p.now) (seen result (lent ot.new st.new vt.new dt.new hr.new c.new u.new)) sc.new }
 {
     let at = s.at;
-    if 64 < d {
+    if DEEPEST < d {
         return Step::Refused(6, at, s);
     }
     let mut t = s;
@@ -82,7 +85,7 @@ pub fn parse_ref(
 }
 
 // A reference below one at depth d. The commonest need no call of the cycle; what a reference at the last level would be is left to it.
-#[cycle(parse_head_parse_inner_parse_item_parse_map_parse_object_parse_ref_parse_slot)]
+#[cycle(walk)]
 fn parse_inner(
     v: &[u16],
     h: &[u16; 512],
@@ -107,7 +110,7 @@ fn parse_inner(
 {
     let word = word_bytes(v);
     let at = s.at;
-    if d < 64 {
+    if d < DEEPEST {
         let leaf = leaf_at(h, p, hr, at, s.objects, word);
         if leaf.kind != 0 {
             return take_leaf(hr, s, leaf);
@@ -118,7 +121,7 @@ fn parse_inner(
 
 // An object at depth d in space a, whose head stands at `at`; the cursor stands after it. Objects within it are read in the same loop, as many
 // levels down as are kept.
-#[cycle(parse_head_parse_inner_parse_item_parse_map_parse_object_parse_ref_parse_slot)]
+#[cycle(walk)]
 pub fn parse_object(
     v: &[u16],
     h: &[u16; 512],
@@ -206,7 +209,7 @@ pub fn parse_object(
 
 // The head of an object at depth d in space a, its map and its resolves: its bytes. Where the map is one of the commonest references, this needs no
 // call of the cycle.
-#[cycle(parse_head_parse_inner_parse_item_parse_map_parse_object_parse_ref_parse_slot)]
+#[cycle(walk)]
 fn parse_head(
     v: &[u16],
     h: &[u16; 512],
@@ -266,7 +269,7 @@ fn parse_head(
 }
 
 // The map of object o of n bytes in space a, what follows it, and its resolves.
-#[cycle(parse_head_parse_inner_parse_item_parse_map_parse_object_parse_ref_parse_slot)]
+#[cycle(walk)]
 fn parse_map(
     v: &[u16],
     h: &[u16; 512],
@@ -306,7 +309,7 @@ fn parse_map(
 }
 
 // An item of the object that is being read. The commonest need no call of the cycle.
-#[cycle(parse_head_parse_inner_parse_item_parse_map_parse_object_parse_ref_parse_slot)]
+#[cycle(walk)]
 fn parse_item(
     v: &[u16],
     h: &[u16; 512],
@@ -358,7 +361,7 @@ fn parse_item(
 
 // An item of object o, `done` bytes of which have been read: the bytes read then. A weak reference to one of the commonest references needs no
 // call of the cycle.
-#[cycle(parse_head_parse_inner_parse_item_parse_map_parse_object_parse_ref_parse_slot)]
+#[cycle(walk)]
 fn parse_slot(
     v: &[u16],
     h: &[u16; 512],
