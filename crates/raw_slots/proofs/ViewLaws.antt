@@ -14,10 +14,10 @@ use Rattle.raw_slots.specs.declared.view.View.TheVariants.{Is, Refused}
 use Rattle.raw_slots.specs.View.{is_raw, pick_view, view_of, viewed}
 
 module _ (slots : List ℕ) (k : ℕ) where
-  raw_5 : field 6 slots k 2 ≡ 5 → is_raw slots k ≡ true
+  pub raw_5 : field 6 slots k 2 ≡ 5 → is_raw slots k ≡ true
   raw_5 e = rw e
 
-  raw_6 : field 6 slots k 2 ≡ 6 → is_raw slots k ≡ true
+  pub raw_6 : field 6 slots k 2 ≡ 6 → is_raw slots k ≡ true
   raw_6 e = rw e
 
   -- past the test of the kind, the slot is raw
