@@ -196,24 +196,21 @@ def family_of(name):
 
 HEADER = """-- Made by tools/refl/make.py with seed {seed}: calls, and what the Rust gives for them (number, counts, `end`, place, the four tables).
 -- Assumes nothing.
-use mathlib.Core.Path.{{_≡_, refl}}
-use mathlib.Core.List.{{List, [], _∷_, map}}
-use Prim.Native.Nat.{{ℕ}}
-use lib.ListN.{{replicate}}
+use Rattle.std.specs.Prelude.{{◌≡◌, refl, List, [], ◌∷◌, map, ℕ, replicate}}
 {uses}
-use Rattle·definition·specs.specs.Memory.{{Mem, Out}}
-use Rattle·definition·specs.specs.Call.{{Rooms, Call, tableOf, Answer, answerOf}}
+use Rattle.definition.specs.Memory.{{Out}}
+use Rattle.definition.specs.Call.{{Rooms, Call, table_of, Answer, answer_of}}
 
-abbrev pub numbersOf : Answer → List ℕ
-numbersOf a = a .number ∷ a .objects ∷ a .slots ∷ a .values ∷ a .addresses ∷ a .end ∷ a .place ∷ []
+abbrev pub numbers_of : Answer → List ℕ
+numbers_of a = a.number ∷ a.objects ∷ a.slots ∷ a.values ∷ a.addresses ∷ a.end ∷ a.place ∷ []
 
 abbrev pub shown : Rooms → Out (Unit {{0}}) → List (List ℕ)
 shown rooms out =
-    numbersOf (answerOf out) ∷
-    tableOf (λ m. m .objects) (rooms .objects) out ∷
-    tableOf (λ m. m .slots) (rooms .slots) out ∷
-    tableOf (λ m. m .values) (rooms .values) out ∷
-    tableOf (λ m. m .addresses) (rooms .addresses) out ∷
+    numbers_of (answer_of out) ∷
+    table_of (λ m. m.objects) rooms.objects out ∷
+    table_of (λ m. m.slots) rooms.slots out ∷
+    table_of (λ m. m.values) rooms.values out ∷
+    table_of (λ m. m.addresses) rooms.addresses out ∷
     []
 
 pub record Case : Type 0 where
@@ -227,26 +224,27 @@ case v p r t o s n d answer =
     {{ call = record {{ sheet = v; payload = p; reservations = r; trusted = t }}; rooms = record {{ objects = o; slots = s; values = n; addresses = d }}; answer = answer }}
 
 abbrev pub given : Case → List (List ℕ)
-given c = shown (c .rooms) (graph (c .call) (c .rooms))
+given c = shown c.rooms (graph c.call c.rooms)
 
 -- without values and slots, where the Rust does not give a value that the closing section drops
-abbrev pub numbersOfPart : Answer → List ℕ
-numbersOfPart a = a .number ∷ a .objects ∷ a .slots ∷ a .addresses ∷ a .end ∷ a .place ∷ []
+abbrev pub numbers_of_part : Answer → List ℕ
+numbers_of_part a = a.number ∷ a.objects ∷ a.slots ∷ a.addresses ∷ a.end ∷ a.place ∷ []
 
-abbrev pub shownPart : Rooms → Out (Unit {{0}}) → List (List ℕ)
-shownPart rooms out =
-    numbersOfPart (answerOf out) ∷
-    tableOf (λ m. m .objects) (rooms .objects) out ∷
-    tableOf (λ m. m .addresses) (rooms .addresses) out ∷
+abbrev pub shown_part : Rooms → Out (Unit {{0}}) → List (List ℕ)
+shown_part rooms out =
+    numbers_of_part (answer_of out) ∷
+    table_of (λ m. m.objects) rooms.objects out ∷
+    table_of (λ m. m.addresses) rooms.addresses out ∷
     []
 
-abbrev pub givenPart : Case → List (List ℕ)
-givenPart c = shownPart (c .rooms) (graph (c .call) (c .rooms))
+abbrev pub given_part : Case → List (List ℕ)
+given_part c = shown_part c.rooms (graph c.call c.rooms)
 """
 
-CRATES = ['stream', 'sheet', 'tables', 'alloc', 'backref', 'definition']
+# of the crates below `definition` those whose definitions the walk uses, and itself
+CRATES = ['stream', 'sheet', 'heads', 'tables', 'alloc', 'backref', 'definition']
 # what the walk does not use
-UNUSED = ['Smi', 'View', 'Usable', 'Assigning', 'Cases', 'Generated']
+UNUSED = ['Smi', 'Usable', 'Assigning', 'Cases', 'Generated']
 
 
 def unfolded(crates):
@@ -261,8 +259,7 @@ def unfolded(crates):
             with open(os.path.join(folder, file), encoding='utf-8') as text:
                 found = re.findall(r'^unfoldable pub (\S+) :', text.read(), re.M)
             if found:
-                own = '·specs' if crate == 'definition' else ''
-                uses.append(f'use Rattle·{crate}{own}.specs.{part}.{{{", ".join(found)}}}')
+                uses.append(f'use Rattle.{crate}.specs.{part}.{{{", ".join(found)}}}')
                 names += found
     return '\n'.join(uses), ' '.join(names)
 
@@ -289,15 +286,15 @@ def module(cases, seed, group, crates):
             sheets[tuple(case.sheet)] = f'sheet{len(sheets)}'
             name = sheets[tuple(case.sheet)]
             text.append(f'-- {case.name}\nabbrev pub {name} : List ℕ\n{name} = {listed(case.sheet)}\n')
-    for whole, kind, given in ((True, 'cases', 'given'), (False, 'parts', 'givenPart')):
+    for whole, kind, given in ((True, 'cases', 'given'), (False, 'parts', 'given_part')):
         chosen = [(number, case) for number, case in enumerate(cases) if case.whole == whole]
         for start in range(0, len(chosen), group):
             some = chosen[start:start + group]
             name = f'{kind}{some[0][0]}'
             rows = [f'    -- {number}: {case.family}, {case.name}\n{shown(case, sheets)} ∷' for number, case in some]
             text.append(f'abbrev pub {name} : List Case\n{name} =\n' + '\n'.join(rows) + '\n    []\n')
-            text.append(f'pub {name}-hold : map {given} {name} ≡ map (λ (c : Case). c .answer) {name}\n'
-                        f'unfolding {names}\n{name}-hold = refl\n')
+            text.append(f'pub {name}_hold : map {given} {name} ≡ map (λ (c : Case). c.answer) {name}\n'
+                        f'unfolding {names}\n{name}_hold = refl\n')
     return '\n'.join(text)
 
 

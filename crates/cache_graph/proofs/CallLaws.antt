@@ -13,7 +13,7 @@ use Rattle.stream.proofs.ByteLaws.{Bytes}
 use Rattle.sheet.specs.Sheet.{usable, plain}
 use Rattle.alloc.specs.Allocation.{spaces_of}
 use Rattle.address_index.proofs.LinkLaws.{linked_start}
-use Rattle.definition.specs.Memory.{Input, off, told, Table, table, Mem, Out, got, no}
+use Rattle.definition.specs.Memory.{Input, off, Table, table, Mem, Out, got, no}
 use Rattle.definition.specs.Call.{Rooms, Call, input_of, start, walk, too_long, called, graph, table_of, Answer, answer_of}
 use Rattle.laws.specs.ClosingKeeps.{start_sound, start-counted}
 use Rattle.laws.specs.Waiting.{waits_start}
@@ -28,7 +28,7 @@ use Rattle.readers.specs.Views.{Lent, input, mem, seen_went}
 use Rattle.objects.proofs.WaiterLaws.{by_case, indexed_start}
 use Rattle.walker.specs.Ready.{lent, Ready}
 use Rattle.cache_graph.specs.declared.parse.Outcome.{Outcome}
-use Rattle.cache_graph.specs.Promise.{rooms_of, answer, Reads, Assures, Started, Rows, Walked}
+use Rattle.cache_graph.specs.Promise.{rooms_of, answer, Reads, Assures, Started, Walked}
 use Rattle.cache_graph.specs.SecondCall.{accepted_graph}
 
 -- ---- the start

@@ -2,7 +2,7 @@
 -- does, through the kSynchronize that ends its closing section, all else lent the same, is accepted exactly when only kNop follows, and
 -- then has the same graph. Assumes nothing.
 use Rattle.std.specs.Prelude.{◌≡◌, refl, List, [], ℕ, ◌+◌, ◌≤◌, length, take}
-use Rattle.std.proofs.Common.{sym, ap, ◌∙◌, arith}
+use Rattle.std.proofs.Common.{ap, ◌∙◌, arith}
 use Rattle.definition.specs.Memory.{told, Table, Mem, Out, got, no, moved}
 use Rattle.definition.specs.Call.{Rooms, Call, start, graph, table_of, Answer, answer_of}
 use Rattle.assurance.specs.Padding.{Padded}

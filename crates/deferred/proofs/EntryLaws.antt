@@ -2,8 +2,8 @@
 use mathlib.Core.Path.{◌≡◌, refl, sym, ap, subst, ◌∙◌}
 use mathlib.Core.Bool.{Bool, true, false}
 use mathlib.Core.Logic.{⊎_elim}
-use mathlib.Core.List.{List, []}
-use Prim.Native.Nat.{ℕ, zero, suc, ◌+◌, ◌-◌, ◌*◌, ◌/◌, ◌^◌, ◌<◌, ◌≤◌, max}
+use mathlib.Core.List.{List}
+use Prim.Native.Nat.{ℕ, zero, suc, ◌+◌, ◌-◌, ◌^◌, ◌<◌, ◌≤◌, max}
 use native.Mathlib.Omega.{arith}
 use borrow.Author.Tests.{le-leb, lt-leb, eq-eqb, ne_eqb}
 use lib.Dec.{ltb, eqb}
@@ -18,8 +18,8 @@ use Rattle.definition.specs.Memory.{Input, word, Mem, Out, got, no, Reader, and_
 use Rattle.definition.specs.Slots.{add_slot}
 use Rattle.definition.specs.Reference.{legacy_reference, ref_at}
 use Rattle.definition.specs.Closing.{add_slots, entry_fields, is_skip, entry_slots, entry_count, entry_item, entry_items, entry_body, entry_of, entry}
-use Rattle.laws.specs.Sound.{Sound, Onward, Kept, Referred}
-use Rattle.laws.specs.Steps.{Good, Ends, gives, refuses, either, by, then₁, then₂, onward_trans}
+use Rattle.laws.specs.Sound.{Onward, Referred}
+use Rattle.laws.specs.Steps.{gives, refuses, either, by, then₁, then₂, onward_trans}
 use Rattle.laws.specs.Keeps.{Any, Passed, sheet_gives, word_low, byte_keeps, int_keeps}
 use Rattle.laws.specs.References.{legacy_reference_keeps}
 use Rattle.laws.specs.ClosingKeeps.{Slots, entry_item-ends}

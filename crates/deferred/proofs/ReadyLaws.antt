@@ -11,7 +11,7 @@ use Rattle.laws.specs.Steps.{Good, Ends}
 use Rattle.laws.specs.Rules.{Nothing, NoValue}
 use Rattle.laws.proofs.Theorems.{rules, holds, begin}
 use Rattle.laws.specs.Addresses.{Seated, seated_rules, stays, from}
-use Rattle.laws.specs.Numbered.{Numbered, FreshValue, Numbers, Ordered, numbered-rules, orders, good}
+use Rattle.laws.specs.Numbered.{FreshValue, Numbers, numbered-rules, orders, good}
 use Rattle.walker.specs.Ready.{Ready}
 use Rattle.walker.proofs.ReadyLaws.{Went, went, None, ready_after}
 use Rattle.walker.proofs.SameLaws.{same_got}

@@ -1,19 +1,16 @@
 -- The slots of an item of a deferred entry: their value, their number, and adding them. Assumes nothing.
-use mathlib.Core.Path.{◌≡◌, refl, sym, ap, ◌∙◌}
-use mathlib.Core.Bool.{Bool, true, false}
-use mathlib.Core.List.{List, [], ◌∷◌}
-use Prim.Native.Nat.{ℕ, zero, suc, ◌+◌, ◌-◌, ◌*◌, ◌/◌, ◌^◌, ◌<◌, ◌≤◌, max}
+use mathlib.Core.Path.{◌≡◌, refl, ap, ◌∙◌}
+use mathlib.Core.Bool.{false}
+use mathlib.Core.List.{List}
+use Prim.Native.Nat.{ℕ, suc, ◌+◌, ◌-◌, ◌*◌, ◌/◌, ◌<◌, ◌≤◌}
 use native.Mathlib.Omega.{arith}
-use denote.Enum.Declared.{tag_of}
-use lib.ListN.{length, set, length-set}
-use Rattle.tables.specs.contracts.values.SlotValue.{the_type}
+use lib.ListN.{length, set}
 use Rattle.tables.specs.declared.values.SlotValue.{SlotValue}
 use Rattle.tables.specs.declared.values.SlotValue.TheVariants.{Ref, Repeat, RepeatPrev, Skip, StreamBytes, Raw, ClearedWeak, WeakRef, PendingRef}
 use Rattle.tables.specs.declared.values.Fields.{Fields}
 use Rattle.tables.specs.Values.{triple, fields_of, width_of}
 use Rattle.tables.specs.Records.{room, field}
-use Rattle.definition.specs.Memory.{Input, word, Table, Mem, Out, got, no, in_slot}
-use Rattle.definition.specs.Slots.{add_slot}
+use Rattle.definition.specs.Memory.{Input, word, Table, got, no, in_slot}
 use Rattle.definition.specs.Closing.{entry_fields, is_skip, add_slots, entry_slots, entry_count}
 use Rattle.laws.specs.Leaves.{set_at_most}
 use Rattle.readers.specs.declared.state.State.{State}

@@ -1,11 +1,10 @@
 -- The closing section at each way out of the code. Assumes nothing.
-use mathlib.Core.Path.{◌≡◌, refl, sym, ap, subst, ◌∙◌}
+use mathlib.Core.Path.{◌≡◌, refl, sym, ◌∙◌}
 use mathlib.Core.Bool.{Bool, true, false, not, ◌&&◌, ◌||◌}
 use mathlib.Core.List.{List, []}
 use Prim.Native.Nat.{ℕ, suc, ◌+◌, ◌-◌, ◌<◌, ◌≤◌}
 use native.Mathlib.Omega.{arith}
 use borrow.Author.Tests.{le-leb, lt-leb, lt-ltb}
-use lib.Dec.{eqb}
 use lib.ListN.{length}
 use Rattle.stream.specs.Bytes.{peek_at}
 use Rattle.sheet.specs.Sheet.{is_legacy}
@@ -14,10 +13,10 @@ use Rattle.sheet.specs.declared.tests.Closing.TheVariants.{Synchronize, Alignmen
 use Rattle.sheet.specs.Tests.{closing_of}
 use Rattle.tables.specs.declared.values.SlotValue.{SlotValue}
 use Rattle.tables.specs.Values.{fields_of}
-use Rattle.definition.specs.Memory.{Input, dropped, value, Mem, Out, got, no, Reader, and_then, moved, aligned, tell, byte}
+use Rattle.definition.specs.Memory.{Input, dropped, value, Mem, Out, got, no, Reader, moved, aligned, tell, byte}
 use Rattle.definition.specs.Object.{peek}
 use Rattle.definition.specs.Reference.{ref_at}
-use Rattle.definition.specs.Closing.{entry, drop_reference, ends_legacy, after_entry, by_entry, entries, padding, closing}
+use Rattle.definition.specs.Closing.{entry, drop_reference, ends_legacy, after_entry, by_entry, entries, closing}
 use Rattle.laws.specs.Sound.{Onward, Kept}
 use Rattle.laws.specs.Steps.{Ends, onward_trans}
 use Rattle.laws.specs.Keeps.{Reads}

@@ -1,15 +1,13 @@
 -- The padding at each way out of the code. Assumes nothing.
-use mathlib.Core.Path.{◌≡◌, sym, ◌∙◌}
-use mathlib.Core.Bool.{Bool, true, false}
-use mathlib.Core.List.{List}
-use Prim.Native.Nat.{ℕ, zero, suc, ◌+◌, ◌-◌, ◌<◌, ◌≤◌}
+use mathlib.Core.Path.{◌≡◌}
+use mathlib.Core.Bool.{true, false}
+use Prim.Native.Nat.{suc, ◌+◌, ◌-◌, ◌<◌, ◌≤◌}
 use native.Mathlib.Omega.{arith}
 use borrow.Author.Tests.{lt-ltb, lt-leb}
 use lib.ListN.{length}
-use Rattle.stream.specs.Bytes.{peek_at}
 use Rattle.sheet.specs.Sheet.{is_legacy}
 use Rattle.sheet.specs.Tests.{is_nop}
-use Rattle.definition.specs.Memory.{Input, Mem, Out, got, no, Reader, moved, byte}
+use Rattle.definition.specs.Memory.{Input, Mem, got, no, Reader, moved, byte}
 use Rattle.definition.specs.Object.{peek}
 use Rattle.definition.specs.Closing.{padding}
 

@@ -1,13 +1,12 @@
 -- The walk at each way out of the code. Assumes nothing.
-use mathlib.Core.Path.{◌≡◌, refl, sym, subst, ◌∙◌}
-use mathlib.Core.Bool.{Bool, true, false, ◌&&◌}
+use mathlib.Core.Path.{◌≡◌, subst}
+use mathlib.Core.Bool.{true, false}
 use mathlib.Core.List.{List}
 use Prim.Native.Nat.{ℕ, ◌-◌, ◌<◌, ◌≤◌}
-use native.Mathlib.Omega.{arith}
 use borrow.Author.Tests.{leb-true}
-use lib.Dec.{leb, ltb}
+use lib.Dec.{leb}
 use lib.ListN.{length}
-use Rattle.sheet.specs.Names.{k_new_object, k_backref}
+use Rattle.sheet.specs.Names.{k_new_object}
 use Rattle.sheet.specs.Sheet.{number, is_legacy}
 use Rattle.sheet.specs.Tests.{opens}
 use Rattle.sheet.proofs.UsableSheet.{and_left}

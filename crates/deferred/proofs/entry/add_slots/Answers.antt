@@ -1,5 +1,4 @@
 use native.Mathlib.Omega.{arith}
-use Prim.Native.Nat.{◌-◌}
 use Rattle.deferred.proofs.SlotsLaws.{adding_start, adding_end, adding_full, adding_turn}
 use Rattle.deferred.proofs.entry.add_slots.Goals as goal
 

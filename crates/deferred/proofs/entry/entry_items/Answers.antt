@@ -1,6 +1,5 @@
 use native.Mathlib.Omega.{arith}
 use mathlib.Core.Path.{refl, sym, ◌∙◌}
-use Prim.Native.Nat.{◌-◌}
 use lib.ListN.{length, take}
 use Rattle.readers.specs.Views.{input, mem}
 use Rattle.readers.proofs.ViewLaws.{seen_got, seen_no, went_on, went_no}

@@ -1,6 +1,5 @@
 use mathlib.Core.Path.{refl, sym, ap, ◌∙◌}
 use native.Mathlib.Omega.{arith}
-use borrow.Author.Tests.{not-false}
 use Rattle.definition.specs.Object.{object}
 use Rattle.definition.specs.Reference.{ref_at}
 use Rattle.readers.specs.Views.{input, mem}

@@ -1,6 +1,5 @@
 use native.Mathlib.Omega.{arith}
 use mathlib.Core.Path.{refl, sym, ◌∙◌}
-use Prim.Native.Nat.{◌-◌}
 use Rattle.readers.proofs.ViewLaws.{went_on, went_no}
 use Rattle.walker.specs.Ready.{lent}
 use Rattle.walker.proofs.ReadyLaws.{out_index}

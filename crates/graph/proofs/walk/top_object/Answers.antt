@@ -1,6 +1,5 @@
 use native.Mathlib.Omega.{arith}
 use mathlib.Core.Path.{sym, ◌∙◌}
-use borrow.Author.Tests.{not-true, not-false}
 use Rattle.readers.specs.Views.{input, mem}
 use Rattle.readers.proofs.ViewLaws.{count_is, count_no, count_below}
 use Rattle.walker.specs.Ready.{lent}
