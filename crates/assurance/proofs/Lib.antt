@@ -11,5 +11,7 @@ pub mod Standing
 pub mod Pending
 pub mod Referred
 pub mod Assured
+pub mod PrefixReads
+pub mod PrefixCalls
 pub mod Prefix
 pub mod Guarantee
