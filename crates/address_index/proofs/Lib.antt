@@ -1,3 +1,4 @@
 pub mod LinkLaws
+pub mod SearchLaws
 pub mod FindLaws
 pub mod OrdinalLaws

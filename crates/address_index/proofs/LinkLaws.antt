@@ -1,6 +1,6 @@
 -- What the index of address records keeps, and what a new record changes. Assumes nothing.
 use mathlib.Core.Path.{◌≡◌, refl, sym, ap, subst, ◌∙◌}
-use mathlib.Core.Logic.{◌≢◌, ◌⊎◌, inl, inr, ⊎_elim}
+use mathlib.Core.Logic.{◌≢◌, ⊎_elim}
 use mathlib.Core.Bool.{Bool, true, false}
 use mathlib.Core.List.{List}
 use Prim.Native.Nat.{ℕ, zero, suc, ◌+◌, ◌-◌, ◌*◌, ◌<◌, ◌≤◌}
@@ -11,6 +11,7 @@ use lib.Dec.{eqb}
 use lib.ListN.{length, get_or, set, length-set}
 use lib.Seq.{get_or-set_same, get_or-set_other}
 use Rattle.address_index.specs.Links.{space_of, newest, count_in, JumpOf, Links, Linked}
+use Rattle.address_index.specs.KeyLaws.{on_or_off, count_on, count_off}
 
 -- ---- the newest record of a space, and how many there are
 
@@ -19,35 +20,19 @@ module _ (t : List ℕ) (s : ℕ) where
   unfolding newest
   newest_on n e = rw (eq-eqb (space_of t n) s e)
 
-  pub newest_just : (i : ℕ) → 0 < i → space_of t (i - 1) ≡ s → i ≡ newest t s i
-  newest_just i p e = let z : suc (i - 1) ≡ i = omega (arith, p) in subst (λ (k : ℕ). k ≡ newest t s k) z (sym (newest_on (i - 1) e))
+  pub newest_just : (i : ℕ) → 0 < i → space_of t (i - 1) ≡ s → suc (i - 1) ≡ newest t s i
+  newest_just i p e = let z : suc (i - 1) ≡ i = omega (arith, p) in subst (λ (k : ℕ). suc (i - 1) ≡ newest t s k) z (sym (newest_on (i - 1) e))
 
   pub newest_off : (n : ℕ) → space_of t n ≢ s → newest t s (suc n) ≡ newest t s n
   unfolding newest
   newest_off n e = rw (ne_eqb (space_of t n) s e)
-
-  pub count_on : (n : ℕ) → space_of t n ≡ s → count_in t s (suc n) ≡ suc (count_in t s n)
-  unfolding count_in
-  count_on n e = rw (eq-eqb (space_of t n) s e)
-
-  pub count_off : (n : ℕ) → space_of t n ≢ s → count_in t s (suc n) ≡ count_in t s n
-  unfolding count_in
-  count_off n e = rw (ne_eqb (space_of t n) s e)
-
-  -- record n is of the space, or is not
-  pub on_or_off : (n : ℕ) → (space_of t n ≡ s) ⊎ (space_of t n ≢ s)
-  on_or_off n = go (eqb (space_of t n) s) refl
-    where
-      go : (b : Bool) → eqb (space_of t n) s ≡ b → (space_of t n ≡ s) ⊎ (space_of t n ≢ s)
-      go true e = inl (eqb-true _ _ e)
-      go false e = inr (eqb-false _ _ e)
 
   pub newest_low : (n : ℕ) → newest t s n ≤ n
   unfolding newest
   newest_low zero = omega arith
   newest_low (suc n) =
       let h = newest_low n in
-      ⊎_elim (λ e. let z = newest_on n e in omega (arith, z)) (λ e. let z = newest_off n e in omega (arith, z, h)) (on_or_off n)
+      ⊎_elim (λ e. let z = newest_on n e in omega (arith, z)) (λ e. let z = newest_off n e in omega (arith, z, h)) (on_or_off t s n)
 
   -- it is of the space, and what lies after it is not
   pub newest_is : (n p : ℕ) → newest t s n ≡ suc p → (space_of t p ≡ s) × (p < n) × (count_in t s n ≡ suc (count_in t s p))
@@ -55,9 +40,9 @@ module _ (t : List ℕ) (s : ℕ) where
   newest_is zero p h = absurd (omega (arith, h))
   newest_is (suc n) p h =
       ⊎_elim
-      (λ e. let z : n ≡ p = (let y = newest_on n e in omega (arith, y, h)) in (subst (λ (i : ℕ). space_of t i ≡ s) z e, omega (arith, z), subst (λ (i : ℕ). count_in t s (suc n) ≡ suc (count_in t s i)) z (count_on n e)))
-      (λ e. let w = newest_is n p (sym (newest_off n e) ∙ h) in (w.0, omega (arith, w.1), count_off n e ∙ w.2))
-      (on_or_off n)
+      (λ e. let z : n ≡ p = (let y = newest_on n e in omega (arith, y, h)) in (subst (λ (i : ℕ). space_of t i ≡ s) z e, omega (arith, z), subst (λ (i : ℕ). count_in t s (suc n) ≡ suc (count_in t s i)) z (count_on t s n e)))
+      (λ e. let w = newest_is n p (sym (newest_off n e) ∙ h) in (w.0, omega (arith, w.1), count_off t s n e ∙ w.2))
+      (on_or_off t s n)
 
   pub newest_gap : (n k : ℕ) → newest t s n ≤ k → k < n → space_of t k ≢ s
   unfolding newest
@@ -65,7 +50,7 @@ module _ (t : List ℕ) (s : ℕ) where
   newest_gap (suc n) k h l =
       ⊎_elim (λ e. let z = newest_on n e in absurd (omega (arith, z, h, l)))
       (λ e. let z = newest_off n e in gap (eqb k n) refl e (λ l'. newest_gap n k (omega (arith, z, h)) l'))
-      (on_or_off n)
+      (on_or_off t s n)
     where
       gap : (b : Bool) → eqb k n ≡ b → space_of t n ≢ s → (k < n → space_of t k ≢ s) → space_of t k ≢ s
       gap true q e f = subst (λ (i : ℕ). space_of t i ≢ s) (sym (eqb-true k n q)) e
@@ -75,43 +60,49 @@ module _ (t : List ℕ) (s : ℕ) where
   unfolding newest count_in
   count_none zero h = refl
   count_none (suc n) h =
-      ⊎_elim (λ e. let z = newest_on n e in absurd (omega (arith, z, h))) (λ e. count_off n e ∙ count_none n (sym (newest_off n e) ∙ h)) (on_or_off n)
+      ⊎_elim (λ e. let z = newest_on n e in absurd (omega (arith, z, h))) (λ e. count_off t s n e ∙ count_none n (sym (newest_off n e) ∙ h)) (on_or_off t s n)
 
   pub count_low : (n : ℕ) → count_in t s n ≤ n
   unfolding count_in
   count_low zero = omega arith
   count_low (suc n) =
       let h = count_low n in
-      ⊎_elim (λ e. let z = count_on n e in omega (arith, z, h)) (λ e. let z = count_off n e in omega (arith, z, h)) (on_or_off n)
+      ⊎_elim (λ e. let z = count_on t s n e in omega (arith, z, h)) (λ e. let z = count_off t s n e in omega (arith, z, h)) (on_or_off t s n)
 
 -- ---- a new record n, whose space's newest record was p
 
 module _ {t ix : List ℕ} {n : ℕ} (w : Links t n ix) where
-  -- a jump of a jump is one
-  pub jump_jump : {i j : ℕ} → i < n → 0 < j → j ≡ get_or ix (256 + i * 3 + 1) 0 → (j ≤ i) × (space_of t (j - 1) ≡ space_of t i)
-  jump_jump {i} {j} l p e = subst (JumpOf t i) (sym e) (w.jumps i l) p
+  -- a jump that the index keeps
+  pub jump_kept : {i j : ℕ} → i < n → suc j ≡ get_or ix (256 + i * 3 + 1) 0 → (j < i) × (space_of t j ≡ space_of t i)
+  jump_kept {i} {j} l e =
+      let z = subst (JumpOf t i) (sym e) (w.jumps i l) (omega arith) in
+      let y : suc j - 1 ≡ j = omega arith in
+      (omega (arith, z.0), rw y at z.1)
 
-  pub ordinal_low : (i : ℕ) → i < n → get_or ix (256 + i * 3 + 2) 0 ≤ i
-  ordinal_low i l = rw (w.ordinals i l) (count_low t (space_of t i) i)
+  pub ordinal_low : {i o : ℕ} → i < n → o ≡ get_or ix (256 + i * 3 + 2) 0 → o ≤ i
+  ordinal_low {i} l e = let z = count_low t (space_of t i) i in omega (arith, e, w.ordinals i l, z)
 
 -- the newest record of the space of record n
+module _ (t : List ℕ) (n p : ℕ) (e : suc p ≡ newest t (space_of t n) n) where
+  pub newest_before : p < n
+  newest_before = (newest_is t (space_of t n) n p (sym e)).1
+
+  pub newest_space : space_of t p ≡ space_of t n
+  newest_space = (newest_is t (space_of t n) n p (sym e)).0
+
+  pub newest_count : count_in t (space_of t n) n ≡ count_in t (space_of t p) p + 1
+  newest_count =
+      let z = newest_is t (space_of t n) n p (sym e) in
+      z.2 ∙ sym (add-one (count_in t (space_of t n) p)) ∙ ap (λ (s : ℕ). count_in t s p + 1) (sym z.0)
+
+-- the newest record of the space of record n, or none, and an older one of it
 pub newest_jump : (t : List ℕ) (n p : ℕ) → p ≡ newest t (space_of t n) n → JumpOf t n p
 newest_jump t n p e b =
     let q : newest t (space_of t n) n ≡ suc (p - 1) = omega (arith, e, b) in
     let z = newest_is t (space_of t n) n (p - 1) q in (omega (arith, z.1), z.0)
 
-pub newest_count : (t : List ℕ) (n p : ℕ) → p ≡ newest t (space_of t n) n → (p ≡ 0 → ⊥) → count_in t (space_of t n) n ≡ count_in t (space_of t (p - 1)) (p - 1) + 1
-newest_count t n p e b =
-    let q : newest t (space_of t n) n ≡ suc (p - 1) = omega (arith, e, b) in
-    let z = newest_is t (space_of t n) n (p - 1) q in
-    z.2 ∙ sym (add-one (count_in t (space_of t n) (p - 1))) ∙ ap (λ (s : ℕ). count_in t s (p - 1) + 1) (sym z.0)
-
-pub newest_before : (t : List ℕ) (n p : ℕ) → p ≡ newest t (space_of t n) n → (p ≡ 0 → ⊥) → p - 1 < n
-newest_before t n p e b = let z = newest_low t (space_of t n) n in omega (arith, z, e, b)
-
--- a jump from the newest record's jump
-pub far_jump : (t : List ℕ) (n p near far : ℕ) → JumpOf t n p → (p ≡ 0 → ⊥) → (near ≤ p - 1) × (space_of t (near - 1) ≡ space_of t (p - 1)) → (far ≤ near - 1) × (space_of t (far - 1) ≡ space_of t (near - 1)) → JumpOf t n far
-far_jump t n p near far a b c d f = let z = a (omega (arith, b)) in (omega (arith, z.0, c.0, d.0), d.1 ∙ c.1 ∙ z.1)
+pub jump_older : (t : List ℕ) (n p : ℕ) → p < n → space_of t p ≡ space_of t n → JumpOf t n (suc p)
+jump_older t n p l e b = let z : suc p - 1 ≡ p = omega arith in (omega (arith, l), rw z e)
 
 -- ---- the four numbers that are written
 
@@ -233,17 +224,3 @@ linked_start t ix e fits =
       jumps = λ i l. absurd (omega (arith, l));
       ordinals = λ i l. absurd (omega (arith, l));
     }
-
--- a number behind the links may be anything
-pub linked_behind : (t : List ℕ) (n : ℕ) (ix : List ℕ) (c x : ℕ) → 256 + n * 3 ≤ c → Linked t n ix → Linked t n (set ix c x)
-linked_behind t n ix c x b w fits =
-    let v = w (rw (length-set ix c x) at fits) in
-    record {
-      heads = λ s l. kept s (omega (arith, l)) ∙ v.heads s l;
-      olders = λ i l. kept (256 + i * 3) (omega (arith, l)) ∙ v.olders i l;
-      jumps = λ i l. subst (JumpOf t i) (sym (kept (256 + i * 3 + 1) (omega (arith, l)))) (v.jumps i l);
-      ordinals = λ i l. kept (256 + i * 3 + 2) (omega (arith, l)) ∙ v.ordinals i l;
-    }
-  where
-    kept : (k : ℕ) → k < 256 + n * 3 → get_or (set ix c x) k 0 ≡ get_or ix k 0
-    kept k l = get_or-set_other ix c k x 0 (λ q. omega (arith, q, l, b))

@@ -1,2 +1,5 @@
 pub mod Links
 pub mod Sorted
+pub mod Search
+pub mod KeyLaws
+pub mod Searches

@@ -1,6 +1,11 @@
 -- The index of legacy addresses. Assumes nothing: these are definitions.
-use Rattle.std.specs.Prelude.{◌≡◌, List, ℕ, zero, suc, ◌+◌, ◌-◌, ◌*◌, ◌<◌, ◌≤◌, eqb, length, get_or}
+use Rattle.std.specs.Prelude.{◌≡◌, List, ℕ, zero, suc, ◌+◌, ◌-◌, ◌*◌, ◌<◌, ◌≤◌, eqb, length, get_or, Option, Some, None}
 use Rattle.tables.specs.Values.{pick_ℕ}
+
+-- the number by which the index names a record, or none
+abbrev pub counted : Option ℕ → ℕ
+counted (Some i) = suc i
+counted None = 0
 
 -- the space of address record i
 abbrev pub space_of : List ℕ → ℕ → ℕ

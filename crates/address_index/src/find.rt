@@ -1,163 +1,94 @@
 // Search in the index of legacy addresses, from the newest record of a space, or a hinted one, to older ones.
-ghost use Rattle.std.specs.Prelude.{true, ◌≡◌, ℕ, ◌+◌, ◌-◌, ◌*◌, ◌<◌, ◌≤◌, length};
+ghost use Rattle.std.specs.Prelude.{◌≡◌, Bool, true, false, List, ℕ, ◌+◌, ◌*◌, ◌<◌, ◌≤◌, length, Option, IsTrue};
 ghost use Rattle.tables.specs.Records.{room};
-ghost use Rattle.alloc.specs.Resolve.{is_address, addressed, ordinal_from};
-ghost use Rattle.address_index.specs.Links.{space_of, newest as newestOf, Links};
-ghost use Rattle.address_index.specs.Sorted.{is_after, Sorted, Passes, PassesOrdinals, Seeks, SeeksOrdinal};
+ghost use Rattle.address_index.specs.Links.{counted, space_of, Links};
+ghost use Rattle.address_index.specs.Search.{newest_where, NoneFrom, Seeks};
 
-use crate::hints::{address_hint, number_hint};
-use crate::links::{jump, newest, older, ordinal};
-use alloc::resolve::Found;
+use crate::links::{jump, older};
 
-// Record i, of this space, is placed at this address.
-fn is_placed_at(table: &[u64], i: usize, chunk: u64, offset: u64) -> bool
-    requires { i < room 5 table.now }
-    ensures { result ≡ is_address table.now (space_of table.now i) chunk offset i }
-{
-    (table[i * 5 + 1] == chunk) & (table[i * 5 + 2] == offset) & (table[i * 5 + 4] == 1)
+// The first `count` address records, their index, which has room for all of them, and the space that is searched.
+#[derive(Clone, Copy)]
+pub struct Search<'a> {
+    pub table: &'a [u64],
+    pub links: &'a [u64],
+    pub count: usize,
+    pub space: u64,
+    ghost within: { count ≤ room 5 table.now },
+    ghost space_low: { space < 256 },
+    ghost roomy: { 256 + count * 3 ≤ length links.now },
+    ghost linked: { Links table.now count links.now },
 }
 
-// The address of record i is higher than this one.
-fn is_after(table: &[u64], i: usize, chunk: u64, offset: u64) -> bool
-    requires { i < room 5 table.now }
-    ensures { result ≡ is_after table.now i chunk offset }
-{
-    let c = table[i * 5 + 1];
-    (chunk < c) | ((chunk == c) & (offset < table[i * 5 + 2]))
+// What is searched for among the records of a space: an address, or a number.
+pub trait Key: Copy {
+    // What holds of the first n records of a table, where they can be searched for it.
+    ghost Needs: { List ℕ → ℕ → Type 0 };
+
+    // In a table and a space, record i matches.
+    ghost matches: { Self → List ℕ → ℕ → ℕ → Bool };
+
+    // In a table and a space, the object of the newest of the first n records that matches.
+    ghost object: { Self → List ℕ → ℕ → ℕ → Option ℕ };
+
+    // Record i of the space matches.
+    fn is_at(self, among: Search<'_>, i: usize) -> bool
+        requires { (i < among.count) × (space_of among.table.now i ≡ among.space) }
+        ensures { result ≡ matches self among.entry.table.now among.entry.space i };
+
+    // Record i of the space, which does not match, lies after those that do: no newer one matches. Else no older one does.
+    fn is_after(self, among: Search<'_>, i: usize) -> bool
+        requires needs { Needs among.table.now among.count }
+        requires of_space { (i < among.count) × (space_of among.table.now i ≡ among.space) }
+        requires other { matches self among.table.now among.space i ≡ false }
+        ensures after { IsTrue result → NoneFrom (matches self among.entry.table.now among.entry.space) i among.entry.count }
+        ensures before { result ≡ false → NoneFrom (matches self among.entry.table.now among.entry.space) 0 (i + 1) };
+
+    // The search may jump to record j of the space: no newer one matches.
+    fn may_jump(self, among: Search<'_>, j: usize) -> bool
+        requires needs { Needs among.table.now among.count }
+        requires of_space { (j < among.count) × (space_of among.table.now j ≡ among.space) }
+        ensures { IsTrue result → NoneFrom (matches self among.entry.table.now among.entry.space) (j + 1) among.entry.count };
+
+    // The record of the space to look at first: no newer one matches.
+    fn start(self, among: Search<'_>) -> Option<usize>
+        requires { Needs among.table.now among.count }
+        ensures { Seeks among.entry.table.now among.entry.space (matches self among.entry.table.now among.entry.space) among.entry.count (counted result) };
+
+    // A record that matches is of the space.
+    ghost of_space: { (key : Self) (t : List ℕ) (space i : ℕ) → matches key t space i ≡ true → space_of t i ≡ space };
+
+    // So the search finds the object.
+    ghost object_is: { (key : Self) (t : List ℕ) (space n : ℕ) → newest_where (matches key t space) t n ≡ object key t space n };
 }
 
-// The record to look at after record i, whose address is higher than this one: no record that is passed over has this address.
-fn next_lower(table: &[u64], index: &[u64], n: usize, i: usize, chunk: u64, offset: u64) -> u64
-    requires { (n ≤ room 5 table.now) × (i < n) × (256 + n * 3 ≤ length index.now) × Links table.now n index.now × Sorted table.now n }
-    ensures { Passes table.now i chunk offset result }
-{
-    let j = jump(index, i);
-    if j == 0 {
-        return older(index, i);
-    }
-    if is_after(table, (j - 1) as usize, chunk, offset) {
-        return j;
-    }
-    older(index, i)
-}
-
-// The record before record i in its space, which often is the one before it in the table: then the index need not be read.
-fn previous(table: &[u64], index: &[u64], n: usize, i: usize) -> u64
-    requires { (n ≤ room 5 table.now) × (i < n) × (256 + n * 3 ≤ length index.now) × Links table.now n index.now }
-    ensures { result ≡ newestOf table.now (space_of table.now i) i }
-{
-    if 0 < i {
-        if table[(i - 1) * 5] == table[i * 5] {
-            return i as u64;
+impl<'a> Search<'a> {
+    // The record to look at after record i of the space: none between them matches.
+    fn next<K: Key>(self, key: K, i: usize) -> Option<usize>
+        requires needs { K.Needs self.table.now self.count }
+        requires of_space { (i < self.count) × (space_of self.table.now i ≡ self.space) }
+        ensures { Seeks self.entry.table.now self.entry.space (K.matches key self.entry.table.now self.entry.space) i (counted result) }
+    {
+        match jump(self.links, i) {
+            Some(j) if key.may_jump(self, j) => Some(j),
+            _ => older(self.links, i),
         }
     }
-    older(index, i)
-}
 
-// A hinted record of this space whose address is higher than this one, counted from 1; else 0.
-fn hinted_after(table: &[u64], index: &[u64], n: usize, space: u64, chunk: u64, offset: u64) -> u64
-    requires { (n ≤ room 5 table.now) × (256 ≤ length index.now) }
-    ensures { (result ≤ n) × (0 < result → (space_of table.now (result - 1) ≡ space) × (is_after table.now (result - 1) chunk offset ≡ true)) }
-{
-    let h = address_hint(index, n, chunk, offset);
-    if h == 0 {
-        return 0;
-    }
-    let hinted = (h - 1) as usize;
-    if table[hinted * 5] != space {
-        return 0;
-    }
-    if !is_after(table, hinted, chunk, offset) {
-        return 0;
-    }
-    h
-}
-
-// The record to look at first: the newest of the space, which needs no hint where its address is not higher than this one; else the one
-// before a hinted record whose address is.
-fn start(table: &[u64], index: &[u64], n: usize, space: u64, chunk: u64, offset: u64) -> u64
-    requires { (n ≤ room 5 table.now) × (space < 256) × (256 + n * 3 ≤ length index.now) × Links table.now n index.now × Sorted table.now n }
-    ensures { Seeks table.now n space chunk offset result }
-{
-    let top = newest(index, space as usize);
-    if 0 < top {
-        if is_after(table, (top - 1) as usize, chunk, offset) {
-            let h = hinted_after(table, index, n, space, chunk, offset);
-            if 0 < h {
-                return previous(table, index, n, (h - 1) as usize);
+    // The object of the newest record of the space that matches.
+    pub fn find<K: Key>(self, key: K) -> Option<u64>
+        requires { K.Needs self.table.now self.count }
+        ensures { result ≡ K.object key self.entry.table.now self.entry.space self.entry.count }
+    {
+        let mut next = key.start(self);
+        while let Some(i) = next {
+            if key.is_at(self, i) {
+                return Some(self.table[i * 5 + 3]);
             }
-        }
-    }
-    top
-}
-
-// The newest of the n address records that is placed at this address.
-pub fn find(table: &[u64], index: &[u64], n: usize, space: u64, chunk: u64, offset: u64) -> Found
-    requires { (n ≤ room 5 table.now) × (space < 256) × (256 + n * 3 ≤ length index.now) × Links table.now n index.now × Sorted table.now n }
-    ensures { result ≡ addressed table.now space chunk offset n }
-{
-    let mut i = start(table, index, n, space, chunk, offset);
-    while 0 < i {
-        let k = (i - 1) as usize;
-        if is_placed_at(table, k, chunk, offset) {
-            return Found::Object(table[k * 5 + 3]);
-        }
-        if !is_after(table, k, chunk, offset) {
-            return Found::Nothing;
-        }
-        i = next_lower(table, index, n, k, chunk, offset);
-    }
-    Found::Nothing
-}
-
-// The record to look at after record i, whose number in its space is higher than this one.
-fn next_earlier(table: &[u64], index: &[u64], n: usize, i: usize, number: u64) -> u64
-    requires { (i < n) × (256 + n * 3 ≤ length index.now) × Links table.now n index.now }
-    ensures { PassesOrdinals table.now i number result }
-{
-    let j = jump(index, i);
-    if j == 0 {
-        return older(index, i);
-    }
-    if number <= ordinal(index, (j - 1) as usize) {
-        return j;
-    }
-    older(index, i)
-}
-
-// The record to look at first: a hinted record that is of this space and has this number in it, else the newest of the space.
-fn start_ordinal(table: &[u64], index: &[u64], n: usize, space: u64, number: u64) -> u64
-    requires { (n ≤ room 5 table.now) × (space < 256) × (256 + n * 3 ≤ length index.now) × Links table.now n index.now }
-    ensures { SeeksOrdinal table.now n space number result }
-{
-    let h = number_hint(index, n, space, number);
-    if 0 < h {
-        let i = (h - 1) as usize;
-        if table[i * 5] == space {
-            if ordinal(index, i) == number {
-                return h;
+            if !key.is_after(self, i) {
+                return None;
             }
+            next = self.next(key, i);
         }
+        None
     }
-    newest(index, space as usize)
-}
-
-// The object whose number among the n records of a space is `number`.
-pub fn find_ordinal(table: &[u64], index: &[u64], n: usize, space: u64, number: u64) -> Found
-    requires { (n ≤ room 5 table.now) × (space < 256) × (256 + n * 3 ≤ length index.now) × Links table.now n index.now }
-    ensures { result ≡ ordinal_from table.now space number 0 n }
-{
-    let mut i = start_ordinal(table, index, n, space, number);
-    while 0 < i {
-        let k = (i - 1) as usize;
-        let o = ordinal(index, k);
-        if o == number {
-            return Found::Object(table[k * 5 + 3]);
-        }
-        if o < number {
-            return Found::Nothing;
-        }
-        i = next_earlier(table, index, n, k, number);
-    }
-    Found::Nothing
 }

@@ -1,32 +1,33 @@
-// Hints where a search in the index of legacy addresses should begin: two places for each record, behind the links, where the index has five
-// numbers for each record. They are not cleared first, and hints and links of later records overwrite them, so that nothing is known of what they
-// hold: the search checks the record that a hint names, and begins at the newest one where it is not of use. Records are counted from 1.
-ghost use Rattle.std.specs.Prelude.{◌+◌, ◌*◌, ◌^◌, ◌<◌, ◌≤◌, length};
+// Hints where a search in the index of legacy addresses should begin: two places for each record, behind the links, where the index has
+// five numbers for each record. They are not cleared first, and hints and links of later records overwrite them, so that nothing is known
+// of what they hold: the search checks the record that a hint names, and begins at the newest one where it is not of use. In a hint records
+// are counted from 1.
+ghost use Rattle.std.specs.Prelude.{◌+◌, ◌*◌, ◌^◌, ◌<◌, ◌≤◌, length, IfSome};
 ghost use Rattle.tables.specs.Records.{room};
-ghost use Rattle.address_index.specs.Links.{Linked};
+ghost use Rattle.address_index.specs.Links.{counted, Linked};
 
-// How many records the index has room for with their hints; 0 where that is less than n.
-fn capacity(index: &[u64], n: usize) -> usize
+use alloc::resolve::Place;
+
+// For how many records the index has room with their hints; none where that is less than n.
+fn capacity(index: &[u64], n: usize) -> Option<usize>
     requires { 256 ≤ length index.now }
-    ensures { (result < 2 ^ 31) × (256 + result * 5 ≤ length index.now) × (0 < result → n ≤ result) }
+    ensures { IfSome result (λ r. (0 < r) × (n ≤ r) × (r < 2 ^ 31) × (256 + r * 5 ≤ length index.now)) }
 {
     let r = (index.len() - 256) / 5;
-    if r < n {
-        return 0;
+    // below 2 ^ 31, so that the remainder in `address_cell` is one of 32 bits, which takes less time than one of 64
+    if 0 < r && n <= r && r < 2147483648 {
+        Some(r)
+    } else {
+        None
     }
-    // so that the remainder in `address_cell` is one of 32 bits, which takes less time than one of 64
-    if 2147483648 <= r {
-        return 0;
-    }
-    r
 }
 
 // Where the hint for an address lies. Objects that lie near each other mostly have their hints near each other.
-fn address_cell(r: usize, chunk: u64, offset: u64) -> usize
+fn address_cell(r: usize, place: Place) -> usize
     requires { (0 < r) × (r < 2 ^ 31) }
     ensures { (256 + r * 3 ≤ result) × (result < 256 + r * 5) }
 {
-    let key = chunk % 4294967296 * 65537 + offset / 8;
+    let key = place.chunk % 4294967296 * 65537 + place.offset / 8;
     let cell = (key % 4294967296) as u32 % (r * 2) as u32;
     256 + r * 3 + cell as usize
 }
@@ -39,62 +40,62 @@ fn number_cell(r: usize, space: u64, number: u64) -> usize
     256 + r * 3 + number as usize * 2 + (space % 2) as usize
 }
 
-// The record that a hint names, where it is one of the first n; else 0.
-fn hint_at(index: &[u64], n: usize, cell: usize) -> u64
+// The record that a hint names, where it is one of the first n.
+fn hint_at(index: &[u64], n: usize, cell: usize) -> Option<usize>
     requires { cell < length index.now }
-    ensures { result ≤ n }
+    ensures { IfSome result (λ h. h < n) }
 {
     let h = index[cell];
-    if (n as u64) < h {
-        return 0;
+    if 0 < h && h <= n as u64 {
+        Some((h - 1) as usize)
+    } else {
+        None
     }
-    h
 }
 
-// The record that may come after the one at an address, in its space; 0: no hint.
-pub fn address_hint(index: &[u64], n: usize, chunk: u64, offset: u64) -> u64
+// The record that may come after the one at an address, in its space.
+pub fn address_hint(index: &[u64], n: usize, place: Place) -> Option<usize>
     requires { 256 ≤ length index.now }
-    ensures { result ≤ n }
+    ensures { IfSome result (λ h. h < n) }
 {
-    let r = capacity(index, n);
-    if r == 0 {
-        return 0;
-    }
-    hint_at(index, n, address_cell(r, chunk, offset))
+    let r = capacity(index, n)?;
+    hint_at(index, n, address_cell(r, place))
 }
 
-// The record that may have a number in a space; 0: no hint.
-pub fn number_hint(index: &[u64], n: usize, space: u64, number: u64) -> u64
+// The record that may have a number in a space.
+pub fn number_hint(index: &[u64], n: usize, space: u64, number: u64) -> Option<usize>
     requires { 256 ≤ length index.now }
-    ensures { result ≤ n }
+    ensures { IfSome result (λ h. h < n) }
 {
-    let r = capacity(index, n);
+    let r = capacity(index, n)?;
     if r as u64 <= number {
-        return 0;
+        return None;
     }
     hint_at(index, n, number_cell(r, space, number))
 }
 
 // Record n becomes a hint: in spaces 4 and 5, where back-references give numbers, for its number o; else for the address of record p, the
 // one before it in its space.
-pub fn keep_hint(table: &[u64], index: &mut [u64], n: usize, p: u64, o: u64)
-    requires { (n < room 5 table.now) × (256 ≤ length index.old) × (p ≤ n) × (o ≤ n) × Linked table.now (n + 1) index.old }
+pub fn keep_hint(table: &[u64], index: &mut [u64], n: usize, p: Option<usize>, o: u64)
+    requires { (n < room 5 table.now) × (256 ≤ length index.old) × (counted p ≤ n) × (o ≤ n) × Linked table.now (n + 1) index.old }
     ensures { Linked table.now (n + 1) index.new }
 {
-    let r = capacity(index, n + 1);
-    if r == 0 {
+    let Some(r) = capacity(index, n + 1) else {
         return;
-    }
+    };
     let space = table[n * 5];
     if space == 4 || space == 5 {
         let cell = number_cell(r, space, o);
         index[cell] = n as u64 + 1;
         return;
     }
-    if p == 0 {
+    let Some(b) = p else {
         return;
-    }
-    let b = (p - 1) as usize;
-    let cell = address_cell(r, table[b * 5 + 1], table[b * 5 + 2]);
+    };
+    let place = Place {
+        chunk: table[b * 5 + 1],
+        offset: table[b * 5 + 2],
+    };
+    let cell = address_cell(r, place);
     index[cell] = n as u64 + 1;
 }

@@ -1,57 +1,73 @@
 // Which object a legacy back-reference stands for: through the index, or by the plain search where the index lacks the room.
-ghost use Rattle.std.specs.Prelude.{◌&&◌, ◌≡◌, ◌+◌, ◌*◌, ◌^◌, ◌<◌, ◌≤◌, ltb, leb, length};
+ghost use Rattle.std.specs.Prelude.{◌≡◌, ◌⊎◌, ℕ, ◌+◌, ◌*◌, ◌^◌, ◌<◌, ◌≤◌, length, IfSome, IsNone};
 ghost use Rattle.tables.specs.Records.{room};
 ghost use Rattle.alloc.specs.Resolve.{resolve_of, ordinal_from};
 ghost use Rattle.address_index.specs.Links.{Linked};
-ghost use Rattle.address_index.specs.Sorted.{Sorted};
+ghost use Rattle.address_index.specs.Sorted.{Sorted, Sorted-prop};
 
-use crate::find::{find, find_ordinal};
+use crate::find::Search;
+use crate::ordinals::Ordinal;
 use alloc::fill::fill_to_align;
-use alloc::resolve::Found;
+use alloc::resolve::Place;
 
-// The index has a place for this space and room for n records.
-fn has_room(index: &[u64], n: usize, space: u64) -> bool
-    requires { n < 2 ^ 60 }
-    ensures { result ≡ ltb space 256 && leb (256 + n * 3) (length index.now) }
-{
-    (space < 256) & (256 + n * 3 <= index.len())
+// The first `count` address records and their index.
+#[derive(Clone, Copy)]
+pub struct AddressIndex<'a> {
+    pub table: &'a [u64],
+    pub links: &'a [u64],
+    pub count: usize,
+    ghost within: { count ≤ room 5 table.now },
+    ghost linked: { Linked table.now count links.now },
+    ghost sorted: { Sorted table.now count } by { Sorted-prop table.now count },
 }
 
-// The object at an address; where there is none and an alignment is pending, the one after the filler.
-pub fn resolve(
-    table: &[u64],
-    index: &[u64],
-    n: usize,
-    space: u64,
-    chunk: u64,
-    offset: u64,
-    alignment: u64,
-    word: u64,
-) -> Found
-    requires { (n ≤ room 5 table.now) × (offset < 2 ^ 32) × (word ≤ 8) × Linked table.now n index.now × Sorted table.now n }
-    ensures { result ≡ resolve_of table.now n space chunk offset alignment word }
-{
-    if !has_room(index, n, space) {
-        return alloc::resolve::resolve(table, n, space, chunk, offset, alignment, word);
-    }
-    let found = find(table, index, n, space, chunk, offset);
-    if let Found::Object(_) = found {
-        return found;
-    }
-    let pad = fill_to_align(offset, alignment, word);
-    if pad == 0 {
-        return Found::Nothing;
-    }
-    find(table, index, n, space, chunk, offset + pad)
-}
+impl<'a> AddressIndex<'a> {
+    ghost use Rattle.address_index.specs.Searches.{Searches};
 
-// The object whose number among the n records of a space is `number`.
-pub fn resolve_ordinal(table: &[u64], index: &[u64], n: usize, space: u64, number: u64) -> Found
-    requires { (n ≤ room 5 table.now) × Linked table.now n index.now × Sorted table.now n }
-    ensures { result ≡ ordinal_from table.now space number 0 n }
-{
-    if has_room(index, n, space) {
-        return find_ordinal(table, index, n, space, number);
+    // The search in a space, where the index has a place for the space and room for all records.
+    fn search(self, space: u64) -> Option<Search<'a>>
+        ensures some { IfSome result (Searches self.entry.table.now self.entry.links.now self.entry.count space) }
+        ensures none { IsNone result → (256 ≤ space) ⊎ (length self.entry.links.now < 256 + self.entry.count * 3) }
+    {
+        if space < 256 && 256 + self.count * 3 <= self.links.len() {
+            Some(Search {
+                table: self.table,
+                links: self.links,
+                count: self.count,
+                space,
+            })
+        } else {
+            None
+        }
     }
-    alloc::resolve::resolve_ordinal(table, n, space, number)
+
+    // The object at an address; where there is none and an alignment is pending, the one after the filler.
+    #[tactic(auto, using(alloc::proofs::Laws::fill_bound), unfolding(alloc::specs::Resolve::resolve_of))]
+    pub fn resolve(self, space: u64, place: Place, alignment: u64, word: u64) -> Option<u64>
+        requires { (place.offset < 2 ^ 32) × (word ≤ 8) }
+        ensures { result ≡ resolve_of self.entry.table.now self.entry.count space place.chunk place.offset alignment word }
+    {
+        let Some(search) = self.search(space) else {
+            return alloc::resolve::resolve(self.table, self.count, space, place, alignment, word);
+        };
+        let found = search.find(place);
+        if found.is_some() {
+            return found;
+        }
+        let pad = fill_to_align(place.offset, alignment, word);
+        if pad == 0 {
+            return None;
+        }
+        search.find(place.after(pad))
+    }
+
+    // The object whose number among the records of a space is `number`.
+    pub fn resolve_ordinal(self, space: u64, number: u64) -> Option<u64>
+        ensures { result ≡ ordinal_from self.entry.table.now space number 0 self.entry.count }
+    {
+        match self.search(space) {
+            Some(search) => search.find(Ordinal(number)),
+            None => alloc::resolve::resolve_ordinal(self.table, self.count, space, number),
+        }
+    }
 }

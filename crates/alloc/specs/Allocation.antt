@@ -1,12 +1,13 @@
 -- Allocation in legacy spaces (`LegacyAlloc`; V8's `DeserializerAllocator` up to 8.7). Assumes nothing: these are definitions.
 -- Here the Rust leaves V8: map and large-object spaces run through the counters too (D28), a space without counters leaves the
 -- alignment pending (D30), and chunk ends are not checked (D32); docs/DIFFERENCES.md.
-use Rattle.std.specs.Prelude.{◌≡◌, Bool, true, false, ◌||◌, List, [], ◌∷◌, ℕ, ◌+◌, ◌^◌, ltb, leb, eqb, get_or, set, replicate}
+use Rattle.std.specs.Prelude.{◌≡◌, Bool, true, false, ◌||◌, List, [], ◌∷◌, ℕ, ◌+◌, ◌^◌, ltb, leb, eqb, get_or, set, replicate, Result, Ok, Err}
+use Rattle.refusals.specs.declared.refusal.Refusal.{Refusal}
+use Rattle.refusals.specs.Numbers.{number_of}
 use Rattle.tables.specs.Records.{room, written, address_row}
 use Rattle.alloc.specs.Fill.{pick_ℕ, max_fill_to_align, fill_to_align}
 use Rattle.alloc.specs.declared.legacy_alloc.LegacyAlloc.{LegacyAlloc}
 use Rattle.alloc.specs.declared.legacy_alloc.Request.{Request}
-use Rattle.alloc.specs.declared.legacy_alloc.Allocated.{Allocated}
 use Rattle.alloc.specs.declared.legacy_alloc.Placed.{Placed}
 
 -- an entry of the reservation list ends its space by its top bit
@@ -71,13 +72,19 @@ allocate_of t n spaces want c =
     (outcome 0 want.alignment c (written t n (address_row want.space 0 0 want.object 0)))
     (placed t n want c (get_or c.used want.space 0))))
 
--- what the code returns, with the table that it leaves
-abbrev pub seen : Allocated → List ℕ → Outcome
-seen r t = outcome r.number r.alignment r.alloc t
+-- what the code returns, with the counters and the table that it leaves; refused, the alignment `a` that was pending stays so
+abbrev pub seen : ℕ → Result ℕ Refusal → LegacyAlloc → List ℕ → Outcome
+seen a (Ok b) c t = outcome 0 b c t
+seen a (Err r) c t = outcome (number_of r) a c t
+
+-- what storing the offset that `place` answers gives
+abbrev pub stored : Request → Result Placed Refusal → LegacyAlloc → List ℕ → Outcome
+stored want (Ok p) c t = outcome 0 p.alignment (record { cur = c.cur; used = set c.used want.space p.free }) t
+stored want (Err r) c t = outcome (number_of r) want.alignment c t
 
 -- `place` sees of the counters only the space's chunk and its next free offset: in all counters that have these, storing the offset that
 -- it answers is the allocation
-pub record Places (t : List ℕ) (n spaces : ℕ) (want : Request) (used chunk : ℕ) (r : Placed) (after : List ℕ) : Type 0 where
-  pub stored : (c : LegacyAlloc) → get_or c.used want.space 0 ≡ used → get_or c.cur want.space 0 ≡ chunk
-      → outcome r.number r.alignment (record { cur = c.cur; used = set c.used want.space r.free }) after
-      ≡ allocate_of t n spaces want c
+abbrev pub Places : List ℕ → ℕ → ℕ → Request → ℕ → ℕ → Result Placed Refusal → List ℕ → Type 0
+Places t n spaces want used chunk r after =
+    (c : LegacyAlloc) → get_or c.used want.space 0 ≡ used → get_or c.cur want.space 0 ≡ chunk
+    → stored want r c after ≡ allocate_of t n spaces want c

@@ -1,17 +1,15 @@
 -- What a legacy back-reference stands for (`LegacyAlloc::resolve` and `resolve_ordinal`). Assumes nothing: these are definitions.
-use Rattle.std.specs.Prelude.{Bool, true, false, ◌&&◌, List, ℕ, zero, suc, ◌+◌, ◌-◌, eqb}
+use Rattle.std.specs.Prelude.{Bool, true, false, ◌&&◌, List, ℕ, zero, suc, ◌+◌, ◌-◌, eqb, Option, Some, None}
 use Rattle.tables.specs.Records.{field}
 use Rattle.alloc.specs.Fill.{fill_to_align}
-use Rattle.alloc.specs.declared.resolve.Found.{Found}
-use Rattle.alloc.specs.declared.resolve.Found.TheVariants.{Object, Nothing}
 
-abbrev pub pick_found : Bool → Found → Found → Found
+abbrev pub pick_found : Bool → Option ℕ → Option ℕ → Option ℕ
 pick_found true a b = a
 pick_found false a b = b
 
-abbrev pub or_else : Found → Found → Found
-or_else (Object o) other = Object o
-or_else Nothing other = other
+abbrev pub or_else : Option ℕ → Option ℕ → Option ℕ
+or_else (Some o) other = Some o
+or_else None other = other
 
 -- address record k is placed at this address
 abbrev pub is_address : List ℕ → ℕ → ℕ → ℕ → ℕ → Bool
@@ -19,22 +17,22 @@ is_address t space chunk offset k =
     eqb (field 5 t k 0) space && eqb (field 5 t k 1) chunk && eqb (field 5 t k 2) offset && eqb (field 5 t k 4) 1
 
 -- the object at an address: of the first n records the newest that is placed there
-unfoldable pub addressed : List ℕ → ℕ → ℕ → ℕ → ℕ → Found
-addressed t space chunk offset zero = Nothing
+unfoldable pub addressed : List ℕ → ℕ → ℕ → ℕ → ℕ → Option ℕ
+addressed t space chunk offset zero = None
 addressed t space chunk offset (suc n) =
-    pick_found (is_address t space chunk offset n) (Object (field 5 t n 3)) (addressed t space chunk offset n)
+    pick_found (is_address t space chunk offset n) (Some (field 5 t n 3)) (addressed t space chunk offset n)
 
 -- the exact address is tried first, then the one after the filler of the pending alignment (difference D29: V8 takes the latter alone)
-unfoldable pub resolve_of : List ℕ → ℕ → ℕ → ℕ → ℕ → ℕ → ℕ → Found
+unfoldable pub resolve_of : List ℕ → ℕ → ℕ → ℕ → ℕ → ℕ → ℕ → Option ℕ
 resolve_of t n space chunk offset alignment word =
     or_else (addressed t space chunk offset n)
-    (pick_found (eqb (fill_to_align offset alignment word) 0) Nothing
+    (pick_found (eqb (fill_to_align offset alignment word) 0) None
     (addressed t space chunk (offset + fill_to_align offset alignment word) n))
 
 -- of the n records from record k on, the object of the one that is number `index` among those of a space
-unfoldable pub ordinal_from : List ℕ → ℕ → ℕ → ℕ → ℕ → Found
-ordinal_from t space index k zero = Nothing
+unfoldable pub ordinal_from : List ℕ → ℕ → ℕ → ℕ → ℕ → Option ℕ
+ordinal_from t space index k zero = None
 ordinal_from t space index k (suc n) =
     pick_found (eqb (field 5 t k 0) space)
-    (pick_found (eqb index 0) (Object (field 5 t k 3)) (ordinal_from t space (index - 1) (k + 1) n))
+    (pick_found (eqb index 0) (Some (field 5 t k 3)) (ordinal_from t space (index - 1) (k + 1) n))
     (ordinal_from t space index (k + 1) n)

@@ -3,6 +3,7 @@ ghost use Rattle.std.specs.Prelude.{◌≡◌, ◌-◌, ◌^◌, ◌<◌, ◌≤
 ghost use Rattle.alloc.specs.Allocation.{zero_counters, spaces_of, next_chunk, advance_of, outcome, allocate_of, seen, Places};
 
 use crate::fill::{fill_to_align, max_fill_to_align};
+use refusals::refusal::Refusal;
 use tables::records::add_address;
 
 // Two counters for each of 256 spaces: the current chunk, and the next free offset in it.
@@ -22,35 +23,26 @@ pub struct Request {
     pub word: u64,
 }
 
-// A refusal's number or 0, the alignment that is pending now, and the counters.
+// The alignment that is pending now or a refusal, and the counters.
 #[derive(Drop)]
 pub struct Allocated {
-    pub number: u64,
-    pub alignment: u64,
+    pub alignment: Result<u64, Refusal>,
     pub alloc: LegacyAlloc,
 }
 
-// What an allocation does in its space: a refusal's number or 0, the alignment that is pending now, and the next free offset.
+// What an allocation does in its space: the alignment that is pending now, and the next free offset.
 #[derive(Clone, Copy)]
 pub struct Placed {
-    pub number: u64,
     pub alignment: u64,
     pub free: u32,
 }
 
 // How many spaces a reservation list gives counters: its top bits plus 1.
+#[tactic(auto, using(crate::proofs::Laws::spaces_counted))]
 pub fn spaces(reservations: &[u32]) -> u64
     ensures { result ≡ spaces_of reservations.now }
 {
-    let mut n: u64 = 1;
-    let mut i = 0;
-    while i < reservations.len() {
-        if 2147483648 <= reservations[i] {
-            n += 1;
-        }
-        i += 1;
-    }
-    n
+    reservations.iter().filter(|r| 2147483648 <= **r).count() as u64 + 1
 }
 
 impl LegacyAlloc {
@@ -65,31 +57,20 @@ impl LegacyAlloc {
     }
 
     // The same as `allocate` below, with the counters by value.
-    pub fn allocate(self, table: &mut [u64], n: usize, spaces: u64, want: Request) -> Allocated
+    pub fn allocate(mut self, table: &mut [u64], n: usize, spaces: u64, want: Request) -> Allocated
         requires { (want.space < 256) × (want.word ≤ 8) }
-        ensures { seen result table.new ≡ allocate_of table.old n spaces want self }
+        ensures { seen want.alignment result.alignment result.alloc table.new ≡ allocate_of table.old n spaces want self }
     {
-        let cur = self.cur;
-        let mut used = self.used;
-        let placed = allocate(&cur, &mut used, table, n, spaces, want);
+        let alignment = allocate(&self.cur, &mut self.used, table, n, spaces, want);
         Allocated {
-            number: placed.number,
-            alignment: placed.alignment,
-            alloc: LegacyAlloc { cur, used },
+            alignment,
+            alloc: self,
         }
     }
 }
 
-// A counter of a space.
-fn counter(counters: &[u32], i: usize) -> u64
-    requires { i < length counters.now }
-    ensures { (result ≡ get_or counters.now i 0) × (result < 2 ^ 32) }
-{
-    counters[i] as u64
-}
-
-// Address record n of an object. 3: no room for the record; 16: the size, the address or the next free offset passes 2^32 - 1; then
-// nothing changes. A space without counters gets a record that is not placed, and the alignment stays pending.
+// Address record n of an object: the alignment that is pending then. Refused (no room for the record; the size, the address or the next
+// free offset passes 2^32 - 1), nothing changes. A space without counters gets a record that is not placed, and the alignment stays pending.
 pub fn allocate(
     cur: &[u32; 256],
     used: &mut [u32; 256],
@@ -97,20 +78,18 @@ pub fn allocate(
     n: usize,
     spaces: u64,
     want: Request,
-) -> Placed
+) -> Result<u64, Refusal>
     requires { (want.space < 256) × (want.word ≤ 8) }
-    ensures { outcome result.number result.alignment (record { cur = cur.now; used = used.new }) table.new ≡ allocate_of table.old n spaces want (record { cur = cur.now; used = used.old }) }
+    ensures { seen want.alignment result (record { cur = cur.now; used = used.new }) table.new ≡ allocate_of table.old n spaces want (record { cur = cur.now; used = used.old }) }
 {
     let i = want.space as usize;
-    let free = counter(used, i);
-    let chunk = counter(cur, i);
-    let placed = place(table, n, spaces, want, free, chunk);
-    // each way out stores an offset: where nothing is placed, the one that was there
+    let placed = place(table, n, spaces, want, used[i], cur[i])?;
     used[i] = placed.free;
-    placed
+    Ok(placed.alignment)
 }
 
 // A chunk change: the space goes on at offset 0 of its next chunk. A space without counters stays.
+#[tactic(auto, unfolding(crate::specs::Allocation::next_chunk))]
 pub fn next_chunk(cur: &mut [u32; 256], used: &mut [u32; 256], spaces: u64, space: u64)
     requires { (space < 256) × (get_or cur.old space 0 < 2 ^ 32 - 1) }
     ensures { (cur.new ≡ (next_chunk (record { cur = cur.old; used = used.old }) spaces space).cur) × (used.new ≡ (next_chunk (record { cur = cur.old; used = used.old }) spaces space).used) }
@@ -119,45 +98,51 @@ pub fn next_chunk(cur: &mut [u32; 256], used: &mut [u32; 256], spaces: u64, spac
         return;
     }
     let i = space as usize;
-    cur[i] = cur[i] + 1;
+    cur[i] += 1;
     used[i] = 0;
 }
 
 // The tests of an allocation and its record, in a space with this next free offset and this chunk.
-fn place(table: &mut [u64], n: usize, spaces: u64, want: Request, used: u64, chunk: u64) -> Placed
-    requires { (used < 2 ^ 32) × (want.word ≤ 8) }
+#[tactic(auto, using(crate::proofs::Laws::fill_bound, crate::proofs::Laws::advance_bound), unfolding(crate::specs::Allocation::allocate_of))]
+fn place(
+    table: &mut [u64],
+    n: usize,
+    spaces: u64,
+    want: Request,
+    used: u32,
+    chunk: u32,
+) -> Result<Placed, Refusal>
+    requires { want.word ≤ 8 }
     ensures { Places table.old n spaces want used chunk result table.new }
 {
-    let mut answer = Placed {
-        number: 0,
-        alignment: want.alignment,
-        free: used as u32,
-    };
     if table.len() / 5 <= n {
-        answer.number = 3;
-        return answer;
+        return Err(Refusal::NoRoom);
     }
     if 4294967295 < want.size {
-        answer.number = 16;
-        return answer;
+        return Err(Refusal::AddressTooLarge);
     }
     if spaces <= want.space {
         add_address(table, n, want.space, 0, 0, want.object, 0);
-        return answer;
+        return Ok(Placed {
+            alignment: want.alignment,
+            free: used,
+        });
     }
-    let offset = used + fill_to_align(used, want.alignment, want.word);
-    let free = used + advance(want.size, want.alignment, want.word);
+    let next = used as u64;
+    let offset = next + fill_to_align(next, want.alignment, want.word);
+    let free = next + advance(want.size, want.alignment, want.word);
     if 4294967295 < offset || 4294967295 < free {
-        answer.number = 16;
-        return answer;
+        return Err(Refusal::AddressTooLarge);
     }
-    add_address(table, n, want.space, chunk, offset, want.object, 1);
-    answer.alignment = 0;
-    answer.free = free as u32;
-    answer
+    add_address(table, n, want.space, chunk as u64, offset, want.object, 1);
+    Ok(Placed {
+        alignment: 0,
+        free: free as u32,
+    })
 }
 
 // How far the next free offset moves: by the size, and with an alignment pending by the most that a filler can take as well.
+#[tactic(auto, unfolding(crate::specs::Allocation::advance_of, crate::specs::Fill::max_fill_to_align))]
 fn advance(size: u64, alignment: u64, word: u64) -> u64
     requires { size < 2 ^ 33 }
     ensures { result ≡ advance_of size alignment word }

@@ -5,77 +5,89 @@ ghost use Rattle.alloc.specs.Resolve.{is_address, addressed, resolve_of, ordinal
 
 use crate::fill::fill_to_align;
 
+// A place in a space.
 #[derive(Clone, Copy)]
-pub enum Found {
-    Object(u64),
-    Nothing,
+pub struct Place {
+    pub chunk: u64,
+    pub offset: u64,
+}
+
+impl Place {
+    // The place so many bytes further on in the chunk.
+    pub fn after(self, bytes: u64) -> Place
+        requires { self.offset + bytes < 2 ^ 64 }
+        ensures { result ≡ record { chunk = self.chunk; offset = self.offset + bytes } }
+    {
+        Place {
+            chunk: self.chunk,
+            offset: self.offset + bytes,
+        }
+    }
 }
 
 // Record i is placed at this address.
-fn is_address(table: &[u64], i: usize, space: u64, chunk: u64, offset: u64) -> bool
+fn is_address(table: &[u64], i: usize, space: u64, place: Place) -> bool
     requires { i < room 5 table.now }
-    ensures { result ≡ is_address table.now space chunk offset i }
+    ensures { result ≡ is_address table.now space place.chunk place.offset i }
 {
     table[i * 5] == space
-        && table[i * 5 + 1] == chunk
-        && table[i * 5 + 2] == offset
+        && table[i * 5 + 1] == place.chunk
+        && table[i * 5 + 2] == place.offset
         && table[i * 5 + 4] == 1
 }
 
-// The newest of n records that is placed at this address.
-pub fn find_address(table: &[u64], n: usize, space: u64, chunk: u64, offset: u64) -> Found
+// The object of the newest of n records that is placed at this address.
+#[tactic(auto, using(crate::proofs::Laws::last_record), unfolding(crate::specs::Resolve::addressed))]
+pub fn find_address(table: &[u64], n: usize, space: u64, place: Place) -> Option<u64>
     requires { n ≤ room 5 table.now }
-    ensures { result ≡ addressed table.now space chunk offset n }
+    ensures { result ≡ addressed table.now space place.chunk place.offset n }
 {
-    let mut i = n;
-    while 0 < i {
-        i -= 1;
-        if is_address(table, i, space, chunk, offset) {
-            return Found::Object(table[i * 5 + 3]);
+    for i in (0..n).rev() {
+        if is_address(table, i, space, place) {
+            return Some(table[i * 5 + 3]);
         }
     }
-    Found::Nothing
+    None
 }
 
 // The object at an address; where there is none and an alignment is pending, the one after the filler.
+#[tactic(auto, using(crate::proofs::Laws::fill_bound), unfolding(crate::specs::Resolve::resolve_of))]
 pub fn resolve(
     table: &[u64],
     n: usize,
     space: u64,
-    chunk: u64,
-    offset: u64,
+    place: Place,
     alignment: u64,
     word: u64,
-) -> Found
-    requires { (n ≤ room 5 table.now) × (offset < 2 ^ 32) × (word ≤ 8) }
-    ensures { result ≡ resolve_of table.now n space chunk offset alignment word }
+) -> Option<u64>
+    requires { (n ≤ room 5 table.now) × (place.offset < 2 ^ 32) × (word ≤ 8) }
+    ensures { result ≡ resolve_of table.now n space place.chunk place.offset alignment word }
 {
-    let found = find_address(table, n, space, chunk, offset);
-    if let Found::Object(_) = found {
+    let found = find_address(table, n, space, place);
+    if found.is_some() {
         return found;
     }
-    let pad = fill_to_align(offset, alignment, word);
+    let pad = fill_to_align(place.offset, alignment, word);
     if pad == 0 {
-        return Found::Nothing;
+        return None;
     }
-    find_address(table, n, space, chunk, offset + pad)
+    find_address(table, n, space, place.after(pad))
 }
 
 // The object whose number among the n records of a space is `index`.
-pub fn resolve_ordinal(table: &[u64], n: usize, space: u64, index: u64) -> Found
+#[tactic(auto, using(crate::proofs::Laws::next_record), unfolding(crate::specs::Resolve::ordinal_from))]
+pub fn resolve_ordinal(table: &[u64], n: usize, space: u64, index: u64) -> Option<u64>
     requires { n ≤ room 5 table.now }
     ensures { result ≡ ordinal_from table.now space index 0 n }
 {
     let mut left = index;
-    let mut i: usize = 0;
-    while i < n {
+    for i in 0..n {
         if table[i * 5] == space {
             if left == 0 {
-                return Found::Object(table[i * 5 + 3]);
+                return Some(table[i * 5 + 3]);
             }
             left -= 1;
         }
-        i += 1;
     }
-    Found::Nothing
+    None
 }

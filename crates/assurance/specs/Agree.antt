@@ -1,13 +1,12 @@
 -- Two payloads that agree below a place, and the two readings of them up to it: a walk that is accepted came to the kSynchronize that ends its
 -- closing section, and so does the other, if that stands below the place. For every sheet that is not legacy. Assumes nothing.
-use Rattle.std.specs.Prelude.{◌≡◌, refl, Bool, true, false, List, [], ◌∷◌, ℕ, zero, suc, ◌+◌, ◌-◌, ◌/◌, ◌%◌, ◌<◌, ◌≤◌, ltb, leb, get_or}
+use Rattle.std.specs.Prelude.{◌≡◌, refl, Bool, true, false, List, [], ◌∷◌, ℕ, zero, suc, ◌+◌, ◌-◌, ◌/◌, ◌%◌, ◌<◌, ◌≤◌, ltb, leb, get_or, Option, Some, None}
 use Rattle.std.proofs.Math.Path.{sym, ap}
 use Rattle.std.proofs.Common.{◌∙◌, append-nil}
 use native.Mathlib.Omega.{arith}
 use borrow.Author.Tests.{ltb-false, leb-false}
 use Rattle.std.proofs.Math.ListN.{length}
 use Rattle.stream.specs.declared.putint.Int.{Int}
-use Rattle.stream.specs.declared.putint.Int.TheVariants.{Is, Cut}
 use Rattle.stream.specs.Bytes.{peek_at, little_endian}
 use Rattle.stream.specs.PutInt.{pick_int, int_length, int_at}
 use Rattle.stream.proofs.ByteLaws.{peek-byte}
@@ -22,18 +21,18 @@ use Rattle.assurance.specs.SimulateCall.{start_fits}
 
 -- ---- bytes and integers
 
-module _ (p : List ℕ) (a v n : ℕ) where
-  picked : (b : Bool) (i : Int) → pick_int b Cut i ≡ Is v n → (b ≡ false) × (i ≡ Is v n)
-  picked true i e = absurd (let z : ◌≡◌ {A = ℕ} 0 1 = cc in omega arith)
-  picked false i e = (refl, e)
+module _ (p : List ℕ) (a : ℕ) (i : Int) where
+  picked : (b : Bool) (o : Option Int) → pick_int b None o ≡ Some i → (b ≡ false) × (o ≡ Some i)
+  picked true o e = absurd (let z : ◌≡◌ {A = ℕ} 0 1 = cc in omega arith)
+  picked false o e = (refl, e)
 
-  int_known : int_at p a ≡ Is v n → (a < length p) × (n ≤ length p - a) × (int_length p a ≡ n) × (little_endian p a n / 4 ≡ v)
+  int_known : int_at p a ≡ Some i → (a < length p) × (i.count ≤ length p - a) × (int_length p a ≡ i.count) × (little_endian p a i.count / 4 ≡ i.value)
   unfolding int_at
   int_known e =
       let s = picked (leb (length p) a) _ e in
       let t = picked (ltb (length p - a) (int_length p a)) _ s.1 in
-      let c : int_length p a ≡ n = cc t.1 in
-      let w : little_endian p a (int_length p a) / 4 ≡ v = cc t.1 in
+      let c : int_length p a ≡ i.count = cc t.1 in
+      let w : little_endian p a (int_length p a) / 4 ≡ i.value = cc t.1 in
       let l : int_length p a ≤ length p - a = ltb-false _ _ t.0 in
       (leb-false _ _ s.0, omega arith, c, rw c at w)
 
@@ -52,14 +51,14 @@ module _ {p p' : List ℕ} {L : ℕ} (ag : BeginsAs p p' L) where
   peek_agree : (a : ℕ) → a < L → peek_at p' a ≡ peek_at p a
   peek_agree a l = sym (peek-byte p' a (omega (arith, ag.long')) (sym (ag.same a l))) ∙ peek-byte p a (omega (arith, ag.long)) refl
 
-  int_agree : (a v n : ℕ) → a + n < L → int_at p a ≡ Is v n → int_at p' a ≡ Is v n
+  int_agree : (a : ℕ) (i : Int) → a + i.count < L → int_at p a ≡ Some i → int_at p' a ≡ Some i
   unfolding int_length
-  int_agree a v n l e =
-      let k = int_known p a v n e in
-      let c : int_length p' a ≡ n = ap (λ (b : ℕ). b % 4 + 1) (ag.same a (omega arith)) ∙ k.2 in
+  int_agree a i l e =
+      let k = int_known p a i e in
+      let c : int_length p' a ≡ i.count = ap (λ (b : ℕ). b % 4 + 1) (ag.same a (omega arith)) ∙ k.2 in
       sym (int_is p' a (omega (arith, ag.long')) (sym c) (omega (arith, ag.long')) refl)
-      ∙ ap (λ (w : ℕ). Is (w / 4) n) (le_same p p' a n (λ i b. ag.same i (omega arith)))
-      ∙ ap (λ (w : ℕ). Is w n) k.3
+      ∙ ap (λ (w : ℕ). Some (record i { value = w / 4 })) (le_same p p' a i.count (λ j b. ag.same j (omega arith)))
+      ∙ ap (λ (w : ℕ). Some (record i { value = w })) k.3
 
 -- ---- the two readings
 
@@ -116,7 +115,7 @@ module _ (x : Input) (modern : is_legacy x.sheet ≡ false) where
           fuel_more = (λ s a n n' v f. omega (arith, ag.long'));
           fuel_zero = (λ s a n' v f. absurd (omega (arith, ag.long)));
           in_payload = (λ a l. l);
-          in_int = (λ a v n e. let k = int_known x.payload a v n e in omega (arith, k.0, k.1));
+          in_int = (λ a i e. let k = int_known x.payload a i e in omega (arith, k.0, k.1));
           in_legacy = (λ e a. absurd (not_legacy e));
           on_logged = (λ e l t. (e ∷ t.0, ap (note e) t.1));
           stop_here = (λ m t l. record { before = t.0; told_last = ap (note (synchronize m.at)) t.1 ∙ ap (λ (q : ℕ). told (synchronize q ∷ t.0)) (omega arith); behind = omega arith; within = omega arith });

@@ -1,8 +1,7 @@
 -- What holds of what a reader gives, where it does not refuse; and the two leaves that move the cursor. Assumes nothing.
-use Rattle.std.specs.Prelude.{◌≡◌, refl, Bool, true, false, ℕ, ◌+◌, ◌<◌, ◌≤◌, ltb, length, get_or}
+use Rattle.std.specs.Prelude.{◌≡◌, refl, Bool, true, false, ℕ, ◌+◌, ◌<◌, ◌≤◌, ltb, length, get_or, Option, Some, None}
 use Rattle.std.proofs.Common.{arith, ltb-true}
 use Rattle.stream.specs.declared.putint.Int.{Int}
-use Rattle.stream.specs.declared.putint.Int.TheVariants.{Is, Cut}
 use Rattle.stream.specs.PutInt.{int_at}
 use Rattle.stream.proofs.ByteLaws.{Bytes}
 use Rattle.definition.specs.Memory.{Input, Mem, Out, got, no, Reader, and_then, choose, moved, byte, after_int, int}
@@ -49,9 +48,9 @@ module _ (x : Input) where
   unfolding byte
   byte_gives Q m h = gives-choose Q (ltb m.at (length x.payload)) _ _ m (λ t. gives Q _ _ (h (ltb-true _ _ t))) (λ t. refused Q _ _ _)
 
-  after_int_lem : (Q : ℕ → Mem → Type 0) (m : Mem) (i : Int) → IntEnds x.payload m.at i → ((v at : ℕ) → m.at < at → at ≤ length x.payload → Q v (moved at m)) → Gives Q (after_int x i m)
-  after_int_lem Q m (Is v n) e h = gives Q _ _ (h v (m.at + n) (omega (arith, e.0)) e.2)
-  after_int_lem Q m Cut e h = refused Q _ _ _
+  after_int_lem : (Q : ℕ → Mem → Type 0) (m : Mem) (i : Option Int) → IntEnds x.payload m.at i → ((v at : ℕ) → m.at < at → at ≤ length x.payload → Q v (moved at m)) → Gives Q (after_int x i m)
+  after_int_lem Q m (Some i) e h = gives Q _ _ (h i.value (m.at + i.count) (omega (arith, e.0)) e.2)
+  after_int_lem Q m None e h = refused Q _ _ _
 
   pub int_gives : Bytes x.payload → (Q : ℕ → Mem → Type 0) (m : Mem) → ((v at : ℕ) → m.at < at → at ≤ length x.payload → Q v (moved at m)) → Gives Q (int x m)
   unfolding int

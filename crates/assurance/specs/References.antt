@@ -1,12 +1,10 @@
 -- What the rules keep is kept by every reader, under a plain sheet: references. Assumes nothing.
-use Rattle.std.specs.Prelude.{◌≡◌, Bool, List, ltb}
+use Rattle.std.specs.Prelude.{◌≡◌, Bool, List, ltb, Option, Some, None}
 use Rattle.std.proofs.Math.Path.{refl}
 use Rattle.std.proofs.Math.Bool.{true}
 use Prim.Native.Nat.{ℕ, zero, suc, ◌+◌, ◌*◌, ◌-◌, ◌^◌, ◌<◌, ◌≤◌}
 use Rattle.std.proofs.Common.{arith, ltb-true}
 use Rattle.std.proofs.Math.ListN.{length}
-use Rattle.stream.specs.declared.bytes.Range.{Range}
-use Rattle.stream.specs.declared.bytes.Range.TheVariants.{To as RangeTo, Past}
 use Rattle.stream.specs.Bytes.{raw_at}
 use Rattle.stream.proofs.ByteLaws.{Bytes}
 use Rattle.sheet.specs.Sheet.{raw_advances}
@@ -17,8 +15,6 @@ use Rattle.tables.specs.declared.values.Ref.TheVariants.{Object, Root}
 use Rattle.tables.specs.declared.values.SlotValue.{SlotValue}
 use Rattle.tables.specs.declared.values.SlotValue.TheVariants.{Ref as IsRef, Repeat, WeakRef}
 use Rattle.tables.specs.Values.{fields_of}
-use Rattle.backref.specs.declared.hot_ring.Hot.{Hot}
-use Rattle.backref.specs.declared.hot_ring.Hot.TheVariants.{Is, Empty}
 use Rattle.backref.specs.HotRing.{hot_at}
 use Rattle.definition.specs.Memory.{◌>>=◌, Input, word, Mem, Reader, byte, int, moved, has_room}
 use Rattle.definition.specs.Slots.{add_value}
@@ -58,9 +54,9 @@ module _ (x : Input) (bytes : Bytes x.payload) (plainly : PlainSheet x.sheet) (I
     hot_has : (i : ℕ) (m : Mem) → i < 8 → G S m → Gives (H S) (hot_place i m)
     hot_has i m l g = at (hot_at m.hot i) refl
       where
-        at : (h : Hot) → hot_at m.hot i ≡ h → Gives (H S) (of_hot h m)
-        at (Is r) e = gives (H S) _ _ (g, rules.on_hot S m i r g.1 l e, tt)
-        at Empty e = refused (H S) _ _ _
+        at : (h : Option Ref) → hot_at m.hot i ≡ h → Gives (H S) (of_hot h m)
+        at (Some r) e = gives (H S) _ _ (g, rules.on_hot S m i r g.1 l e, tt)
+        at None e = refused (H S) _ _ _
 
     outside_has : (k : ℕ) (m : Mem) → G S m → Gives (H S) (outside x k m)
     outside_has k m g = gives_then (λ n. G S) (H S) (int x m) _ (number_has m g) (λ i m h. gives (H S) _ _ (h, rules.on_read_only S m (2 ^ 32 - k) i h.1, tt))
@@ -73,12 +69,12 @@ module _ (x : Input) (bytes : Bytes x.payload) (plainly : PlainSheet x.sheet) (I
     unfolding raw_data
     raw_has n advances m l g = at (raw_at x.payload m.at n) (raw_ends x.payload m.at n)
       where
-        at : (r : Range) → RawEnds x.payload m.at n r → Gives (H S) (after_raw n advances r m)
-        at (RangeTo end) e =
+        at : (r : Option ℕ) → RawEnds x.payload m.at n r → Gives (H S) (after_raw n advances r m)
+        at (Some end) e =
             let h : m.at + n ≤ length x.payload = omega (arith, e.0, e.1) in
             let z = rules.on_raw S m n advances g.1 l h in
             rw e.0 (gives (H S) _ _ ((base_same x S m g.0 (passing n m) h refl refl refl, z.0), z.1, tt))
-        at Past e = refused (H S) _ _ _
+        at None e = refused (H S) _ _ _
 
     -- ---- values
 

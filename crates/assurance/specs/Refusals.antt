@@ -1,14 +1,11 @@
 -- A call that is refused gets one of document 01's numbers, 1 to 16. Assumes nothing.
-use Rattle.std.specs.Prelude.{◌≡◌, refl, Bool, true, false, not, ◌&&◌, ◌||◌, ltb, leb, List, length, get_or, set}
+use Rattle.std.specs.Prelude.{◌≡◌, refl, Bool, true, false, not, ◌&&◌, ◌||◌, ltb, leb, List, length, get_or, set, Option, Some, None, Ok, Err}
 use Prim.Native.Nat.{ℕ, zero, suc, ◌+◌, ◌-◌, ◌*◌, ◌/◌, ◌<◌, ◌≤◌}
 use native.Mathlib.Omega.{arith}
 use borrow.Author.Tests.{eqb-true, eqb-false}
 use Rattle.std.proofs.Math.Dec.{eqb}
-use Rattle.stream.specs.declared.bytes.Range.{Range}
-use Rattle.stream.specs.declared.bytes.Range.TheVariants.{To as RangeTo, Past}
 use Rattle.stream.specs.Bytes.{peek_at, raw_at}
 use Rattle.stream.specs.declared.putint.Int.{Int}
-use Rattle.stream.specs.declared.putint.Int.TheVariants.{Is as IntIs, Cut as IntCut}
 use Rattle.stream.specs.PutInt.{int_at}
 use Rattle.sheet.specs.Sheet.{usable, is_legacy, is_six_x, is_map_first, lo_space}
 use Rattle.heads.specs.Kinds.{new_object, backref, legacy_backref, legacy_backref_with_skip, next_chunk, alignment, hot, hot_with_skip, root_array, root_constant, root_constant_with_skip, read_only, attached, builtin, external, api, internal, deoptimizer, stream_bytes, embedder_fields, off_heap_target, cache, register_pending, cleared_weak, weak_prefix, pointer_prefix, dispatch_entry, fixed_raw, variable_raw, skip, fixed_repeat, fixed_repeat_root, repeat_previous, variable_repeat, variable_repeat_previous, variable_repeat_root, meta_map}
@@ -16,6 +13,7 @@ use Rattle.heads.specs.Heads.{head_of}
 use Rattle.sheet.specs.declared.tests.Closing.{Closing}
 use Rattle.sheet.specs.declared.tests.Closing.TheVariants.{Synchronize, Alignment, Deferred, Reference}
 use Rattle.sheet.specs.Tests.{opens, alignment_of, is_next_chunk, is_resolve, is_deferred, is_nop, closing_of}
+use Rattle.tables.specs.declared.values.Ref.{Ref}
 use Rattle.tables.specs.declared.values.Ref.TheVariants.{Root}
 use Rattle.tables.specs.declared.values.SlotValue.{SlotValue}
 use Rattle.tables.specs.declared.values.SlotValue.TheVariants.{Ref as IsRef, Repeat, RepeatPrev, Skip, StreamBytes, Raw, ClearedWeak, WeakRef, PendingRef}
@@ -26,12 +24,9 @@ use Rattle.alloc.specs.declared.legacy_alloc.LegacyAlloc.{LegacyAlloc}
 use Rattle.alloc.specs.declared.legacy_alloc.Request.{Request}
 use Rattle.alloc.specs.Fill.{fill_to_align}
 use Rattle.alloc.specs.Allocation.{Outcome, outcome, pick_outcome, advance_of, placed, allocate_of}
-use Rattle.backref.specs.declared.hot_ring.Hot.{Hot}
-use Rattle.backref.specs.declared.hot_ring.Hot.TheVariants.{Is as HotIs, Empty}
 use Rattle.backref.specs.HotRing.{hot_at}
-use Rattle.backref.specs.declared.legacy.Backref.{Backref}
-use Rattle.backref.specs.declared.legacy.Backref.TheVariants.{To, Cut, Unknown}
-use Rattle.backref.specs.Legacy.{backref_of}
+use Rattle.backref.specs.declared.legacy.BackrefError.TheVariants.{Cut, Unknown}
+use Rattle.backref.specs.Legacy.{Answer, backref_of}
 use Rattle.definition.specs.Memory.{Input, word, Kept, in_map, in_slot, item, Mem, Out, got, no, Reader, and_then, ◌>>=◌, ◌>>◌, choose, give, change, refuse_at, moved, with_skip, aligned, tell, after_int, byte, int, has_room}
 use Rattle.definition.specs.Slots.{add_value, add_slot, resolved, waits_of, keep_item, previous, place_item}
 use Rattle.definition.specs.Object.{peek, add_object, large_byte, change_chunk, allocate, alignment_byte, chunk_changes, map_first, read_map, flags, flag_object, keep_map, resolves, items, body, object}
@@ -71,9 +66,9 @@ module _ (x : Input) where
   unfolding byte
   byte_known m = pick (ltb m.at (length x.payload)) _ _ m (λ _. tt) (λ _. omega arith)
 
-  int_of : (i : Int) → R (after_int x i)
-  int_of (IntIs v count) m = tt
-  int_of IntCut m = omega arith
+  int_of : (i : Option Int) → R (after_int x i)
+  int_of (Some i) m = tt
+  int_of None m = omega arith
 
   int_known : R (int x)
   unfolding int
@@ -82,18 +77,18 @@ module _ (x : Input) where
   skip_known : R (skip_amount x)
   skip_known = seq (int x) _ int_known (λ n m. tt)
 
-  backref_of_lem : (b : Backref) → R (of_backref x b)
-  backref_of_lem (To r n) m = tt
-  backref_of_lem Cut m = omega arith
-  backref_of_lem (Unknown n) m = omega arith
+  backref_of_lem : (b : Answer) → R (of_backref x b)
+  backref_of_lem (Ok b) m = tt
+  backref_of_lem (Err Cut) m = omega arith
+  backref_of_lem (Err (Unknown n)) m = omega arith
 
   legacy_known : (space : ℕ) → R (legacy_reference x space)
   unfolding legacy_reference
   legacy_known space m = backref_of_lem (backref_of x.sheet x.payload m.addresses.rows m.addresses.count m.alignment space m.at) m
 
-  raw_of : (n : ℕ) (advances : Bool) (r : Range) → R (after_raw n advances r)
-  raw_of n advances (RangeTo end) m = tt
-  raw_of n advances Past m = omega arith
+  raw_of : (n : ℕ) (advances : Bool) (r : Option ℕ) → R (after_raw n advances r)
+  raw_of n advances (Some end) m = tt
+  raw_of n advances None m = omega arith
 
   raw_known : (n : ℕ) (advances : Bool) → R (raw_data x n advances)
   unfolding raw_data
@@ -103,9 +98,9 @@ backref_to_known : (i : ℕ) → R (backref_to i)
 unfolding backref_to
 backref_to_known i m = pick (ltb i m.objects.count) _ _ m (λ _. tt) (λ _. omega arith)
 
-hot_of : (h : Hot) → R (of_hot h)
-hot_of (HotIs r) m = tt
-hot_of Empty m = omega arith
+hot_of : (h : Option Ref) → R (of_hot h)
+hot_of (Some r) m = tt
+hot_of None m = omega arith
 
 hot_known : (i : ℕ) → R (hot_place i)
 hot_known i m = hot_of (hot_at m.hot i) m

@@ -1,5 +1,5 @@
 -- Each object that a place of the hot ring stands for is below the object count. Assumes nothing.
-use Rattle.std.specs.Prelude.{◌≡◌, ◌≢◌, Bool, true, false, List, ℕ, ◌+◌, ◌*◌, ◌%◌, ◌<◌, ◌≤◌, eqb, length, get_or, set}
+use Rattle.std.specs.Prelude.{◌≡◌, ◌≢◌, Bool, true, false, List, ℕ, ◌+◌, ◌*◌, ◌%◌, ◌<◌, ◌≤◌, eqb, length, get_or, set, Option, Some, None}
 use Rattle.std.proofs.Math.Path.{refl}
 use Rattle.std.proofs.Common.{sym, subst, ◌∙◌, ap, add-zero, arith, eqb-true, length-set}
 use Rattle.std.proofs.lemmas.Bool.{eqb-false}
@@ -10,8 +10,6 @@ use Rattle.tables.specs.declared.values.Ref.TheVariants.{Object, Root, RoRef}
 use Rattle.tables.specs.declared.values.Fields.{Fields}
 use Rattle.tables.specs.Records.{field, value_row, written}
 use Rattle.tables.proofs.RecordLaws.{written_same, written_else, set_else}
-use Rattle.backref.specs.declared.hot_ring.Hot.{Hot}
-use Rattle.backref.specs.declared.hot_ring.Hot.TheVariants.{Is, Empty}
 use Rattle.backref.specs.HotRing.{empty_ring, next_place, entered, pick_hot, hot_at}
 
 pub record Ring (hot : List ℕ) (objects : ℕ) : Type 0 where
@@ -56,15 +54,15 @@ pub ring-start : Ring empty_ring 0
 ring-start = record { size = length-replicate {A = ℕ} 25 0; places = (λ i l e. let z : get_or empty_ring (i * 3 + 0) 0 ≡ 0 = get_or-replicate {A = ℕ} 25 (i * 3 + 0) 0 0 (omega arith) in absurd (omega arith)) }
 
 -- what a place stands for, by its kind
-pick_case : (P : Hot → Type 0) (t : Bool) (a b : Hot) → (t ≡ true → P a) → P b → P (pick_hot t a b)
+pick_case : (P : Option Ref → Type 0) (t : Bool) (a b : Option Ref) → (t ≡ true → P a) → P b → P (pick_hot t a b)
 pick_case P true a b y n = y refl
 pick_case P false a b y n = n
 
-abbrev Shown : (Ref → Type 0) → Hot → Type 0
-Shown P (Is r) = P r
-Shown P Empty = Unit {0}
+abbrev Shown : (Ref → Type 0) → Option Ref → Type 0
+Shown P (Some r) = P r
+Shown P None = Unit {0}
 
-pub hot_case : (P : Ref → Type 0) (hot : List ℕ) (objects i : ℕ) (r : Ref) → Ring hot objects → i < 8 → hot_at hot i ≡ Is r → ((o : ℕ) → o < objects → P (Object o)) → ((j : ℕ) → P (Root j)) → ((c o : ℕ) → P (RoRef c o)) → P r
+pub hot_case : (P : Ref → Type 0) (hot : List ℕ) (objects i : ℕ) (r : Ref) → Ring hot objects → i < 8 → hot_at hot i ≡ Some r → ((o : ℕ) → o < objects → P (Object o)) → ((j : ℕ) → P (Root j)) → ((c o : ℕ) → P (RoRef c o)) → P r
 unfolding hot_at
 hot_case P hot objects i r h l e fo fr fc =
     let kind : ℕ = get_or hot (i * 3) 0 in

@@ -1,14 +1,13 @@
 -- Two readings compared: the second has another payload, longer tables or another log. The rules (`Pair`) say how far the payloads are the same,
 -- which refusals are compared, and how the bounds of the loops go together; from them every reader gives the same in both, reader by reader
 -- (SimulateSteps, SimulateLegacy, SimulateReaders, SimulateClosing). Quiet, Rooms and Prefix are three cases of it. Assumes nothing.
-use Rattle.std.specs.Prelude.{◌≡◌, refl, Bool, List, ℕ, suc, ◌+◌, ◌-◌, ◌*◌, ◌<◌, ◌≤◌, get_or}
+use Rattle.std.specs.Prelude.{◌≡◌, refl, Bool, List, ℕ, suc, ◌+◌, ◌-◌, ◌*◌, ◌<◌, ◌≤◌, get_or, Option, Some, None}
 use Rattle.std.proofs.Common.{ap, ◌∙◌, arith}
 use Rattle.std.proofs.Math.Bool.{true, false}
 use borrow.Author.Tests.{ltb-true, lt-ltb}
 use Rattle.std.proofs.Math.Dec.{ltb}
 use Rattle.std.proofs.Math.ListN.{length}
 use Rattle.stream.specs.declared.putint.Int.{Int}
-use Rattle.stream.specs.declared.putint.Int.TheVariants.{Is, Cut}
 use Rattle.stream.specs.PutInt.{int_at}
 use Rattle.stream.specs.Bytes.{peek_at}
 use Rattle.sheet.specs.Sheet.{is_legacy}
@@ -60,7 +59,7 @@ pub record Pair : Type 1 where
   pub legacy_compared : (n : ℕ) → ends_legacy x n ≡ true → Compared n
   pub on_byte : (a : ℕ) → Shared a → a < length x.payload → (a < length p') × (get_or p' a 0 ≡ get_or x.payload a 0)
   pub on_peek : (a : ℕ) → Shared a → peek_at p' a ≡ peek_at x.payload a
-  pub on_int : (a v n : ℕ) → Shared (a + n) → int_at x.payload a ≡ Is v n → int_at p' a ≡ Is v n
+  pub on_int : (a : ℕ) (i : Int) → Shared (a + i.count) → int_at x.payload a ≡ Some i → int_at p' a ≡ Some i
   pub on_raw : (a : ℕ) → Shared a → a ≤ length x.payload → a ≤ length p'
   pub fuel_start : (a : ℕ) → Fuel 0 a (length x.payload - a) (length p' - a)
   pub fuel_spare : (a : ℕ) → Fuel 1 a (length x.payload - a + 1) (length p' - a + 1)
@@ -68,7 +67,7 @@ pub record Pair : Type 1 where
   pub fuel_more : (s a n n' : ℕ) → Shared a → Fuel s a (suc n) n' → n' ≡ suc (n' - 1)
   pub fuel_zero : (s a n' : ℕ) → Shared (a - s) → Fuel s a 0 n' → (n' ≡ 0) × (Shared a)
   pub in_payload : (a : ℕ) → a ≤ length x.payload → In a
-  pub in_int : (a v n : ℕ) → int_at x.payload a ≡ Is v n → In (a + n)
+  pub in_int : (a : ℕ) (i : Int) → int_at x.payload a ≡ Some i → In (a + i.count)
   pub in_legacy : is_legacy x.sheet ≡ true → (a : ℕ) → In a
   pub on_logged : (e : Event) (l : Log) → Logged l → Logged (note e l)
   pub stop_here : (m : Mem) → Logged m.log → m.at < length x.payload → Stop (moved (m.at + 1) (noted (synchronize m.at) m))
@@ -221,9 +220,9 @@ module _ (S : Pair) where
   unfolding int
   int_law = record { at_law = (λ m fit. go m fit (int_at S.x.payload m.at) refl) }
     where
-      go : (m : Mem) → Fits S m → (i : Int) → int_at S.x.payload m.at ≡ i → Follows S 0 Any m (after_int S.x i m) (int (x' S) (φ S m))
-      go m fit (Is w n) e = gives (fit_moved (S.in_int m.at w n e) fit) tt (omega arith) (λ v. rw (S.on_int m.at w n v e))
-      go m fit Cut e = stops (fit_moved (S.in_payload _ (omega arith)) fit) (λ v. rw (S.compared_same 4 v, e))
+      go : (m : Mem) → Fits S m → (i : Option Int) → int_at S.x.payload m.at ≡ i → Follows S 0 Any m (after_int S.x i m) (int (x' S) (φ S m))
+      go m fit (Some i) e = gives (fit_moved (S.in_int m.at i e) fit) tt (omega arith) (λ v. rw (S.on_int m.at i v e))
+      go m fit None e = stops (fit_moved (S.in_payload _ (omega arith)) fit) (λ v. rw (S.compared_same 4 v, e))
 
   pub peek_same : (m : Mem) → S.Shared m.at → peek (x' S) (φ S m) ≡ peek S.x m
   peek_same m v = S.on_peek m.at v

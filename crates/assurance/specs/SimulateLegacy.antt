@@ -1,5 +1,5 @@
 -- Two readings compared: what only legacy sheets have, back-references by address and allocation. Assumes nothing.
-use Rattle.std.specs.Prelude.{◌≡◌, Bool, ◌||◌, get_or}
+use Rattle.std.specs.Prelude.{◌≡◌, Bool, ◌||◌, get_or, Option, Some, None, Ok, Err}
 use Rattle.std.proofs.Math.Path.{refl, ap, subst}
 use Rattle.std.proofs.Common.{◌∙◌, ⊎_elim, eq-or-lt_of_le, arith}
 use Rattle.std.proofs.Math.Bool.{true, false}
@@ -9,7 +9,6 @@ use borrow.Author.Tests.{leb-true, leb-false, eqb-true, lt-leb, le-leb}
 use Rattle.std.proofs.Math.Dec.{ltb, leb, eqb}
 use Rattle.std.proofs.Math.ListN.{length}
 use Rattle.stream.specs.declared.putint.Int.{Int}
-use Rattle.stream.specs.declared.putint.Int.TheVariants.{Is, Cut as CutInt}
 use Rattle.stream.specs.PutInt.{int_at}
 use Rattle.sheet.specs.Sheet.{is_six_x, word_bytes}
 use Rattle.tables.specs.declared.values.Ref.{Ref}
@@ -19,15 +18,12 @@ use Rattle.tables.specs.Records.{room, field, written, address_row}
 use Rattle.tables.proofs.RecordLaws.{written_same, written_else}
 use Rattle.alloc.specs.declared.legacy_alloc.LegacyAlloc.{LegacyAlloc}
 use Rattle.alloc.specs.declared.legacy_alloc.Request.{Request}
-use Rattle.alloc.specs.declared.resolve.Found.{Found}
-use Rattle.alloc.specs.declared.resolve.Found.TheVariants.{Object, Nothing}
+use Rattle.alloc.specs.declared.resolve.Place.{Place}
 use Rattle.alloc.specs.Fill.{fill_to_align}
 use Rattle.alloc.specs.Resolve.{pick_found, is_address, addressed, or_else, resolve_of, ordinal_from}
 use Rattle.alloc.specs.Allocation.{Outcome, outcome, pick_outcome, advance_of, allocate_of}
-use Rattle.backref.specs.declared.legacy.Backref.{Backref}
-use Rattle.backref.specs.declared.legacy.Backref.TheVariants.{To, Cut, Unknown}
-use Rattle.backref.specs.declared.legacy.Place.{Place}
-use Rattle.backref.specs.Legacy.{pick_backref, numbered_as, by_number, by_place, numbered, placed, with_int, index_of, unpacked, packed_backref, plain_backref, backref_of}
+use Rattle.backref.specs.declared.legacy.BackrefError.TheVariants.{Cut, Unknown}
+use Rattle.backref.specs.Legacy.{Answer, pick_backref, numbered_as, by_number, by_place, numbered, placed, with_int, index_of, unpacked, packed_backref, plain_backref, backref_of}
 use Rattle.definition.specs.Memory.{word, table, Mem, choose, change, refuse, with_alloc}
 use Rattle.definition.specs.Object.{after_allocation, allocate}
 use Rattle.definition.specs.Reference.{of_backref, legacy_reference}
@@ -43,18 +39,18 @@ RecordedValue S v = (fields_of v).kind ≡ 1 → Recorded S (fields_of v).a
 
 -- ---- back-references
 
-abbrev RecordedFound : Pair → Found → Type 0
-RecordedFound S (Object o) = Recorded S o
-RecordedFound S Nothing = Unit {0}
+abbrev RecordedFound : Pair → Option ℕ → Type 0
+RecordedFound S (Some o) = Recorded S o
+RecordedFound S None = Unit {0}
 
 module _ (S : Pair) (t : List ℕ) where
-  pick_recorded : (b : Bool) (f g : Found) → RecordedFound S f → RecordedFound S g → RecordedFound S (pick_found b f g)
+  pick_recorded : (b : Bool) (f g : Option ℕ) → RecordedFound S f → RecordedFound S g → RecordedFound S (pick_found b f g)
   pick_recorded true f g y n = y
   pick_recorded false f g y n = n
 
-  or_else_recorded : (f g : Found) → RecordedFound S f → RecordedFound S g → RecordedFound S (or_else f g)
-  or_else_recorded (Object o) g y n = y
-  or_else_recorded Nothing g y n = n
+  or_else_recorded : (f g : Option ℕ) → RecordedFound S f → RecordedFound S g → RecordedFound S (or_else f g)
+  or_else_recorded (Some o) g y n = y
+  or_else_recorded None g y n = n
 
   addressed_recorded : (space chunk offset n : ℕ) → ((k : ℕ) → k < n → Recorded S (field 5 t k 3)) → RecordedFound S (addressed t space chunk offset n)
   unfolding addressed
@@ -65,9 +61,9 @@ module _ (S : Pair) (t : List ℕ) where
   resolve_recorded : (n space chunk offset alignment w : ℕ) → ((k : ℕ) → k < n → Recorded S (field 5 t k 3)) → RecordedFound S (resolve_of t n space chunk offset alignment w)
   unfolding resolve_of
   resolve_recorded n space chunk offset alignment w recorded =
-      or_else_recorded (addressed t space chunk offset n) (pick_found (eqb (fill_to_align offset alignment w) 0) Nothing (addressed t space chunk (offset + fill_to_align offset alignment w) n))
+      or_else_recorded (addressed t space chunk offset n) (pick_found (eqb (fill_to_align offset alignment w) 0) None (addressed t space chunk (offset + fill_to_align offset alignment w) n))
       (addressed_recorded space chunk offset n recorded)
-      (pick_recorded (eqb (fill_to_align offset alignment w) 0) Nothing (addressed t space chunk (offset + fill_to_align offset alignment w) n) tt (addressed_recorded space chunk (offset + fill_to_align offset alignment w) n recorded))
+      (pick_recorded (eqb (fill_to_align offset alignment w) 0) None (addressed t space chunk (offset + fill_to_align offset alignment w) n) tt (addressed_recorded space chunk (offset + fill_to_align offset alignment w) n recorded))
 
   ordinal_recorded : (space index k n : ℕ) → ((i : ℕ) → i < k + n → Recorded S (field 5 t i 3)) → RecordedFound S (ordinal_from t space index k n)
   unfolding ordinal_from
@@ -80,34 +76,34 @@ module _ (S : Pair) (t : List ℕ) where
 
 module _ (S : Pair) where
   -- what the first reading finds from a cursor on, and what the second does
-  abbrev Finds : ℕ → Backref → Backref → Type 0
-  Finds a (To r next) b = (RecordedRef S r) × (a ≤ next) × (S.Shared next → b ≡ To r next) × (S.In next)
-  Finds a Cut b = S.Compared 4 → b ≡ Cut
-  Finds a (Unknown next) b = (S.Compared 15 → b ≡ Unknown next) × (S.In next)
+  abbrev Finds : ℕ → Answer → Answer → Type 0
+  Finds a (Ok t) b = (RecordedRef S t.target) × (a ≤ t.next) × (S.Shared t.next → b ≡ Ok t) × (S.In t.next)
+  Finds a (Err Cut) b = S.Compared 4 → b ≡ Err Cut
+  Finds a (Err (Unknown next)) b = (S.Compared 15 → b ≡ Err (Unknown next)) × (S.In next)
 
-  finds_on : (a c : ℕ) (b b₁ b₂ : Backref) → a ≤ c → (S.Shared c → b₂ ≡ b₁) → Finds c b b₁ → Finds a b b₂
-  finds_on a c (To r next) b₁ b₂ l e f = (f.0, omega (arith, f.1), λ v. e (S.shared_down c next f.1 v) ∙ f.2 v, f.3)
-  finds_on a c Cut b₁ b₂ l e f = λ v. e (S.compared_shared 4 v c) ∙ f v
-  finds_on a c (Unknown next) b₁ b₂ l e f = (λ v. e (S.compared_shared 15 v c) ∙ f.0 v, f.1)
+  finds_on : (a c : ℕ) (b b₁ b₂ : Answer) → a ≤ c → (S.Shared c → b₂ ≡ b₁) → Finds c b b₁ → Finds a b b₂
+  finds_on a c (Ok t) b₁ b₂ l e f = (f.0, omega (arith, f.1), λ v. e (S.shared_down c t.next f.1 v) ∙ f.2 v, f.3)
+  finds_on a c (Err Cut) b₁ b₂ l e f = λ v. e (S.compared_shared 4 v c) ∙ f v
+  finds_on a c (Err (Unknown next)) b₁ b₂ l e f = (λ v. e (S.compared_shared 15 v c) ∙ f.0 v, f.1)
 
-  pick_finds : (a : ℕ) (t : Bool) (b c b' c' : Backref) → Finds a b b' → Finds a c c' → Finds a (pick_backref t b c) (pick_backref t b' c')
+  pick_finds : (a : ℕ) (t : Bool) (b c b' c' : Answer) → Finds a b b' → Finds a c c' → Finds a (pick_backref t b c) (pick_backref t b' c')
   pick_finds a true b c b' c' y n = y
   pick_finds a false b c b' c' y n = n
 
-  with_int_finds : (a : ℕ) (f f' : ℕ → ℕ → Backref) → ((v next : ℕ) → S.In next → Finds next (f v next) (f' v next)) → Finds a (with_int (int_at S.x.payload a) a f) (with_int (int_at S.p' a) a f')
+  with_int_finds : (a : ℕ) (f f' : ℕ → ℕ → Answer) → ((v next : ℕ) → S.In next → Finds next (f v next) (f' v next)) → Finds a (with_int (int_at S.x.payload a) a f) (with_int (int_at S.p' a) a f')
   with_int_finds a f f' g = go (int_at S.x.payload a) refl
     where
-      go : (i : Int) → int_at S.x.payload a ≡ i → Finds a (with_int i a f) (with_int (int_at S.p' a) a f')
-      go (Is v n) e = finds_on a (a + n) (f v (a + n)) (f' v (a + n)) (with_int (int_at S.p' a) a f') (omega arith) (λ l. rw (S.on_int a v n l e)) (g v (a + n) (S.in_int a v n e))
-      go CutInt e = λ v. rw (S.compared_same 4 v, e)
+      go : (i : Option Int) → int_at S.x.payload a ≡ i → Finds a (with_int i a f) (with_int (int_at S.p' a) a f')
+      go (Some i) e = finds_on a (a + i.count) (f i.value (a + i.count)) (f' i.value (a + i.count)) (with_int (int_at S.p' a) a f') (omega arith) (λ l. rw (S.on_int a i l e)) (g i.value (a + i.count) (S.in_int a i e))
+      go None e = λ v. rw (S.compared_same 4 v, e)
 
-  by_place_finds : (f : Found) (place : Place) (next : ℕ) → S.In next → RecordedFound S f → Finds next (by_place f place next) (by_place f place next)
-  by_place_finds (Object o) place next i recorded = (λ e. recorded, omega arith, λ v. refl, i)
-  by_place_finds Nothing place next i recorded = (λ e. absurd (omega arith), omega arith, λ v. refl, i)
+  by_place_finds : (f : Option ℕ) (place : Place) (next : ℕ) → S.In next → RecordedFound S f → Finds next (by_place f place next) (by_place f place next)
+  by_place_finds (Some o) place next i recorded = (λ e. recorded, omega arith, λ v. refl, i)
+  by_place_finds None place next i recorded = (λ e. absurd (omega arith), omega arith, λ v. refl, i)
 
-  by_number_finds : (f : Found) (next : ℕ) → S.In next → RecordedFound S f → Finds next (by_number f next) (by_number f next)
-  by_number_finds (Object o) next i recorded = (λ e. recorded, omega arith, λ v. refl, i)
-  by_number_finds Nothing next i recorded = (λ v. refl, i)
+  by_number_finds : (f : Option ℕ) (next : ℕ) → S.In next → RecordedFound S f → Finds next (by_number f next) (by_number f next)
+  by_number_finds (Some o) next i recorded = (λ e. recorded, omega arith, λ v. refl, i)
+  by_number_finds None next i recorded = (λ v. refl, i)
 
   module _ (v t : List ℕ) (k n alignment space : ℕ) (recorded : (i : ℕ) → i < n → Recorded S (field 5 t i 3)) where
     placed_finds : (place : Place) (next : ℕ) → S.In next → Finds next (placed v t n alignment space place next) (placed v (wide k t) n alignment space place next)
@@ -137,10 +133,10 @@ module _ (S : Pair) where
             (backref_finds S.x.sheet m.addresses.rows S.extra.addresses m.addresses.count m.alignment space fit.recorded m.at));
       }
     where
-      go : (m : Mem) → Fits S m → (b b' : Backref) → Finds m.at b b' → Follows S 0 (RecordedValue S) m (of_backref S.x b m) (of_backref (x' S) b' (φ S m))
-      go m fit (To r next) b' f = gives S (fit_moved f.3 fit) f.0 (omega (arith, f.1)) (λ v. rw (f.2 v))
-      go m fit Cut b' f = stops S (fit_moved (S.in_payload _ (omega arith)) fit) (λ v. rw (f v, S.compared_same 4 v))
-      go m fit (Unknown next) b' f = stops S (fit_moved f.1 fit) (λ v. rw (f.0 v))
+      go : (m : Mem) → Fits S m → (b b' : Answer) → Finds m.at b b' → Follows S 0 (RecordedValue S) m (of_backref S.x b m) (of_backref (x' S) b' (φ S m))
+      go m fit (Ok t) b' f = gives S (fit_moved f.3 fit) f.0 (omega (arith, f.1)) (λ v. rw (f.2 v))
+      go m fit (Err Cut) b' f = stops S (fit_moved (S.in_payload _ (omega arith)) fit) (λ v. rw (f v, S.compared_same 4 v))
+      go m fit (Err (Unknown next)) b' f = stops S (fit_moved f.1 fit) (λ v. rw (f.0 v))
 
 -- ---- allocation
 

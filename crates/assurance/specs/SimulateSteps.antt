@@ -1,5 +1,5 @@
 -- Two readings compared: the steps that touch the tables, and the references without others in them. Assumes nothing.
-use Rattle.std.specs.Prelude.{◌≡◌, refl, Bool, set, replicate}
+use Rattle.std.specs.Prelude.{◌≡◌, refl, Bool, set, replicate, Option, Some, None}
 use Rattle.std.proofs.Math.Path.{ap, ap₂}
 use Rattle.std.proofs.Common.{◌∙◌, ltb-true, ltb-false, lt-ltb, le-ltb}
 use Rattle.std.proofs.Math.Bool.{true, false}
@@ -9,7 +9,6 @@ use native.Mathlib.Omega.{arith}
 use Rattle.std.proofs.Math.Dec.{ltb}
 use Rattle.std.proofs.Math.ListN.{length, length-set}
 use Rattle.std.proofs.lemmas.List.{set-append_left}
-use Rattle.stream.specs.declared.bytes.Range.TheVariants.{To, Past}
 use Rattle.stream.specs.Bytes.{pick_range, raw_at}
 use Rattle.tables.specs.declared.values.Ref.{Ref}
 use Rattle.tables.specs.declared.values.Ref.TheVariants.{Object}
@@ -17,8 +16,6 @@ use Rattle.tables.specs.declared.values.Fields.{Fields}
 use Rattle.tables.specs.Values.{pick_ℕ}
 use Rattle.tables.specs.Records.{room, field, object_row, slot_row, value_row}
 use Rattle.tables.proofs.RecordLaws.{record_end, written_length, filled_length}
-use Rattle.backref.specs.declared.hot_ring.Hot.{Hot}
-use Rattle.backref.specs.declared.hot_ring.Hot.TheVariants.{Is, Empty}
 use Rattle.backref.specs.HotRing.{hot_at}
 use Rattle.definition.specs.Memory.{word, Kept, in_value, opened, passed, value, resolve, Table, table, Mem, got, choose, change, refuse, with_objects, with_slots, with_values, with_pending, noted, has_room, added, append}
 use Rattle.definition.specs.Slots.{add_value, counted, add_slot, waits_for, waiter, fill_waiter, resolved}
@@ -131,9 +128,9 @@ module _ (S : Pair) where
   pub hot_law : (i : ℕ) → Alike S 0 Any (hot_place i) (hot_place i)
   hot_law i = record { at_law = (λ m fit. go m fit (hot_at m.hot i)) }
     where
-      go : (m : Mem) → Fits S m → (h : Hot) → Follows S 0 Any m (of_hot h m) (of_hot h (φ S m))
-      go m fit (Is r) = gives S fit tt (omega arith) (λ v. refl)
-      go m fit Empty = stops S fit (λ v. refl)
+      go : (m : Mem) → Fits S m → (h : Option Ref) → Follows S 0 Any m (of_hot h m) (of_hot h (φ S m))
+      go m fit (Some r) = gives S fit tt (omega arith) (λ v. refl)
+      go m fit None = stops S fit (λ v. refl)
 
   pub refers_hot_law : (r : Ref) → Alike S 0 Any (refers_hot r) (refers_hot r)
   refers_hot_law r = record { at_law = (λ m fit. gives S fit tt (omega arith) (λ v. refl)) }
@@ -154,7 +151,7 @@ module _ (S : Pair) where
   unfolding raw_data raw_at
   raw_data_law n advances = record { at_law = (λ m fit. go m fit (ltb (length S.x.payload) (m.at + n)) refl) }
     where
-      go : (m : Mem) → Fits S m → (b : Bool) → ltb (length S.x.payload) (m.at + n) ≡ b → Follows S 0 Any m (after_raw n advances (pick_range b Past (To (m.at + n))) m) (raw_data (x' S) n advances (φ S m))
+      go : (m : Mem) → Fits S m → (b : Bool) → ltb (length S.x.payload) (m.at + n) ≡ b → Follows S 0 Any m (after_raw n advances (pick_range b None (Some (m.at + n))) m) (raw_data (x' S) n advances (φ S m))
       go m fit true e = stops S fit (λ v. rw (S.compared_same 7 v, e))
       go m fit false e =
           gives S (fit_noted (passed m.at n) (fit_moved (S.in_payload (m.at + n) (ltb-false _ _ e)) fit)) tt (omega arith) (λ v. rw (le-ltb (length S.p') (m.at + n) (S.on_raw (m.at + n) v (ltb-false _ _ e)), S.on_note (passed m.at n) m.log))

@@ -1,6 +1,6 @@
 -- The steps that a walk under a plain sheet is made of, what holds before each, and the rules by which a property is kept at each.
 -- Assumes nothing.
-use Rattle.std.specs.Prelude.{◌≡◌, Bool, true, List, [], ◌∷◌, length, get_or}
+use Rattle.std.specs.Prelude.{◌≡◌, Bool, true, List, [], ◌∷◌, length, get_or, Some}
 use Rattle.std.proofs.Math.Path.{refl}
 use Rattle.std.proofs.Common.{◌∙◌, arith, length-set}
 use Prim.Native.Nat.{ℕ, zero, suc, ◌+◌, ◌*◌, ◌/◌, ◌<◌, ◌≤◌}
@@ -13,7 +13,6 @@ use Rattle.tables.specs.declared.values.Fields.{Fields}
 use Rattle.tables.specs.Values.{ref_fields, fields_of, width_of}
 use Rattle.tables.specs.Records.{room, object_row, slot_row, value_row}
 use Rattle.tables.proofs.RecordLaws.{written_length, filled_length}
-use Rattle.backref.specs.declared.hot_ring.Hot.TheVariants.{Is}
 use Rattle.backref.specs.HotRing.{entered, hot_at}
 use Rattle.definition.specs.Memory.{Input, word, Kept, in_map, in_slot, in_value, dropped, opened, passed, item, value, resolve, synchronize, Mem, moved, with_objects, with_slots, with_values, with_hot, with_pending, aligned, noted, added}
 use Rattle.definition.specs.Slots.{counted, waiter, fill_waiter, resolved, waits_of}
@@ -84,7 +83,7 @@ pub record Rules (x : Input) (I : List Frame → Mem → Type 0) (W : Mem → Sl
   pub on_read_only : (S : List Frame) (m : Mem) (c o : ℕ) → I S m → W m (IsRef (RoRef c o))
   pub on_attached : (S : List Frame) (m : Mem) (i : ℕ) → I S m → W m (IsRef (Attached i))
   pub on_cleared : (S : List Frame) (m : Mem) → I S m → W m ClearedWeak
-  pub on_hot : (S : List Frame) (m : Mem) (i : ℕ) (r : Ref) → I S m → i < 8 → hot_at m.hot i ≡ Is r → W m (IsRef r)
+  pub on_hot : (S : List Frame) (m : Mem) (i : ℕ) (r : Ref) → I S m → i < 8 → hot_at m.hot i ≡ Some r → W m (IsRef r)
   pub on_enter : (S : List Frame) (m : Mem) (r : Ref) → I S m → W m (IsRef r) → (I S (entering r m)) × (W (entering r m) (IsRef r))
   pub on_pending : (S : List Frame) (m : Mem) → I S m → (I S (numbering m)) × (W (numbering m) (PendingRef m.pending))
   pub on_raw : (S : List Frame) (m : Mem) (n : ℕ) (advances : Bool) → I S m → 1 ≤ n → m.at + n ≤ length x.payload → (I S (passing n m)) × (W (passing n m) (IsRaw (record { off = m.at; len = n; advances = advances })))

@@ -1,20 +1,22 @@
 -- Legacy back-references (`legacy_backref`): what one stands for, and what enters the ring. Assumes nothing: these are definitions.
-use Rattle.std.specs.Prelude.{Bool, true, false, List, ℕ, ◌+◌, ◌-◌, ◌*◌, ◌/◌, ◌%◌, ◌^◌, eqb}
+use Rattle.std.specs.Prelude.{Bool, true, false, List, ℕ, zero, suc, ◌+◌, ◌-◌, ◌*◌, ◌/◌, ◌%◌, ◌^◌, eqb, Option, Some, None, Result, Ok, Err}
 use Rattle.stream.specs.declared.putint.Int.{Int}
-use Rattle.stream.specs.declared.putint.Int.TheVariants.{Is, Cut as CutInt}
 use Rattle.stream.specs.PutInt.{int_at}
 use Rattle.sheet.specs.Sheet.{pick_ℕ, is_six_x, map_space, lo_space, space_tag_size, page_size_bits, word_bytes}
 use Rattle.tables.specs.declared.values.Ref.TheVariants.{Object as ObjectRef, RoRef}
 use Rattle.tables.specs.Values.{ref_fields}
-use Rattle.alloc.specs.declared.resolve.Found.{Found}
-use Rattle.alloc.specs.declared.resolve.Found.TheVariants.{Object, Nothing}
+use Rattle.alloc.specs.declared.resolve.Place.{Place}
 use Rattle.alloc.specs.Resolve.{resolve_of, ordinal_from}
 use Rattle.backref.specs.HotRing.{entered}
 use Rattle.backref.specs.declared.legacy.Backref.{Backref}
-use Rattle.backref.specs.declared.legacy.Backref.TheVariants.{To, Cut, Unknown}
-use Rattle.backref.specs.declared.legacy.Place.{Place}
+use Rattle.backref.specs.declared.legacy.BackrefError.{BackrefError}
+use Rattle.backref.specs.declared.legacy.BackrefError.TheVariants.{Cut, Unknown}
 
-abbrev pub pick_backref : Bool → Backref → Backref → Backref
+-- what a back-reference stands for and the cursor after it, or why it is refused
+abbrev pub Answer : Type 0
+Answer = Result Backref BackrefError
+
+abbrev pub pick_backref : Bool → Answer → Answer → Answer
 pick_backref true a b = a
 pick_backref false a b = b
 
@@ -23,28 +25,33 @@ pick_backref false a b = b
 abbrev pub numbered_as : List ℕ → ℕ → ℕ
 numbered_as v space = pick_ℕ (eqb space (map_space v)) 4 (pick_ℕ (eqb space (lo_space v)) 5 0)
 
+-- such a space, or none
+abbrev pub unless_zero : ℕ → Option ℕ
+unless_zero zero = None
+unless_zero (suc n) = Some (suc n)
+
 -- the object with a number; none: refusal 15 at the cursor
-abbrev pub by_number : Found → ℕ → Backref
-by_number (Object o) next = To (ObjectRef o) next
-by_number Nothing next = Unknown next
+abbrev pub by_number : Option ℕ → ℕ → Answer
+by_number (Some o) next = Ok (record { target = ObjectRef o; next = next })
+by_number None next = Err (Unknown next)
 
 -- the object at a place; none: the place is one of the read-only heap (difference D31: whatever the space)
-abbrev pub by_place : Found → Place → ℕ → Backref
-by_place (Object o) place next = To (ObjectRef o) next
-by_place Nothing place next = To (RoRef place.chunk place.offset) next
+abbrev pub by_place : Option ℕ → Place → ℕ → Answer
+by_place (Some o) place next = Ok (record { target = ObjectRef o; next = next })
+by_place None place next = Ok (record { target = RoRef place.chunk place.offset; next = next })
 
 -- what a back-reference finds: the first n address records, the pending alignment and the space are given
-abbrev pub numbered : List ℕ → List ℕ → ℕ → ℕ → ℕ → ℕ → Backref
+abbrev pub numbered : List ℕ → List ℕ → ℕ → ℕ → ℕ → ℕ → Answer
 numbered v t n space index next = by_number (ordinal_from t (numbered_as v space) index 0 n) next
 
-abbrev pub placed : List ℕ → List ℕ → ℕ → ℕ → ℕ → Place → ℕ → Backref
+abbrev pub placed : List ℕ → List ℕ → ℕ → ℕ → ℕ → Place → ℕ → Answer
 placed v t n alignment space place next =
     by_place (resolve_of t n space place.chunk place.offset alignment (word_bytes v)) place next
 
 -- an integer at a cursor, and what comes after it
-abbrev pub with_int : Int → ℕ → (ℕ → ℕ → Backref) → Backref
-with_int (Is value count) at f = f value (at + count)
-with_int CutInt at f = Cut
+abbrev pub with_int : Option Int → ℕ → (ℕ → ℕ → Answer) → Answer
+with_int (Some i) at f = f i.value (at + i.count)
+with_int None at f = Err Cut
 
 -- 6.x: one integer, of which the low bits are an index: a number, or a chunk above an offset in words
 abbrev pub word_bits : List ℕ → ℕ
@@ -59,7 +66,7 @@ index_of v value = value % 2 ^ (32 - space_tag_size v)
 abbrev pub unpacked : List ℕ → ℕ → Place
 unpacked v index = record { chunk = index / 2 ^ offset_bits v; offset = index % 2 ^ offset_bits v * word_bytes v }
 
-unfoldable pub packed_backref : List ℕ → List ℕ → List ℕ → ℕ → ℕ → ℕ → ℕ → Backref
+unfoldable pub packed_backref : List ℕ → List ℕ → List ℕ → ℕ → ℕ → ℕ → ℕ → Answer
 packed_backref v p t n alignment space at =
     with_int (int_at p at) at
     (λ value next. pick_backref (eqb (numbered_as v space) 0)
@@ -67,7 +74,7 @@ packed_backref v p t n alignment space at =
     (numbered v t n space (index_of v value) next))
 
 -- 7.8 and 8.4: a number, or chunk and offset
-unfoldable pub plain_backref : List ℕ → List ℕ → List ℕ → ℕ → ℕ → ℕ → ℕ → Backref
+unfoldable pub plain_backref : List ℕ → List ℕ → List ℕ → ℕ → ℕ → ℕ → ℕ → Answer
 plain_backref v p t n alignment space at =
     with_int (int_at p at) at
     (λ first next. pick_backref (eqb (numbered_as v space) 0)
@@ -75,12 +82,11 @@ plain_backref v p t n alignment space at =
     (numbered v t n space first next))
 
 -- a back-reference to a space, at a cursor
-unfoldable pub backref_of : List ℕ → List ℕ → List ℕ → ℕ → ℕ → ℕ → ℕ → Backref
+unfoldable pub backref_of : List ℕ → List ℕ → List ℕ → ℕ → ℕ → ℕ → ℕ → Answer
 backref_of v p t n alignment space at =
     pick_backref (is_six_x v) (packed_backref v p t n alignment space at) (plain_backref v p t n alignment space at)
 
 -- what it stands for enters the ring, read-only places included
-abbrev pub ring_after : List ℕ → Backref → List ℕ
-ring_after hot (To r next) = entered hot (ref_fields r)
-ring_after hot Cut = hot
-ring_after hot (Unknown next) = hot
+abbrev pub ring_after : List ℕ → Answer → List ℕ
+ring_after hot (Ok b) = entered hot (ref_fields b.target)
+ring_after hot (Err e) = hot

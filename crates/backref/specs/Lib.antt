@@ -1,2 +1,3 @@
 pub mod HotRing
 pub mod Legacy
+pub mod Reader

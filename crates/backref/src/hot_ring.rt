@@ -5,14 +5,8 @@ ghost use Rattle.backref.specs.HotRing.{entered, hot_at};
 
 use tables::values::{Fields, Ref, SlotValue, fields_of};
 
-// What a place holds.
-#[derive(Clone, Copy)]
-pub enum Hot {
-    Is(Ref),
-    Empty,
-}
-
 // The fields of a reference enter the ring, and the ring moves on.
+#[tactic(auto, unfolding(crate::specs::HotRing::entered))]
 pub fn add_fields(hot: &mut [u64; 25], f: Fields)
     ensures { hot.new ≡ entered hot.old f }
 {
@@ -30,22 +24,18 @@ pub fn add(hot: &mut [u64; 25], r: Ref)
     add_fields(hot, fields_of(SlotValue::Ref(r)));
 }
 
-// What stands at a place.
-pub fn get(hot: &[u64; 25], place: usize) -> Hot
+// What stands at a place; none where it is empty.
+#[tactic(auto, unfolding(crate::specs::HotRing::hot_at))]
+pub fn get(hot: &[u64; 25], place: usize) -> Option<Ref>
     requires { place < 8 }
     ensures { result ≡ hot_at hot.now place }
 {
-    let kind = hot[place * 3];
     let a = hot[place * 3 + 1];
     let b = hot[place * 3 + 2];
-    if kind == 1 {
-        return Hot::Is(Ref::Object(a));
+    match hot[place * 3] {
+        1 => Some(Ref::Object(a)),
+        2 => Some(Ref::Root(a)),
+        3 => Some(Ref::RoRef(a, b)),
+        _ => None,
     }
-    if kind == 2 {
-        return Hot::Is(Ref::Root(a));
-    }
-    if kind == 3 {
-        return Hot::Is(Ref::RoRef(a, b));
-    }
-    Hot::Empty
 }

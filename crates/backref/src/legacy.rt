@@ -2,94 +2,38 @@
 // integer.
 ghost use Rattle.std.specs.Prelude.{true, ◌≡◌, ◌^◌, ◌<◌, ◌≤◌};
 ghost use Rattle.sheet.specs.Sheet.{usable};
-ghost use Rattle.tables.specs.Records.{room};
-ghost use Rattle.address_index.specs.Links.{Linked};
-ghost use Rattle.address_index.specs.Sorted.{Sorted};
-ghost use Rattle.backref.specs.Legacy.{numbered_as, numbered, placed, index_of, unpacked, packed_backref, plain_backref, backref_of, ring_after};
+ghost use Rattle.backref.specs.Legacy.{numbered_as, unless_zero, index_of, word_bits, unpacked, ring_after};
 
 use crate::hot_ring::add;
-use address_index::resolve::{resolve, resolve_ordinal};
-use alloc::resolve::Found;
+use address_index::resolve::AddressIndex;
+use alloc::resolve::Place;
 use sheet::numbers::{lo_space, map_space, page_size_bits, six_x, space_tag_size, word_bytes};
-use stream::putint::{Int, putint};
+use stream::putint::putint;
 use tables::values::Ref;
 
-// What a back-reference stands for and the cursor after it; or the payload ended in it; or its number has no entry, with the cursor.
+// What a back-reference stands for, and the cursor after it.
 #[derive(Clone, Copy)]
-pub enum Backref {
-    To(Ref, usize),
+pub struct Backref {
+    pub target: Ref,
+    pub next: usize,
+}
+
+// Why a back-reference is refused: the payload ended in it; or its number has no entry, with the cursor after it.
+#[derive(Clone, Copy)]
+pub enum BackrefError {
     Cut,
     Unknown(usize),
 }
 
-// A place in a space.
+// What is read of a back-reference to a space: the sheet and the payload, the address records, and the alignment that is pending.
 #[derive(Clone, Copy)]
-pub struct Place {
-    pub chunk: u64,
-    pub offset: u64,
-}
-
-// The space whose objects a space numbers, or 0.
-fn numbered_as(sheet: &[u16], space: u64) -> u64
-    ensures { result ≡ numbered_as sheet.now space }
-{
-    if space == map_space(sheet) {
-        return 4;
-    }
-    if space == lo_space(sheet) {
-        return 5;
-    }
-    0
-}
-
-// The object with a number.
-fn by_number(
-    sheet: &[u16],
-    table: &[u64],
-    index: &[u64],
-    n: usize,
-    space: u64,
-    number: u64,
-    next: usize,
-) -> Backref
-    requires n_bound { n ≤ room 5 table.now }
-    requires linked { Linked table.now n index.now × Sorted table.now n }
-    ensures { result ≡ numbered sheet.now table.now n space number next }
-{
-    match resolve_ordinal(table, index, n, numbered_as(sheet, space), number) {
-        Found::Object(o) => Backref::To(Ref::Object(o), next),
-        Found::Nothing => Backref::Unknown(next),
-    }
-}
-
-// The object at a place, or the place itself in the read-only heap.
-fn by_place(
-    sheet: &[u16],
-    table: &[u64],
-    index: &[u64],
-    n: usize,
-    alignment: u64,
-    space: u64,
-    place: Place,
-    next: usize,
-) -> Backref
-    requires n_bound { (n ≤ room 5 table.now) × (place.offset < 2 ^ 32) × (usable sheet.now ≡ true) }
-    requires linked { Linked table.now n index.now × Sorted table.now n }
-    ensures { result ≡ placed sheet.now table.now n alignment space place next }
-{
-    match resolve(
-        table,
-        index,
-        n,
-        space,
-        place.chunk,
-        place.offset,
-        alignment,
-        word_bytes(sheet),
-    ) {
-        Found::Object(o) => Backref::To(Ref::Object(o), next),
-        Found::Nothing => Backref::To(Ref::RoRef(place.chunk, place.offset), next),
-    }
+pub struct LegacyReader<'a> {
+    pub sheet: &'a [u16],
+    pub payload: &'a [u8],
+    pub addresses: AddressIndex<'a>,
+    pub alignment: u64,
+    pub space: u64,
+    ghost usable: { usable sheet.now ≡ true },
 }
 
 fn power(bits: u64) -> u64
@@ -99,132 +43,131 @@ fn power(bits: u64) -> u64
     1 << bits
 }
 
-// The index that 6.x writes.
-fn index_of(sheet: &[u16], value: u32) -> u64
-    requires { usable sheet.now ≡ true }
-    ensures { result ≡ index_of sheet.now value }
-{
-    (value as u64) % power(32 - space_tag_size(sheet))
-}
+impl<'a> LegacyReader<'a> {
+    ghost use Rattle.backref.specs.Reader.{numbered_by, placed_by, packed_by, plain_by, backref_by};
 
-// The place that 6.x packs in an index.
-fn unpack(sheet: &[u16], index: u64) -> Place
-    requires { (usable sheet.now ≡ true) × (index < 2 ^ 32) }
-    ensures { (result ≡ unpacked sheet.now index) × (result.offset < 2 ^ 32) }
-{
-    let word = word_bytes(sheet);
-    let size = if word == 4 {
-        power(page_size_bits(sheet) - 2)
-    } else {
-        power(page_size_bits(sheet) - 3)
-    };
-    Place {
-        chunk: index / size,
-        offset: index % size * word,
+    // The space whose objects the space numbers.
+    fn numbered_as(self) -> Option<u64>
+        ensures { result ≡ unless_zero (numbered_as self.entry.sheet.now self.entry.space) }
+    {
+        if self.space == map_space(self.sheet) {
+            Some(4)
+        } else if self.space == lo_space(self.sheet) {
+            Some(5)
+        } else {
+            None
+        }
     }
-}
 
-// 6.x: one integer.
-fn packed_backref(
-    sheet: &[u16],
-    p: &[u8],
-    table: &[u64],
-    index: &[u64],
-    n: usize,
-    alignment: u64,
-    space: u64,
-    at: usize,
-) -> Backref
-    requires n_bound { (n ≤ room 5 table.now) × (usable sheet.now ≡ true) }
-    requires linked { Linked table.now n index.now × Sorted table.now n }
-    ensures { result ≡ packed_backref sheet.now p.now table.now n alignment space at }
-{
-    let Int::Is(value, count) = putint(p, at) else {
-        return Backref::Cut;
-    };
-    let number = index_of(sheet, value);
-    if numbered_as(sheet, space) == 0 {
-        let place = unpack(sheet, number);
-        by_place(sheet, table, index, n, alignment, space, place, at + count)
-    } else {
-        by_number(sheet, table, index, n, space, number, at + count)
+    // The index that 6.x writes.
+    #[tactic(auto, using(crate::proofs::BackrefLaws::tag_small))]
+    fn index_of(self, value: u32) -> u64
+        ensures { result ≡ index_of self.entry.sheet.now value }
+    {
+        u64::from(value) % power(32 - space_tag_size(self.sheet))
     }
-}
 
-// 7.8 and 8.4: one integer for a number, two for a place.
-fn plain_backref(
-    sheet: &[u16],
-    p: &[u8],
-    table: &[u64],
-    index: &[u64],
-    n: usize,
-    alignment: u64,
-    space: u64,
-    at: usize,
-) -> Backref
-    requires n_bound { (n ≤ room 5 table.now) × (usable sheet.now ≡ true) }
-    requires linked { Linked table.now n index.now × Sorted table.now n }
-    ensures { result ≡ plain_backref sheet.now p.now table.now n alignment space at }
-{
-    let Int::Is(first, count) = putint(p, at) else {
-        return Backref::Cut;
-    };
-    let next = at + count;
-    if numbered_as(sheet, space) != 0 {
-        return by_number(sheet, table, index, n, space, first as u64, next);
+    // So many bits of a place are below a word.
+    fn word_bits(self) -> u64
+        ensures { result ≡ word_bits self.entry.sheet.now }
+    {
+        if word_bytes(self.sheet) == 4 { 2 } else { 3 }
     }
-    let Int::Is(second, more) = putint(p, next) else {
-        return Backref::Cut;
-    };
-    let place = Place {
-        chunk: first as u64,
-        offset: second as u64,
-    };
-    by_place(sheet, table, index, n, alignment, space, place, next + more)
-}
 
-// A back-reference to a space.
-#[tactic(auto, unfolding(crate::specs::Legacy::backref_of))]
-pub fn backref_at(
-    sheet: &[u16],
-    p: &[u8],
-    table: &[u64],
-    index: &[u64],
-    n: usize,
-    alignment: u64,
-    space: u64,
-    at: usize,
-) -> Backref
-    requires n_bound { (n ≤ room 5 table.now) × (usable sheet.now ≡ true) }
-    requires linked { Linked table.now n index.now × Sorted table.now n }
-    ensures { result ≡ backref_of sheet.now p.now table.now n alignment space at }
-{
-    if six_x(sheet) {
-        packed_backref(sheet, p, table, index, n, alignment, space, at)
-    } else {
-        plain_backref(sheet, p, table, index, n, alignment, space, at)
+    // The place that 6.x packs in an index.
+    #[tactic(auto, using(crate::proofs::BackrefLaws::page_low, crate::proofs::BackrefLaws::page_high, crate::proofs::BackrefLaws::offset_small))]
+    fn unpack(self, index: u64) -> Place
+        requires { index < 2 ^ 32 }
+        ensures { (result ≡ unpacked self.entry.sheet.now index) × (result.offset < 2 ^ 32) }
+    {
+        let size = power(page_size_bits(self.sheet) - self.word_bits());
+        Place {
+            chunk: index / size,
+            offset: index % size * word_bytes(self.sheet),
+        }
     }
-}
 
-// The same; what it stands for enters the ring.
-pub fn legacy_backref(
-    sheet: &[u16],
-    p: &[u8],
-    table: &[u64],
-    index: &[u64],
-    hot: &mut [u64; 25],
-    n: usize,
-    alignment: u64,
-    space: u64,
-    at: usize,
-) -> Backref
-    requires n_bound { (n ≤ room 5 table.now) × (usable sheet.now ≡ true) }
-    requires linked { Linked table.now n index.now × Sorted table.now n }
-    ensures { (result ≡ backref_of sheet.now p.now table.now n alignment space at) × (hot.new ≡ ring_after hot.old result) }
-{
-    let found = backref_at(sheet, p, table, index, n, alignment, space, at);
-    if let Backref::To(r, _) = found {
-        add(hot, r);
+    // The object with a number among those of a space.
+    fn by_number(self, space: u64, number: u64, next: usize) -> Result<Backref, BackrefError>
+        ensures { result ≡ numbered_by self.entry space number next }
+    {
+        let object = self
+            .addresses
+            .resolve_ordinal(space, number)
+            .ok_or(BackrefError::Unknown(next))?;
+        Ok(Backref {
+            target: Ref::Object(object),
+            next,
+        })
     }
-    found
+
+    // The object at a place, or the place itself in the read-only heap.
+    #[tactic(auto, using(crate::proofs::BackrefLaws::word_small))]
+    fn by_place(self, place: Place, next: usize) -> Result<Backref, BackrefError>
+        requires { place.offset < 2 ^ 32 }
+        ensures { result ≡ placed_by self.entry place next }
+    {
+        let word = word_bytes(self.sheet);
+        let target = match self
+            .addresses
+            .resolve(self.space, place, self.alignment, word)
+        {
+            Some(o) => Ref::Object(o),
+            None => Ref::RoRef(place.chunk, place.offset),
+        };
+        Ok(Backref { target, next })
+    }
+
+    // 6.x: one integer.
+    #[tactic(auto, using(crate::proofs::BackrefLaws::int_end, crate::proofs::BackrefLaws::index_small), unfolding(crate::specs::Legacy::packed_backref))]
+    fn packed_backref(self, at: usize) -> Result<Backref, BackrefError>
+        ensures { result ≡ packed_by self.entry at }
+    {
+        let int = putint(self.payload, at).ok_or(BackrefError::Cut)?;
+        let index = self.index_of(int.value);
+        let next = at + int.count;
+        match self.numbered_as() {
+            Some(space) => self.by_number(space, index, next),
+            None => self.by_place(self.unpack(index), next),
+        }
+    }
+
+    // 7.8 and 8.4: one integer for a number, two for a place.
+    #[tactic(auto, using(crate::proofs::BackrefLaws::int_end), unfolding(crate::specs::Legacy::plain_backref))]
+    fn plain_backref(self, at: usize) -> Result<Backref, BackrefError>
+        ensures { result ≡ plain_by self.entry at }
+    {
+        let first = putint(self.payload, at).ok_or(BackrefError::Cut)?;
+        let next = at + first.count;
+        if let Some(space) = self.numbered_as() {
+            return self.by_number(space, u64::from(first.value), next);
+        }
+        let second = putint(self.payload, next).ok_or(BackrefError::Cut)?;
+        let place = Place {
+            chunk: u64::from(first.value),
+            offset: u64::from(second.value),
+        };
+        self.by_place(place, next + second.count)
+    }
+
+    // The back-reference at a cursor.
+    #[tactic(auto, unfolding(crate::specs::Legacy::backref_of))]
+    pub fn backref_at(self, at: usize) -> Result<Backref, BackrefError>
+        ensures { result ≡ backref_by self.entry at }
+    {
+        if six_x(self.sheet) {
+            self.packed_backref(at)
+        } else {
+            self.plain_backref(at)
+        }
+    }
+
+    // The same; what it stands for enters the ring.
+    pub fn legacy_backref(self, hot: &mut [u64; 25], at: usize) -> Result<Backref, BackrefError>
+        ensures { (result ≡ backref_by self.entry at) × (hot.new ≡ ring_after hot.old result) }
+    {
+        let found = self.backref_at(at)?;
+        add(hot, found.target);
+        Ok(found)
+    }
 }

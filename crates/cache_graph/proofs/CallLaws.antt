@@ -10,7 +10,9 @@ use lib.Dec.{ltb}
 use lib.ListN.{length, get_or, take, drop, replicate, length-drop, length-replicate, get_or-replicate, get_or-append, get_or-eq_default}
 use lib.Seq.{drop_at, length-take-le}
 use Rattle.stream.proofs.ByteLaws.{Bytes}
+use Rattle.std.specs.Prelude.{Option, Some, None, is_some}
 use Rattle.sheet.specs.Sheet.{usable, plain}
+use Rattle.heads.specs.Heads.{Heads, Decoded}
 use Rattle.alloc.specs.Allocation.{spaces_of}
 use Rattle.address_index.proofs.LinkLaws.{linked_start}
 use Rattle.definition.specs.Memory.{Input, off, Table, table, Mem, Out, got, no}
@@ -185,6 +187,21 @@ module _ (c : Call) (rooms : Rooms) where
       table_is h e = λ i. table (sym h i) (sym e i)
 
 -- ---- what the code's steps give
+
+none_there : (r : Option (List ℕ)) → ((h : List ℕ) → r ≡ Some h → ⊥) → is_some r ≡ false
+none_there (Some h) f = absurd (f h refl)
+none_there None f = refl
+
+module _ {v : List ℕ} {r : Option (List ℕ)} (d : Decoded v r) where
+  pub decoded_none : ((h : List ℕ) → r ≡ Some h → ⊥) → usable v ≡ false
+  decoded_none f = sym d.usable ∙ none_there r f
+
+  module _ {h : List ℕ} (e : r ≡ Some h) where
+    pub decoded_usable : usable v ≡ true
+    decoded_usable = sym d.usable ∙ rw e
+
+    pub decoded_heads : Heads v h
+    decoded_heads = rw e at d.heads
 
 pub zeros : (n : ℕ) (t : List ℕ) → t ≡ replicate n 0 → t ≡ replicate (length t) 0
 zeros n t e = let l : length t ≡ n = ap (length {A = ℕ}) e ∙ length-replicate n 0 in rw l e

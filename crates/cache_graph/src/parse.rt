@@ -141,14 +141,12 @@ pub fn parse_with(
     ensures assured { Sheet.plain sheet.now ≡ true → result.number ≡ 0 → Assures (call_of sheet.now payload.now reservations.now trusted.now) (rooms_of objects.old slots.old values.old addresses.old) result objects.new slots.new values.new addresses.new }
 {
     clear_tables(objects, slots, values, addresses);
-    let decoding = decode(sheet);
-    if !decoding.usable {
+    let Some(heads) = decode(sheet) else {
         return refused(1, 0);
-    }
+    };
     if too_long(payload, reservations) {
         return refused(2, 0);
     }
-    let heads = decoding.heads;
     let k = spaces(reservations);
     let outcome = walk_payload(
         sheet, &heads, trusted, payload, objects, slots, values, addresses, scratch, k,

@@ -6,9 +6,8 @@
 -- with n as number i; `Unit` stands for no value. Where a reader repeats a step, a number that falls bounds the repetitions; it is chosen so
 -- large that it is never used up. `abbrev` and `unfoldable` both define; they differ in when a proof computes with the definition.
 -- Order: Memory, Slots, Object, Reference, Closing, Call, and Cases with the examples.
-use Rattle.std.specs.Prelude.{Bool, true, false, List, ◌∷◌, ℕ, ◌+◌, ltb, length, get_or}
+use Rattle.std.specs.Prelude.{Bool, true, false, List, ◌∷◌, ℕ, ◌+◌, ltb, length, get_or, Option, Some, None}
 use Rattle.stream.specs.declared.putint.Int.{Int}
-use Rattle.stream.specs.declared.putint.Int.TheVariants.{Is, Cut}
 use Rattle.stream.specs.PutInt.{int_at}
 use Rattle.sheet.specs.Sheet.{word_bytes}
 use Rattle.tables.specs.declared.values.Fields.{Fields}
@@ -189,9 +188,9 @@ byte x m =
     choose (ltb m.at (length x.payload)) (λ m. got (get_or x.payload m.at 0) (moved (m.at + 1) m)) (cut x) m
 
 -- an integer
-abbrev pub after_int : Input → Int → Reader ℕ
-after_int x (Is v count) m = got v (moved (m.at + count) m)
-after_int x Cut m = cut x m
+abbrev pub after_int : Input → Option Int → Reader ℕ
+after_int x (Some i) m = got i.value (moved (m.at + i.count) m)
+after_int x None m = cut x m
 
 unfoldable pub int : Input → Reader ℕ
 int x m = after_int x (int_at x.payload m.at) m

@@ -1,8 +1,6 @@
--- A reference: what its head byte says, in the order of the Rust's `parse_ref_inner` (specs/Heads.antt of the crate sheet). Assumes nothing:
+-- A reference: what its head byte says, in the order of the Rust's `parse_ref_inner` (specs/Heads.antt of the crate `heads`). Assumes nothing:
 -- these are definitions.
-use Rattle.std.specs.Prelude.{Bool, true, ℕ, zero, suc, ◌+◌, ◌*◌, ◌^◌, ◌-◌, max, ltb, eqb}
-use Rattle.stream.specs.declared.bytes.Range.{Range}
-use Rattle.stream.specs.declared.bytes.Range.TheVariants.{To as RangeTo, Past}
+use Rattle.std.specs.Prelude.{Bool, true, ℕ, zero, suc, ◌+◌, ◌*◌, ◌^◌, ◌-◌, max, ltb, eqb, Option, Some, None, Ok, Err}
 use Rattle.stream.specs.Bytes.{raw_at}
 use Rattle.sheet.specs.Sheet.{pick_ℕ, is_legacy, raw_advances}
 use Rattle.heads.specs.Kinds.{new_object, backref, legacy_backref, legacy_backref_with_skip, next_chunk, alignment, hot, hot_with_skip, root_array, root_constant, root_constant_with_skip, read_only, attached, builtin, external, api, internal, deoptimizer, stream_bytes, embedder_fields, off_heap_target, cache, register_pending, cleared_weak, weak_prefix, pointer_prefix, dispatch_entry, fixed_raw, variable_raw, skip, fixed_repeat, fixed_repeat_root, repeat_previous, variable_repeat, variable_repeat_previous, variable_repeat_root, meta_map}
@@ -12,12 +10,9 @@ use Rattle.tables.specs.declared.values.Ref.TheVariants.{Object, Root, RoRef, At
 use Rattle.tables.specs.declared.values.SlotValue.{SlotValue}
 use Rattle.tables.specs.declared.values.SlotValue.TheVariants.{Ref as IsRef, Repeat, RepeatPrev, Skip, StreamBytes, Raw as IsRaw, ClearedWeak, WeakRef, PendingRef}
 use Rattle.tables.specs.Values.{ref_fields, fields_of}
-use Rattle.backref.specs.declared.hot_ring.Hot.{Hot}
-use Rattle.backref.specs.declared.hot_ring.Hot.TheVariants.{Is, Empty}
 use Rattle.backref.specs.HotRing.{entered, hot_at}
-use Rattle.backref.specs.declared.legacy.Backref.{Backref}
-use Rattle.backref.specs.declared.legacy.Backref.TheVariants.{To, Cut, Unknown}
-use Rattle.backref.specs.Legacy.{backref_of}
+use Rattle.backref.specs.declared.legacy.BackrefError.TheVariants.{Cut, Unknown}
+use Rattle.backref.specs.Legacy.{Answer, backref_of}
 use Rattle.definition.specs.Memory.{Input, word, passed, got, Reader, ◌>>=◌, ◌>>◌, choose, give, change, refuse, refuse_at, moved, with_hot, with_pending, with_skip, aligned, noted, here, cut, byte, int}
 use Rattle.definition.specs.Slots.{add_value}
 use Rattle.definition.specs.Object.{change_chunk, object}
@@ -40,18 +35,18 @@ unfoldable pub backref_to : ℕ → Reader SlotValue
 backref_to i m = choose (ltb i m.objects.count) (refers_hot (Object i)) (refuse 8) m
 
 -- a place of the hot ring; empty: refusal 9 (difference D18)
-abbrev pub of_hot : Hot → Reader SlotValue
-of_hot (Is r) = refers r
-of_hot Empty = refuse 9
+abbrev pub of_hot : Option Ref → Reader SlotValue
+of_hot (Some r) = refers r
+of_hot None = refuse 9
 
 abbrev pub hot_place : ℕ → Reader SlotValue
 hot_place i m = of_hot (hot_at m.hot i) m
 
 -- legacy: by address or number; no entry with a number: refusal 15
-abbrev pub of_backref : Input → Backref → Reader SlotValue
-of_backref x (To r next) m = refers_hot r (moved next m)
-of_backref x Cut m = cut x m
-of_backref x (Unknown next) m = refuse 15 (moved next m)
+abbrev pub of_backref : Input → Answer → Reader SlotValue
+of_backref x (Ok b) m = refers_hot b.target (moved b.next m)
+of_backref x (Err Cut) m = cut x m
+of_backref x (Err (Unknown next)) m = refuse 15 (moved next m)
 
 unfoldable pub legacy_reference : Input → ℕ → Reader SlotValue
 legacy_reference x space m =
@@ -66,10 +61,10 @@ unfoldable pub pending_reference : Reader SlotValue
 pending_reference m = got (PendingRef m.pending) (with_pending (m.pending + 1) m.waiting m)
 
 -- raw data of n bytes; past the payload's end: refusal 7
-abbrev pub after_raw : ℕ → Bool → Range → Reader SlotValue
-after_raw n advances (RangeTo end) m =
+abbrev pub after_raw : ℕ → Bool → Option ℕ → Reader SlotValue
+after_raw n advances (Some end) m =
     got (IsRaw (record { off = m.at; len = n; advances = advances })) (noted (passed m.at n) (moved end m))
-after_raw n advances Past m = refuse 7 m
+after_raw n advances None m = refuse 7 m
 
 unfoldable pub raw_data : Input → ℕ → Bool → Reader SlotValue
 raw_data x n advances m = after_raw n advances (raw_at x.payload m.at n) m

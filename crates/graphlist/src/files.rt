@@ -1,123 +1,163 @@
-// The input files. A file that can't be used is named on standard error with the reason, and its count is NONE.
-ghost use Rattle.std.specs.Prelude.{◌≤◌, length, IfOk};
+// The input files.
+ghost use Rattle.std.specs.Prelude.{◌≡◌, ◌≢◌, ◌*◌, ◌/◌, ◌≤◌, ◌⊎◌, [], map, IfOk, length, vec_len};
+ghost use Rattle.std.specs.Int.{from_le_bytes};
+ghost use Rattle.std.specs.Simd.{first_chunks};
+ghost use mir.Syntax.{w16, w32};
 
-use std::fmt::Display;
+use std::alloc::{AllocError, Global};
 use std::io::{Error, ErrorKind, Read};
 use std::rt::Files;
-use std::{fs, io};
+use std::{fmt, fs, io};
 
-// More than any count.
-pub const NONE: usize = 65537;
+const LIMIT: usize = 65536;
 
-// Says why a file can't be used.
-fn complain(rt: &impl Eprint, name: &str, reason: impl Display + Drop) -> io::Result<usize> {
-    eprintln!(rt; "{name}: {reason}")?;
-    Ok(NONE)
+// What the files hold.
+#[derive(Drop)]
+pub struct Input {
+    pub sheet: Vec<u16>,
+    pub payload: Vec<u8>,
+    pub reservations: Vec<u32>,
+    pub trusted: Vec<u8>,
 }
 
-// Reads until buf is full or the file ends: how many bytes.
-fn read_full(file: &mut impl Read, buf: &mut [u8]) -> io::Result<usize>
-    ensures { IfOk result (λ n. n ≤ length buf.new) }
-{
-    let mut done = 0;
-    while done < buf.len() {
-        let n = file.read(&mut buf[done..])?;
-        if n == 0 {
-            break;
-        }
-        done += n;
+// The name of a file that can't be used, and the reason.
+#[derive(Debug, Drop)]
+pub struct Unusable {
+    name: &'static str,
+    reason: Error,
+}
+
+impl fmt::Display for Unusable {
+    fn fmt<W: fmt::Write>(&self, f: &mut fmt::Formatter<W>) -> fmt::Result {
+        write!(f, "{}: {}", self.name, self.reason)
     }
-    Ok(done)
 }
 
-// The bytes of an open file at the start of buf: how many. One that goes on past buf is refused.
-fn read_open(file: &mut impl Read, buf: &mut [u8]) -> io::Result<usize> {
-    let n = read_full(file, buf)?;
-    let mut more = [0u8; 1];
-    if file.read(&mut more)? > 0 {
+// All bytes of a file, which are at most LIMIT.
+fn read_open(alloc: Global, file: impl Read + Drop) -> io::Result<Vec<u8>>
+    ensures { IfOk result (λ v. vec_len v ≤ LIMIT) }
+{
+    let mut bytes = Vec::new(alloc);
+    file.take(LIMIT as u64 + 1).read_to_end(&mut bytes)?;
+    if bytes.len() > LIMIT {
         return Err(Error::other("more than 65,536 bytes"));
     }
-    Ok(n)
+    Ok(bytes)
 }
 
-// The bytes of a file at the start of buf: how many. One that is missing counts as empty unless it must be there.
-pub fn read_bytes(
-    rt: &(impl Files + Eprint),
-    name: &str,
-    needed: bool,
-    buf: &mut [u8],
-) -> io::Result<usize> {
-    let mut file = match fs::open(rt, name) {
-        Ok(file) => file,
-        Err(e) if !needed && e.kind() == ErrorKind::NotFound => return Ok(0),
-        Err(e) => return complain(rt, name, e),
-    };
-    match read_open(&mut file, buf) {
-        Ok(n) => Ok(n),
-        Err(e) => complain(rt, name, e),
+// The bytes of a file that must be there.
+fn read_needed(rt: &impl Files, alloc: Global, name: &str) -> io::Result<Vec<u8>>
+    ensures { IfOk result (λ v. vec_len v ≤ LIMIT) }
+{
+    read_open(alloc, fs::open(rt, name)?)
+}
+
+// The bytes of a file that counts as empty where it is missing.
+fn read_if_there(rt: &impl Files, alloc: Global, name: &str) -> io::Result<Vec<u8>>
+    ensures { IfOk result (λ v. vec_len v ≤ LIMIT) }
+{
+    match fs::open(rt, name) {
+        Ok(file) => read_open(alloc, file),
+        Err(e) if e.kind() == ErrorKind::NotFound => Ok(Vec::new(alloc)),
+        Err(e) => Err(e),
     }
 }
 
-fn two_bytes(low: u8, high: u8) -> u16 {
-    (low as u16) + (high as u16) * 256
+// The 58 numbers of a sheet, or none where the bytes are not so many, which is no usable sheet.
+fn sheet_of(alloc: Global, bytes: &[u8]) -> Result<Vec<u16>, AllocError>
+    ensures sheet { length bytes.now ≡ 116 → IfOk result (λ v. v.items ≡ map (from_le_bytes w16) (first_chunks 2 (length bytes.now / 2) bytes.now)) }
+    ensures no_sheet { length bytes.now ≢ 116 → IfOk result (λ v. v.items ≡ []) }
+    ensures len { IfOk result (λ v. (vec_len v ≡ 0) ⊎ (vec_len v ≡ 58)) }
+{
+    if bytes.len() != 116 {
+        return Ok(Vec::new(alloc));
+    }
+    let (pairs, _) = bytes.as_chunks::<2>();
+    pairs.iter().map(|x| u16::from_le_bytes(*x)).collect(alloc)
 }
 
-fn four_bytes(a: u8, b: u8, c: u8, d: u8) -> u32 {
-    (a as u32) + (b as u32) * 256 + (c as u32) * 65536 + (d as u32) * 16777216
+// The reservations, four bytes each.
+fn reservations_of(alloc: Global, bytes: &[u8]) -> io::Result<Vec<u32>>
+    ensures whole { IfOk result (λ v. vec_len v * 4 ≡ length bytes.now) }
+    ensures numbers { IfOk result (λ v. v.items ≡ map (from_le_bytes w32) (first_chunks 4 (length bytes.now / 4) bytes.now)) }
+{
+    let (fours, rest) = bytes.as_chunks::<4>();
+    if !rest.is_empty() {
+        return Err(Error::other("not whole numbers of four bytes"));
+    }
+    Ok(fours.iter().map(|x| u32::from_le_bytes(*x)).collect(alloc)?)
 }
 
-// Numbers of two bytes, as long as there are both.
-fn fill_sheet(bytes: &[u8], sheet: &mut [u16]) {
-    let mut i: usize = 0;
-    let mut at: usize = 0;
-    while i < sheet.len() {
-        if bytes.len() - at < 2 {
-            return;
-        }
-        sheet[i] = two_bytes(bytes[at], bytes[at + 1]);
-        i += 1;
-        at += 2;
+fn read_sheet(rt: &impl Files, alloc: Global) -> io::Result<Vec<u16>>
+    ensures { IfOk result (λ v. (vec_len v ≡ 0) ⊎ (vec_len v ≡ 58)) }
+{
+    let bytes = read_needed(rt, alloc, "sheet.bin")?;
+    Ok(sheet_of(alloc, &bytes)?)
+}
+
+fn read_reservations(rt: &impl Files, alloc: Global) -> io::Result<Vec<u32>>
+    ensures { IfOk result (λ v. vec_len v ≤ 16384) }
+{
+    let bytes = read_if_there(rt, alloc, "reserve.bin")?;
+    reservations_of(alloc, &bytes)
+}
+
+// What was read, or the reason with the file's name.
+fn named<T>(name: &'static str, read: io::Result<T>) -> Result<T, Unusable>
+    ensures { IfOk result (λ v. read ≡ Ok v) }
+{
+    read.map_err(|reason| Unusable { name, reason })
+}
+
+impl Input {
+    // Reads the files, up to the first that can't be used.
+    pub fn read(rt: &impl Files, alloc: Global) -> Result<Input, Unusable>
+        ensures sheet { IfOk result (λ i. (vec_len i.sheet ≡ 0) ⊎ (vec_len i.sheet ≡ 58)) }
+        ensures payload { IfOk result (λ i. vec_len i.payload ≤ LIMIT) }
+        ensures reservations { IfOk result (λ i. vec_len i.reservations ≤ 16384) }
+        ensures trusted { IfOk result (λ i. vec_len i.trusted ≤ LIMIT) }
+    {
+        let sheet = named("sheet.bin", read_sheet(rt, alloc))?;
+        let payload = named("payload.bin", read_needed(rt, alloc, "payload.bin"))?;
+        let reservations = named("reserve.bin", read_reservations(rt, alloc))?;
+        let trusted = named("trusted.bin", read_if_there(rt, alloc, "trusted.bin"))?;
+        Ok(Input {
+            sheet,
+            payload,
+            reservations,
+            trusted,
+        })
     }
 }
 
-// Numbers of four bytes, as long as there are all of them.
-fn fill_reservations(bytes: &[u8], numbers: &mut [u32]) {
-    let mut i: usize = 0;
-    let mut at: usize = 0;
-    while i < numbers.len() {
-        if bytes.len() - at < 4 {
-            return;
-        }
-        numbers[i] = four_bytes(bytes[at], bytes[at + 1], bytes[at + 2], bytes[at + 3]);
-        i += 1;
-        at += 4;
-    }
-}
+#[cfg(test)]
+mod tests {
+    use super::*;
+    use std::test::Fail;
 
-// The sheet: 58 numbers, or none where the file has another length, which is no usable sheet.
-pub fn read_sheet(rt: &(impl Files + Eprint), sheet: &mut [u16]) -> io::Result<usize> {
-    let mut bytes = [0u8; 65536];
-    let n = read_bytes(rt, "sheet.bin", true, &mut bytes)?;
-    if n == NONE {
-        return Ok(NONE);
+    #[test]
+    fn sheet_has_58_numbers(rt: HostRuntime) -> Result<(), Fail> {
+        let mut bytes = [0u8; 116];
+        bytes[0] = 0x34;
+        bytes[1] = 0x12;
+        bytes[115] = 0x80;
+        let sheet = sheet_of(rt.alloc(), &bytes)?;
+        assert_eq!(rt; sheet.len(), 58);
+        assert_eq!(rt; sheet.first(), Some(&0x1234));
+        assert_eq!(rt; sheet.last(), Some(&0x8000));
+        assert_eq!(rt; sheet_of(rt.alloc(), &bytes[..114])?.len(), 0);
+        Ok(())
     }
-    if n != 116 {
-        return Ok(0);
-    }
-    fill_sheet(&bytes, sheet);
-    Ok(58)
-}
 
-// The reservations: how many.
-pub fn read_reservations(rt: &(impl Files + Eprint), numbers: &mut [u32]) -> io::Result<usize> {
-    let mut bytes = [0u8; 65536];
-    let n = read_bytes(rt, "reserve.bin", false, &mut bytes)?;
-    if n == NONE {
-        return Ok(NONE);
+    #[test]
+    fn reservations_are_whole(rt: HostRuntime) -> Result<(), Fail> {
+        let bytes = [0x78, 0x56, 0x34, 0x12, 0, 0, 0, 0x80];
+        let reservations = reservations_of(rt.alloc(), &bytes)?;
+        assert_eq!(rt;
+            reservations.as_slice(),
+            [0x12345678, 0x80000000].as_slice()
+        );
+        assert_eq!(rt; reservations_of(rt.alloc(), &bytes[..7]).is_err(), true);
+        Ok(())
     }
-    if n % 4 != 0 {
-        return complain(rt, "reserve.bin", "not whole numbers of four bytes");
-    }
-    fill_reservations(&bytes, numbers);
-    Ok(n / 4)
 }

@@ -1,18 +1,23 @@
 -- The table of 512 numbers while the rows are claimed from the last to the first: it has the answers of the rows so far. Assumes nothing.
 use mathlib.Core.Path.{◌≡◌, refl, sym, ap, ◌∙◌}
 use mathlib.Core.Bool.{Bool, true, false, ◌&&◌}
-use mathlib.Core.List.{List, ◌∷◌}
-use Prim.Native.Nat.{ℕ, suc, ◌+◌, ◌-◌, ◌<◌, ◌≤◌}
+use mathlib.Core.List.{List, [], ◌∷◌, ◌++◌}
+use Prim.Native.Nat.{ℕ, ◌+◌, ◌<◌, ◌≤◌}
 use native.Mathlib.Omega.{arith}
 use lib.Dec.{leb, ltb}
 use lib.ListN.{length, get_or, drop, replicate, length-replicate, get_or-replicate}
 use lib.Seq.{drop-cons}
-use borrow.Author.Tests.{leb-true, leb-false, ltb-true, ltb-false, eq-eqb, ne_eqb}
+use Rattle.std.proofs.Common.{add-one}
+use borrow.Author.Tests.{leb-true, leb-false, ltb-true, ltb-false}
 use Rattle.sheet.specs.Sheet.{number, present, root_mask, usable as isUsable}
-use Rattle.heads.specs.Heads.{Row, row, order, span_of, tests, argument_of, Head, head, claims, first_of, head_of, Heads, Decoded}
-use Rattle.heads.specs.Assigning.{row_at, IsRow, Assigned}
-use Rattle.heads.specs.declared.heads.Claim.{Claim}
+use Rattle.heads.specs.Heads.{Row, row, order, span_of, tests, argument_of, Head, head, claims, first_of, head_of, Heads}
+use Rattle.heads.specs.Kinds.{kind_number}
+use Rattle.heads.specs.Assigning.{span_bytes, family_number, argument_number, row_at, IsRow, Assigned}
+use Rattle.heads.specs.declared.order.Claim.{Claim}
+use Rattle.heads.specs.declared.order.TheConstants.{ORDER}
 use Rattle.heads.proofs.Assigning.{assigned_as}
+use Rattle.heads.proofs.Claims.{AreRows, all_rows, one_less, last_row, rows_left}
+use Rattle.heads.proofs.Spans.{fits}
 
 -- the two numbers of byte b are its kind and argument
 abbrev pub Has : List ℕ → ℕ → Head → Type 0
@@ -79,39 +84,44 @@ module _ (v : List ℕ) (r : Row) (rows : List Row) (t : List ℕ) (w : Answers 
     answers_claimed : Answers v (r ∷ rows) after
     answers_claimed = record { size = d.size ∙ w.size; heads = λ b h. claimed_at b h _ _ refl refl }
 
--- the code's step from row i to the row before it
-dropped : (i : ℕ) → 0 < i → i ≤ 50 → drop (i - 1) order ≡ row_at (i - 1) ∷ drop i order
+dropped : (i : ℕ) → i < 50 → drop i order ≡ row_at i ∷ drop (i + 1) order
 unfolding row_at order
-dropped i l h =
-    let e : suc (i - 1) ≡ i = omega arith in
-    let k : i - 1 < 50 = omega arith in
-    drop-cons order (i - 1) (row 0 0 0 0 0) k ∙ ap (λ (j : ℕ). row_at (i - 1) ∷ drop j order) e
+dropped i l = drop-cons order i (row 0 0 0 0 0) l ∙ ap (λ (j : ℕ). row_at i ∷ drop j order) (sym (add-one i))
 
-module _ (v t : List ℕ) (i : ℕ) (c : Claim) (first : ℕ) (l : 0 < i) (h : i ≤ 50) (w : Answers v (drop i order) t) (r : IsRow (i - 1) c) (f : first ≡ number v c.name) where
-  pub step_absent : first ≡ 65535 → Answers v (drop (i - 1) order) t
-  step_absent a =
-      rw (dropped i l h)
-      (answers_absent v (row_at (i - 1)) (drop i order) t w (rw (← r.name, ← f, eq-eqb first 65535 a)))
+-- the claims that are left to make are the first rows, and the table has the answers of the others
+pub record Left (v : List ℕ) (cs : List Claim) (t : List ℕ) : Type 0 where
+  pub rows : AreRows cs
+  pub answers : Answers v (drop (length cs) order) t
 
-  module _ (tested : Bool) (g : tested ≡ tests v c.family) where
-    pub step_untested : tested ≡ false → Answers v (drop (i - 1) order) t
-    step_untested q =
-        rw (dropped i l h)
-        (answers_untested v (row_at (i - 1)) (drop i order) t w (rw (← r.family, ← g) q))
+pub left_all : (v : List ℕ) (cs : List Claim) (t : List ℕ) → cs ≡ ORDER → t ≡ replicate 512 0 → Left v cs t
+left_all v cs t e z = record { rows = all_rows cs e; answers = rw e (answers_none v t z) }
 
-    pub step_claimed : (after : List ℕ) (n mask : ℕ) → (first ≡ 65535 → ⊥) → tested ≡ true → n ≡ span_of v c.span → mask ≡ root_mask v → Assigned t first n c.kind c.argument mask after → Answers v (drop (i - 1) order) after
-    step_claimed after n mask p q s m d =
-        rw (dropped i l h)
-        (answers_claimed v (row_at (i - 1)) (drop i order) t w (rw (← r.name, ← f, ne_eqb first 65535 p)) (rw (← r.family, ← g) q) after
-        (assigned_as (f ∙ rw r.name) (s ∙ rw r.span) r.kind r.argument m d))
+pub left_none : (v : List ℕ) (cs : List Claim) (t : List ℕ) → length cs ≡ 0 → Left v cs t → Heads v t
+left_none v cs t e w = answers_all v t (length cs) e w.answers
 
-never : (t : Bool) → t ≡ true → t ≡ false → ⊥
-never t e f = let z : ◌≡◌ {A = ℕ} 0 1 = cc in omega arith
+-- the last of them is made
+module _ (v t : List ℕ) (cs ds : List Claim) (c : Claim) (e : cs ≡ ds ++ c ∷ []) (w : Left v cs t) where
+  few : length ds < 50
+  few = omega (arith, one_less cs ds c e w.rows, w.rows.few)
 
--- what decoding gives
-module _ (v t : List ℕ) where
-  pub decoded_none : isUsable v ≡ false → t ≡ replicate 512 0 → Decoded v false t
-  decoded_none e z = record { usable = sym e; heads = λ u. absurd (never (isUsable v) u e); zeros = λ u. z }
+  last : IsRow (length ds) c
+  last = last_row cs ds c e w.rows
 
-  pub decoded_all : isUsable v ≡ true → Heads v t → Decoded v true t
-  decoded_all e h = record { usable = sym e; heads = λ u. h; zeros = λ u. absurd (never (isUsable v) e u) }
+  before : Answers v (drop (length ds + 1) order) t
+  before = rw (one_less cs ds c e w.rows) at w.answers
+
+  pub left_absent : present v c.name ≡ false → Left v ds t
+  left_absent p =
+      record { rows = rows_left cs ds c e w.rows; answers = rw (dropped (length ds) few) (answers_absent v (row_at (length ds)) (drop (length ds + 1) order) t before (rw (← last.name) p)) }
+
+  pub left_untested : tests v (family_number c.family) ≡ false → Left v ds t
+  left_untested q =
+      record { rows = rows_left cs ds c e w.rows; answers = rw (dropped (length ds) few) (answers_untested v (row_at (length ds)) (drop (length ds + 1) order) t before (rw (← last.family) q)) }
+
+  module _ (first n : ℕ) (f : first ≡ number v c.name) (s : n ≡ span_bytes v c.span) (p : present v c.name ≡ true) (q : tests v (family_number c.family) ≡ true) where
+    pub left_fits : isUsable v ≡ true → (first + n ≤ 256) × (length t ≡ 512)
+    left_fits u = (fits v (length ds) c first n u few last f p q s, w.answers.size)
+
+    pub left_claimed : (after : List ℕ) (mask : ℕ) → mask ≡ root_mask v → Assigned t first n (kind_number c.kind) (argument_number c.argument) mask after → Left v ds after
+    left_claimed after mask m d =
+        record { rows = rows_left cs ds c e w.rows; answers = rw (dropped (length ds) few) (answers_claimed v (row_at (length ds)) (drop (length ds + 1) order) t before (rw (← last.name) p) (rw (← last.family) q) after (assigned_as (f ∙ rw last.name) (s ∙ last.span v) last.kind last.argument m d)) }

@@ -1,5 +1,5 @@
 pub mod Answers
 pub mod Assigning
-pub mod Order
+pub mod Claims
 pub mod Rules
 pub mod Spans

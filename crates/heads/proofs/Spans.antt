@@ -8,12 +8,12 @@ use native.Mathlib.Nat.{not-suc-le-zero, le_of_suc-le-suc}
 use native.Mathlib.Omega.{arith}
 use lib.Dec.{ltb, eqb}
 use lib.ListN.{length, get_or}
-use borrow.Author.Tests.{ltb-true, eqb-true, eqb-false, ne_eqb, not-true}
+use borrow.Author.Tests.{ltb-true, eqb-true, eqb-false, not-true}
 use Rattle.sheet.specs.Sheet.{number, present, usable}
 use Rattle.sheet.specs.Usable.{Usable}
 use Rattle.heads.specs.Heads.{Row, row, order, span_of, tests}
-use Rattle.heads.specs.Assigning.{row_at, IsRow}
-use Rattle.heads.specs.declared.heads.Claim.{Claim}
+use Rattle.heads.specs.Assigning.{span_bytes, family_number, row_at, IsRow}
+use Rattle.heads.specs.declared.order.Claim.{Claim}
 use Rattle.sheet.proofs.UsableSheet.{and_left, and_right, usable_gives}
 
 abbrev Fits : List ℕ → Row → Type 0
@@ -106,8 +106,8 @@ module _ (v : List ℕ) (u : Usable v) where
   unfolding row_at order
   row_fits_lem i h = fits_at order wide i h
 
--- the same of the code's numbers
-pub fits : (v : List ℕ) (i : ℕ) (c : Claim) (first n : ℕ) (tested : Bool) → usable v ≡ true → i < 50 → IsRow i c → first ≡ number v c.name → (first ≡ 65535 → ⊥) → tested ≡ tests v c.family → tested ≡ true → n ≡ span_of v c.span → first + n ≤ 256
-fits v i c first n tested u h r f p g t s =
-    rw (f, s, r.name, r.span)
-    (row_fits_lem v (usable_gives v u) i h (rw (← r.name, ← f, ne_eqb first 65535 p)) (rw (← r.family, ← g) t))
+-- the same of a claim
+pub fits : (v : List ℕ) (i : ℕ) (c : Claim) (first n : ℕ) → usable v ≡ true → i < 50 → IsRow i c → first ≡ number v c.name → present v c.name ≡ true → tests v (family_number c.family) ≡ true → n ≡ span_bytes v c.span → first + n ≤ 256
+fits v i c first n u h r f p t s =
+    rw (f, s, r.span v, r.name)
+    (row_fits_lem v (usable_gives v u) i h (rw (← r.name) p) (rw (← r.family) t))

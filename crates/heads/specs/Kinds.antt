@@ -1,5 +1,7 @@
 -- What a reference can be by its head byte, as numbers (column 4 of `order` in Heads.antt). Assumes nothing: these are definitions.
 use Rattle.std.specs.Prelude.{ℕ}
+use Rattle.heads.specs.declared.kinds.Kind.{Kind}
+use Rattle.heads.specs.declared.kinds.Kind.TheVariants.{NoMeaning, NewObject, Backref, LegacyBackref, LegacyBackrefWithSkip, NextChunk, Alignment, Hot, HotWithSkip, RootArray, RootConstant, RootConstantWithSkip, ReadOnly, Attached, Builtin, External, Api, Internal, Deoptimizer, StreamBytes, EmbedderFields, OffHeapTarget, Cache, RegisterPending, ClearedWeak, WeakPrefix, PointerPrefix, DispatchEntry, FixedRaw, VariableRaw, Skip, FixedRepeat, FixedRepeatRoot, RepeatPrevious, VariableRepeat, VariableRepeatPrevious, VariableRepeatRoot, MetaMap}
 
 -- head byte without meaning (refusal 10)
 abbrev pub no_meaning : ℕ
@@ -152,3 +154,44 @@ variable_repeat_root = 36
 -- meta map (refusal 11)
 abbrev pub meta_map : ℕ
 meta_map = 37
+
+-- the number that stands for a kind of the code
+abbrev pub kind_number : Kind → ℕ
+kind_number NoMeaning = no_meaning
+kind_number NewObject = new_object
+kind_number Backref = backref
+kind_number LegacyBackref = legacy_backref
+kind_number LegacyBackrefWithSkip = legacy_backref_with_skip
+kind_number NextChunk = next_chunk
+kind_number Alignment = alignment
+kind_number Hot = hot
+kind_number HotWithSkip = hot_with_skip
+kind_number RootArray = root_array
+kind_number RootConstant = root_constant
+kind_number RootConstantWithSkip = root_constant_with_skip
+kind_number ReadOnly = read_only
+kind_number Attached = attached
+kind_number Builtin = builtin
+kind_number External = external
+kind_number Api = api
+kind_number Internal = internal
+kind_number Deoptimizer = deoptimizer
+kind_number StreamBytes = stream_bytes
+kind_number EmbedderFields = embedder_fields
+kind_number OffHeapTarget = off_heap_target
+kind_number Cache = cache
+kind_number RegisterPending = register_pending
+kind_number ClearedWeak = cleared_weak
+kind_number WeakPrefix = weak_prefix
+kind_number PointerPrefix = pointer_prefix
+kind_number DispatchEntry = dispatch_entry
+kind_number FixedRaw = fixed_raw
+kind_number VariableRaw = variable_raw
+kind_number Skip = skip
+kind_number FixedRepeat = fixed_repeat
+kind_number FixedRepeatRoot = fixed_repeat_root
+kind_number RepeatPrevious = repeat_previous
+kind_number VariableRepeat = variable_repeat
+kind_number VariableRepeatPrevious = variable_repeat_previous
+kind_number VariableRepeatRoot = variable_repeat_root
+kind_number MetaMap = meta_map

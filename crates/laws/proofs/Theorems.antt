@@ -30,7 +30,7 @@ module _ (x : Input) where
         on_given = λ S m v i d. tt;
         on_backref = λ S m o i h. tt;
         on_hot = λ S m i r s h e. tt;
-        on_found = λ S m space next r s i e. tt;
+        on_found = λ S m space b s i e. tt;
         on_raw = λ S m n advances s i h. (tt, tt);
         on_pending = λ S m s i h. (tt, tt);
         on_value = λ S m v s i h l. (tt, tt, λ n. tt);

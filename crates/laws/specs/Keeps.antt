@@ -1,6 +1,6 @@
 -- Steps, records, objects and their items: each keeps what it has in order (Sound.antt) and an invariant with its rules (Rules.antt), and
 -- gives what its callers need. Assumes nothing.
-use Rattle.std.specs.Prelude.{◌≡◌, Bool, ◌&&◌, List, ◌∷◌, leb}
+use Rattle.std.specs.Prelude.{◌≡◌, Bool, ◌&&◌, List, ◌∷◌, leb, Option, Some, None}
 use Rattle.std.proofs.Math.Path.{refl, ap}
 use Rattle.std.proofs.Common.{sym, ◌∙◌, subst, ⊎_elim}
 use Rattle.std.proofs.Math.Bool.{true, false}
@@ -10,7 +10,6 @@ use borrow.Author.Tests.{ltb-true, leb-false, eqb-true, eqb-false}
 use Rattle.std.proofs.Math.Dec.{ltb, eqb}
 use Rattle.std.proofs.Math.ListN.{length}
 use Rattle.stream.specs.declared.putint.Int.{Int}
-use Rattle.stream.specs.declared.putint.Int.TheVariants.{Is, Cut as CutInt}
 use Rattle.stream.specs.Bytes.{peek_at}
 use Rattle.stream.specs.PutInt.{int_at}
 use Rattle.sheet.specs.Names.{k_deferred}
@@ -142,9 +141,9 @@ module _ {x : Input} {I : List Frame → Mem → Type 0} {W : Mem → SlotValue 
       gives (good_moved R w (m.at + 1) (omega arith) (omega arith)) (record { reads = omega arith; small = g.bytes m.at; skip_same = refl; pending_same = refl; only = refl }))
       (λ _. refuses (good_moved R w (length x.payload) w.kept.sound.within (omega arith))))
 
-  int_after : {S : List Frame} {m : Mem} → Good x I S m m → (i : Int) → IntEnds x.payload m.at i → Ends x I m (λ _. S) (Passed (2 ^ 30) m) (after_int x i m)
-  int_after {m} w (Is v n) e = gives (good_moved R w (m.at + n) (omega arith) (omega arith)) (record { reads = omega arith; small = e.3; skip_same = refl; pending_same = refl; only = refl })
-  int_after w CutInt e = refuses (good_moved R w (length x.payload) w.kept.sound.within (omega arith))
+  int_after : {S : List Frame} {m : Mem} → Good x I S m m → (i : Option Int) → IntEnds x.payload m.at i → Ends x I m (λ _. S) (Passed (2 ^ 30) m) (after_int x i m)
+  int_after {m} w (Some i) e = gives (good_moved R w (m.at + i.count) (omega arith) (omega arith)) (record { reads = omega arith; small = e.3; skip_same = refl; pending_same = refl; only = refl })
+  int_after w None e = refuses (good_moved R w (length x.payload) w.kept.sound.within (omega arith))
 
   pub int_keeps : Keeping x I (Passed (2 ^ 30)) (int x)
   unfolding int

@@ -1,5 +1,5 @@
 -- What the definitions below the walk keep: integers, raw ranges, back-references, the ring, allocation, head bytes. Assumes nothing.
-use Rattle.std.specs.Prelude.{◌≡◌, Bool, not, ◌&&◌, ◌||◌, ◌≢◌, List, [], ◌∷◌, ℕ, zero, suc, ◌+◌, ◌-◌, ◌*◌, ◌%◌, ◌^◌, ◌<◌, ◌≤◌, ltb, leb, eqb, get_or, set}
+use Rattle.std.specs.Prelude.{◌≡◌, Bool, not, ◌&&◌, ◌||◌, ◌≢◌, List, [], ◌∷◌, ℕ, zero, suc, ◌+◌, ◌-◌, ◌*◌, ◌%◌, ◌^◌, ◌<◌, ◌≤◌, ltb, leb, eqb, get_or, set, Option, Some, None, Ok, Err}
 use Rattle.std.proofs.Math.Path.{refl}
 use Rattle.std.proofs.Common.{◌∙◌, ⊎_elim, arith, lt_of_lt_of_le, length-set, pow_mono}
 use Rattle.std.proofs.Math.Bool.{true, false}
@@ -8,10 +8,7 @@ use Rattle.std.proofs.lemmas.Nat.{and_le_l}
 use Rattle.std.proofs.Math.ListN.{length, get_or-eq_default}
 use Rattle.std.proofs.lemmas.List.Edits.{sets}
 use Rattle.std.proofs.Math.Seq.{length-sets}
-use Rattle.stream.specs.declared.bytes.Range.{Range}
-use Rattle.stream.specs.declared.bytes.Range.TheVariants.{To as RangeTo, Past}
 use Rattle.stream.specs.declared.putint.Int.{Int}
-use Rattle.stream.specs.declared.putint.Int.TheVariants.{Is, Cut as CutInt}
 use Rattle.stream.specs.Bytes.{peek_at, little_endian, raw_at, pick_range}
 use Rattle.stream.specs.PutInt.{pick_int, int_length, int_at}
 use Rattle.stream.proofs.ByteLaws.{Bytes, le_below, peek-byte}
@@ -28,27 +25,24 @@ use Rattle.tables.specs.Records.{room}
 use Rattle.tables.proofs.RecordLaws.{written_length}
 use Rattle.alloc.specs.declared.legacy_alloc.LegacyAlloc.{LegacyAlloc}
 use Rattle.alloc.specs.declared.legacy_alloc.Request.{Request}
-use Rattle.alloc.specs.declared.resolve.Found.{Found}
-use Rattle.alloc.specs.declared.resolve.Found.TheVariants.{Object, Nothing}
+use Rattle.alloc.specs.declared.resolve.Place.{Place}
 use Rattle.alloc.specs.Resolve.{resolve_of, ordinal_from}
 use Rattle.alloc.specs.Fill.{fill_to_align}
 use Rattle.alloc.specs.Allocation.{advance_of, pick_alloc, next_chunk, Outcome, pick_outcome, placed, allocate_of}
-use Rattle.backref.specs.declared.legacy.Backref.{Backref}
-use Rattle.backref.specs.declared.legacy.Backref.TheVariants.{To, Cut, Unknown}
-use Rattle.backref.specs.declared.legacy.Place.{Place}
+use Rattle.backref.specs.declared.legacy.BackrefError.TheVariants.{Cut, Unknown}
 use Rattle.backref.specs.HotRing.{next_place, entered}
-use Rattle.backref.specs.Legacy.{pick_backref, numbered_as, by_number, by_place, with_int, index_of, unpacked, packed_backref, plain_backref, backref_of}
+use Rattle.backref.specs.Legacy.{Answer, pick_backref, numbered_as, by_number, by_place, with_int, index_of, unpacked, packed_backref, plain_backref, backref_of}
 
 -- ---- integers and raw ranges
 
-pick_int_case : (P : Int → Type 0) (t : Bool) (a b : Int) → (t ≡ true → P a) → (t ≡ false → P b) → P (pick_int t a b)
+pick_int_case : (P : Option Int → Type 0) (t : Bool) (a b : Option Int) → (t ≡ true → P a) → (t ≡ false → P b) → P (pick_int t a b)
 pick_int_case P true a b y n = y refl
 pick_int_case P false a b y n = n refl
 
 -- an integer reads a byte at least and ends within the payload, and its value has 30 bits
-abbrev pub IntEnds : List ℕ → ℕ → Int → Type 0
-IntEnds p at (Is v n) = (0 < n) × (n ≤ 4) × (at + n ≤ length p) × (v < 2 ^ 30)
-IntEnds p at CutInt = Unit {0}
+abbrev pub IntEnds : List ℕ → ℕ → Option Int → Type 0
+IntEnds p at (Some i) = (0 < i.count) × (i.count ≤ 4) × (at + i.count ≤ length p) × (i.value < 2 ^ 30)
+IntEnds p at None = Unit {0}
 
 int-length : (p : List ℕ) (at : ℕ) → (0 < int_length p at) × (int_length p at ≤ 4)
 unfolding int_length
@@ -63,13 +57,13 @@ int_ends p at bs =
     let value : little_endian p at (int_length p at) < 2 ^ 32 = lt_of_lt_of_le (le_below p at (int_length p at) bs) (pow_mono {j = 32} (omega arith)) in
     omega (arith, leb-false (length p) at e, ltb-false (length p - at) (int_length p at) f)))
 
-pick_range_case : (P : Range → Type 0) (t : Bool) (a b : Range) → (t ≡ true → P a) → (t ≡ false → P b) → P (pick_range t a b)
+pick_range_case : (P : Option ℕ → Type 0) (t : Bool) (a b : Option ℕ) → (t ≡ true → P a) → (t ≡ false → P b) → P (pick_range t a b)
 pick_range_case P true a b y n = y refl
 pick_range_case P false a b y n = n refl
 
-abbrev pub RawEnds : List ℕ → ℕ → ℕ → Range → Type 0
-RawEnds p at n (RangeTo end) = (end ≡ at + n) × (end ≤ length p)
-RawEnds p at n Past = Unit {0}
+abbrev pub RawEnds : List ℕ → ℕ → ℕ → Option ℕ → Type 0
+RawEnds p at n (Some end) = (end ≡ at + n) × (end ≤ length p)
+RawEnds p at n None = Unit {0}
 
 pub raw_ends : (p : List ℕ) (at n : ℕ) → RawEnds p at n (raw_at p at n)
 unfolding raw_at
@@ -122,27 +116,27 @@ entered_length hot f =
 -- ---- legacy back-references
 
 -- the cursor after a back-reference lies after it and within the payload
-abbrev pub BackrefEnds : List ℕ → ℕ → Backref → Type 0
-BackrefEnds p at (To r next) = (at < next) × (next ≤ length p)
-BackrefEnds p at Cut = Unit {0}
-BackrefEnds p at (Unknown next) = (at < next) × (next ≤ length p)
+abbrev pub BackrefEnds : List ℕ → ℕ → Answer → Type 0
+BackrefEnds p at (Ok b) = (at < b.next) × (b.next ≤ length p)
+BackrefEnds p at (Err Cut) = Unit {0}
+BackrefEnds p at (Err (Unknown next)) = (at < next) × (next ≤ length p)
 
-pick_backref_case : (P : Backref → Type 0) (t : Bool) (a b : Backref) → P a → P b → P (pick_backref t a b)
+pick_backref_case : (P : Answer → Type 0) (t : Bool) (a b : Answer) → P a → P b → P (pick_backref t a b)
 pick_backref_case P true a b y n = y
 pick_backref_case P false a b y n = n
 
 module _ (p : List ℕ) (at : ℕ) where
-  by_number_lem : (f : Found) (next : ℕ) → at < next → next ≤ length p → BackrefEnds p at (by_number f next)
-  by_number_lem (Object o) next h l = (h, l)
-  by_number_lem Nothing next h l = (h, l)
+  by_number_lem : (f : Option ℕ) (next : ℕ) → at < next → next ≤ length p → BackrefEnds p at (by_number f next)
+  by_number_lem (Some o) next h l = (h, l)
+  by_number_lem None next h l = (h, l)
 
-  by_place_lem : (f : Found) (place : Place) (next : ℕ) → at < next → next ≤ length p → BackrefEnds p at (by_place f place next)
-  by_place_lem (Object o) place next h l = (h, l)
-  by_place_lem Nothing place next h l = (h, l)
+  by_place_lem : (f : Option ℕ) (place : Place) (next : ℕ) → at < next → next ≤ length p → BackrefEnds p at (by_place f place next)
+  by_place_lem (Some o) place next h l = (h, l)
+  by_place_lem None place next h l = (h, l)
 
-  after_int_lem : (i : Int) (from : ℕ) (f : ℕ → ℕ → Backref) → at ≤ from → IntEnds p from i → ((v next : ℕ) → at < next → next ≤ length p → BackrefEnds p at (f v next)) → BackrefEnds p at (with_int i from f)
-  after_int_lem (Is v n) from f b e h = h v (from + n) (omega arith) e.2
-  after_int_lem CutInt from f b e h = tt
+  after_int_lem : (i : Option Int) (from : ℕ) (f : ℕ → ℕ → Answer) → at ≤ from → IntEnds p from i → ((v next : ℕ) → at < next → next ≤ length p → BackrefEnds p at (f v next)) → BackrefEnds p at (with_int i from f)
+  after_int_lem (Some i) from f b e h = h i.value (from + i.count) (omega arith) e.2
+  after_int_lem None from f b e h = tt
 
 module _ (v p t : List ℕ) (n alignment space at : ℕ) (bs : Bytes p) where
   packed_ends : BackrefEnds p at (packed_backref v p t n alignment space at)

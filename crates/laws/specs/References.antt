@@ -1,14 +1,12 @@
 -- A reference keeps what it has in order (Sound.antt) and an invariant with its rules (Rules.antt), reads a byte at least, and no item is
 -- wider than 2 ^ 34 bytes. Assumes nothing.
-use Rattle.std.specs.Prelude.{◌≡◌, Bool, ltb, eqb, length}
+use Rattle.std.specs.Prelude.{◌≡◌, Bool, ltb, eqb, length, Option, Some, None, Ok, Err}
 use Rattle.std.proofs.Math.Path.{refl}
 use Rattle.std.proofs.Math.Bool.{true, false}
 use Rattle.std.proofs.Common.{⊎_elim, eqb-true, ltb-true}
 use mathlib.Core.List.{List}
 use Prim.Native.Nat.{ℕ, zero, suc, ◌+◌, ◌-◌, ◌*◌, ◌^◌, ◌<◌, ◌≤◌}
 use native.Mathlib.Omega.{arith}
-use Rattle.stream.specs.declared.bytes.Range.{Range}
-use Rattle.stream.specs.declared.bytes.Range.TheVariants.{To as RangeTo, Past}
 use Rattle.stream.specs.Bytes.{raw_at}
 use Rattle.sheet.specs.Sheet.{raw_advances}
 use Rattle.heads.specs.Kinds.{new_object, backref, legacy_backref, legacy_backref_with_skip, next_chunk, alignment, hot, hot_with_skip, root_array, root_constant, root_constant_with_skip, read_only, attached, builtin, external, api, internal, deoptimizer, stream_bytes, embedder_fields, off_heap_target, cache, register_pending, cleared_weak, weak_prefix, pointer_prefix, dispatch_entry, fixed_raw, variable_raw, skip, fixed_repeat, fixed_repeat_root, repeat_previous, variable_repeat, variable_repeat_previous, variable_repeat_root, meta_map}
@@ -18,12 +16,9 @@ use Rattle.tables.specs.declared.values.Ref.TheVariants.{Object, Root, RoRef, At
 use Rattle.tables.specs.declared.values.SlotValue.{SlotValue}
 use Rattle.tables.specs.declared.values.SlotValue.TheVariants.{Ref as IsRef, RepeatPrev, Skip, StreamBytes, ClearedWeak}
 use Rattle.tables.specs.Values.{pick_ℕ, ref_fields, width_of}
-use Rattle.backref.specs.declared.hot_ring.Hot.{Hot}
-use Rattle.backref.specs.declared.hot_ring.Hot.TheVariants.{Is, Empty}
 use Rattle.backref.specs.HotRing.{entered, hot_at}
-use Rattle.backref.specs.declared.legacy.Backref.{Backref}
-use Rattle.backref.specs.declared.legacy.Backref.TheVariants.{To, Cut, Unknown}
-use Rattle.backref.specs.Legacy.{backref_of}
+use Rattle.backref.specs.declared.legacy.BackrefError.TheVariants.{Cut, Unknown}
+use Rattle.backref.specs.Legacy.{Answer, backref_of}
 use Rattle.definition.specs.Memory.{Input, word, Mem, Reader, ◌>>=◌, ◌>>◌, give, change, moved, with_hot, int, aligned}
 use Rattle.definition.specs.Reference.{skip_amount, refers, refers_hot, backref_to, of_hot, hot_place, of_backref, legacy_reference, outside, pending_reference, after_raw, raw_data, raw_bytes, weak_of, repeat_of, repeat_root, by_head, reference, ref_at}
 use Rattle.laws.specs.Sound.{Proper}
@@ -88,9 +83,9 @@ module _ {x : Input} {I : List Frame → Mem → Type 0} {W : Mem → SlotValue 
   pub hot_place_keeps : (i : ℕ) → Keeping x I Gives (hot_place i)
   hot_place_keeps i = law (λ S m w. place w (hot_at m.hot i) refl)
     where
-      place : {S : List Frame} {m : Mem} → Good x I S m m → (h : Hot) → hot_at m.hot i ≡ h → Ends x I m (λ _. S) (Gives m) (of_hot h m)
-      place {S} {m} w (Is r) e = gives w (omega (arith, word_low g), R.on_hot S m i r w.kept.sound w.has e)
-      place w Empty e = refuses w
+      place : {S : List Frame} {m : Mem} → Good x I S m m → (h : Option Ref) → hot_at m.hot i ≡ h → Ends x I m (λ _. S) (Gives m) (of_hot h m)
+      place {S} {m} w (Some r) e = gives w (omega (arith, word_low g), R.on_hot S m i r w.kept.sound w.has e)
+      place w None e = refuses w
 
   pub legacy_reference_keeps : (space : ℕ) → Keeping x I (Refers x W) (legacy_reference x space)
   unfolding legacy_reference
@@ -98,12 +93,12 @@ module _ {x : Input} {I : List Frame → Mem → Type 0} {W : Mem → SlotValue 
       law (λ S m w. found w (backref_of x.sheet x.payload m.addresses.rows m.addresses.count m.alignment space m.at) refl
       (backref_ends x.sheet x.payload m.addresses.rows m.addresses.count m.alignment space m.at g.bytes))
     where
-      found : {S : List Frame} {m : Mem} → Good x I S m m → (b : Backref) → backref_of x.sheet x.payload m.addresses.rows m.addresses.count m.alignment space m.at ≡ b → BackrefEnds x.payload m.at b → Ends x I m (λ _. S) (Refers x W m) (of_backref x b m)
-      found {S} {m} w (To r next) q e =
-          let h : W (moved next m) (IsRef r) = R.aside m (moved next m) (IsRef r) refl (R.on_found S m space next r w.kept.sound w.has q) in
-          hot_ends (good_moved R w next (omega arith) e.1) r h (record { reads = e.0; narrow = omega (arith, word_low g); has = entered_has r h })
-      found w Cut q e = refuses (good_moved R w (length x.payload) w.kept.sound.within (omega arith))
-      found w (Unknown next) q e = refuses (good_moved R w next (omega arith) e.1)
+      found : {S : List Frame} {m : Mem} → Good x I S m m → (b : Answer) → backref_of x.sheet x.payload m.addresses.rows m.addresses.count m.alignment space m.at ≡ b → BackrefEnds x.payload m.at b → Ends x I m (λ _. S) (Refers x W m) (of_backref x b m)
+      found {S} {m} w (Ok b) q e =
+          let h : W (moved b.next m) (IsRef b.target) = R.aside m (moved b.next m) (IsRef b.target) refl (R.on_found S m space b w.kept.sound w.has q) in
+          hot_ends (good_moved R w b.next (omega arith) e.1) b.target h (record { reads = e.0; narrow = omega (arith, word_low g); has = entered_has b.target h })
+      found w (Err Cut) q e = refuses (good_moved R w (length x.payload) w.kept.sound.within (omega arith))
+      found w (Err (Unknown next)) q e = refuses (good_moved R w next (omega arith) e.1)
 
   outside_keeps : (n : ℕ) → Keeping x I Gives (outside x n)
   outside_keeps n = int_first _ (λ i h. refers_keeps (RoRef (2 ^ 32 - n) i) tt)
@@ -116,13 +111,13 @@ module _ {x : Input} {I : List Frame → Mem → Type 0} {W : Mem → SlotValue 
       width_low true h = h
       width_low false h = omega arith
 
-      after : {S : List Frame} {m : Mem} → Good x I S m m → (e : Range) → RawEnds x.payload m.at n e → Ends x I m (λ _. S) (Gives m) (after_raw n advances e m)
-      after {S} {m} w (RangeTo end) e =
+      after : {S : List Frame} {m : Mem} → Good x I S m m → (e : Option ℕ) → RawEnds x.payload m.at n e → Ends x I m (λ _. S) (Gives m) (after_raw n advances e m)
+      after {S} {m} w (Some end) e =
           let l : m.at + n ≤ length x.payload = omega arith in
           let z = R.on_raw S m n advances w.kept.sound w.has l in
           rw e.0
           (gives (record { kept = kept_noted (kept_moved w.kept (m.at + n) (omega arith) l) _; has = z.0; listed = w.listed }) (width_low advances (omega (arith, g.short)), z.1))
-      after w Past e = refuses w
+      after w None e = refuses w
 
   -- ---- references with others in them
 

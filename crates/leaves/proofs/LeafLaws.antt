@@ -7,9 +7,9 @@ use native.Mathlib.Nat.{mul-le-mul, le_of_lt}
 use native.Mathlib.Omega.{arith}
 use borrow.Author.Tests.{lt-ltb}
 use lib.ListN.{length, get_or, set}
-use Rattle.stream.specs.declared.bytes.Range.TheVariants.{To as RangeTo}
+use Rattle.std.specs.Prelude.{Some, Ok}
 use Rattle.stream.specs.Bytes.{raw_at}
-use Rattle.stream.specs.declared.putint.Int.TheVariants.{Is as IntIs}
+use Rattle.stream.specs.declared.putint.Int.{Int}
 use Rattle.stream.specs.PutInt.{int_at}
 use Rattle.sheet.specs.Sheet.{word_bytes}
 use Rattle.tables.specs.declared.values.Ref.{Ref}
@@ -18,11 +18,9 @@ use Rattle.tables.specs.declared.values.SlotValue.{SlotValue}
 use Rattle.tables.specs.declared.values.SlotValue.TheVariants.{Ref as IsRef, Raw as IsRaw}
 use Rattle.tables.specs.Values.{ref_fields, triple}
 use Rattle.tables.specs.Records.{room, field, slot_row, written, pick_table, Put}
-use Rattle.backref.specs.declared.hot_ring.Hot.TheVariants.{Is as HotIs}
 use Rattle.backref.specs.HotRing.{entered, hot_at}
 use Rattle.backref.specs.declared.legacy.Backref.{Backref}
-use Rattle.backref.specs.declared.legacy.Backref.TheVariants.{To}
-use Rattle.backref.specs.Legacy.{backref_of}
+use Rattle.backref.specs.Legacy.{Answer, backref_of}
 use Rattle.definition.specs.Memory.{Input, word, Mem, got, moved, with_hot, int, Reader}
 use Rattle.definition.specs.Slots.{keep_item, place_item}
 use Rattle.definition.specs.Reference.{backref_to, refers, refers_hot, by_head}
@@ -55,7 +53,7 @@ module _ (x : Input) (r : Ref) where
   ref_kept o done m = refl
 
 -- an integer at the cursor
-pub int_got : (x : Input) (m : Mem) {v n : ℕ} → int_at x.payload m.at ≡ IntIs v n → got v (moved (m.at + n) m) ≡ int x m
+pub int_got : (x : Input) (m : Mem) {i : Int} → int_at x.payload m.at ≡ Some i → got i.value (moved (m.at + i.count) m) ≡ int x m
 unfolding int
 int_got x m e = rw e
 
@@ -83,7 +81,7 @@ module _ (p hots : List ℕ) (objects ts at : ℕ) where
       record { value = IsRef (Root i); is = λ inner. rw (← ea); fields = refl; width = sym ew; kept = ref_kept (input v p sp tr) (Root i); waits = refl; valued = refl }
 
   module _ (place : ℕ) where
-    hot-found : (r : Ref) (k i : ℕ) → value_of (record { kind = k; a = i; b = 0; width = ts; next = at; enters = false }) ≡ IsRef r → record { kind = k; a = i; b = 0 } ≡ ref_fields r → HotIs r ≡ hot_at hots place → Found p hots objects ts at 7 place (record { kind = k; a = i; b = 0; width = ts; next = at; enters = false })
+    hot-found : (r : Ref) (k i : ℕ) → value_of (record { kind = k; a = i; b = 0; width = ts; next = at; enters = false }) ≡ IsRef r → record { kind = k; a = i; b = 0 } ≡ ref_fields r → Some r ≡ hot_at hots place → Found p hots objects ts at 7 place (record { kind = k; a = i; b = 0; width = ts; next = at; enters = false })
     unfolding by_head
     hot-found r k i y f e h v tr sp tag s l ew ea eo =
         record { value = IsRef r; is = λ inner. rw (← ea) (hot_is_lem (mem s (hot_is hots l)) place e refl); fields = f; width = sym ew; kept = ref_kept (input v p sp tr) r; waits = refl; valued = y }
@@ -97,33 +95,33 @@ module _ (p hots : List ℕ) (objects ts at : ℕ) where
       unfolding hot_at
       hot_root z = hot-found (Root i) k i (rw z) (rw z) (rw (← ek, z, ← ei))
 
-  pub back_found : (i n a : ℕ) → IntIs i n ≡ int_at p at → i < objects → (leaf : Leaf) → Entered (Object i) (at + n) ts leaf → Found p hots objects ts at 2 a leaf
+  pub back_found : (i : Int) (a : ℕ) → Some i ≡ int_at p at → i.value < objects → (leaf : Leaf) → Entered (Object i.value) (at + i.count) ts leaf → Found p hots objects ts at 2 a leaf
   unfolding by_head
-  back_found i n a e b leaf q h v tr sp tag s l ew ea eo =
+  back_found i a e b leaf q h v tr sp tag s l ew ea eo =
       let x = input v p sp tr in
       let m : Mem = mem s (hot_is hots l) in
-      let g : got i (moved (s.at + n) m) ≡ int x m = int_got x m (ap (int_at p) ea ∙ sym e) in
-      entering_stands x tag 2 a s (hot_is hots l) (Object i) (at + n) ts leaf (q h).0 (q h).1 ew (λ inner. rw (← ea) (then_got backref_to g (backref_in (moved (s.at + n) m) i (rw eo b) refl)))
+      let g : got i.value (moved (s.at + i.count) m) ≡ int x m = int_got x m (ap (int_at p) ea ∙ sym e) in
+      entering_stands x tag 2 a s (hot_is hots l) (Object i.value) (at + i.count) ts leaf (q h).0 (q h).1 ew (λ inner. rw (← ea) (then_got backref_to g (backref_in (moved (s.at + i.count) m) i.value (rw eo b) refl)))
 
-  pub root_array_found : (i n a : ℕ) → IntIs i n ≡ int_at p at → (leaf : Leaf) → Entered (Root i) (at + n) ts leaf → Found p hots objects ts at 9 a leaf
+  pub root_array_found : (i : Int) (a : ℕ) → Some i ≡ int_at p at → (leaf : Leaf) → Entered (Root i.value) (at + i.count) ts leaf → Found p hots objects ts at 9 a leaf
   unfolding by_head
-  root_array_found i n a e leaf q h v tr sp tag s l ew ea eo =
+  root_array_found i a e leaf q h v tr sp tag s l ew ea eo =
       let x = input v p sp tr in
       let m : Mem = mem s (hot_is hots l) in
-      let g : got i (moved (s.at + n) m) ≡ int x m = int_got x m (ap (int_at p) ea ∙ sym e) in
-      entering_stands x tag 9 a s (hot_is hots l) (Root i) (at + n) ts leaf (q h).0 (q h).1 ew (λ inner. rw (← ea) (then_got (λ i. refers_hot (Root i)) g refl))
+      let g : got i.value (moved (s.at + i.count) m) ≡ int x m = int_got x m (ap (int_at p) ea ∙ sym e) in
+      entering_stands x tag 9 a s (hot_is hots l) (Root i.value) (at + i.count) ts leaf (q h).0 (q h).1 ew (λ inner. rw (← ea) (then_got (λ i. refers_hot (Root i)) g refl))
 
-  pub read_only_found : (c n o k a : ℕ) → IntIs c n ≡ int_at p at → IntIs o k ≡ int_at p (at + n) → Found p hots objects ts at 12 a (record { kind = 3; a = c; b = o; width = ts; next = at + n + k; enters = false })
+  pub read_only_found : (c o : Int) (a : ℕ) → Some c ≡ int_at p at → Some o ≡ int_at p (at + c.count) → Found p hots objects ts at 12 a (record { kind = 3; a = c.value; b = o.value; width = ts; next = at + c.count + o.count; enters = false })
   unfolding by_head
-  read_only_found c n o k a e g h v tr sp tag s l ew ea eo =
+  read_only_found c o a e g h v tr sp tag s l ew ea eo =
       let x = input v p sp tr in
       let m : Mem = mem s (hot_is hots l) in
-      let m₁ : Mem = moved (s.at + n) m in
-      let q : got c m₁ ≡ int x m = int_got x m (ap (int_at p) ea ∙ sym e) in
-      let q₁ : got o (moved (s.at + n + k) m₁) ≡ int x m₁ = int_got x m₁ (ap (λ (at : ℕ). int_at p (at + n)) ea ∙ sym g) in
-      record { value = IsRef (RoRef c o); is = λ inner. rw (← ea) (then_got (λ c. λ m. _) q (then_got (λ o. refers (RoRef c o)) q₁ refl)); fields = refl; width = sym ew; kept = ref_kept x (RoRef c o); waits = refl; valued = refl }
+      let m₁ : Mem = moved (s.at + c.count) m in
+      let q : got c.value m₁ ≡ int x m = int_got x m (ap (int_at p) ea ∙ sym e) in
+      let q₁ : got o.value (moved (s.at + c.count + o.count) m₁) ≡ int x m₁ = int_got x m₁ (ap (λ (at : ℕ). int_at p (at + c.count)) ea ∙ sym g) in
+      record { value = IsRef (RoRef c.value o.value); is = λ inner. rw (← ea) (then_got (λ c. λ m. _) q (then_got (λ o. refers (RoRef c.value o)) q₁ refl)); fields = refl; width = sym ew; kept = ref_kept x (RoRef c.value o.value); waits = refl; valued = refl }
 
-  pub raw_found : (n end : ℕ) → RangeTo end ≡ raw_at p at (n * ts) → Found p hots objects ts at 28 n (record { kind = 5; a = at; b = n * ts; width = n * ts; next = end; enters = false })
+  pub raw_found : (n end : ℕ) → Some end ≡ raw_at p at (n * ts) → Found p hots objects ts at 28 n (record { kind = 5; a = at; b = n * ts; width = n * ts; next = end; enters = false })
   unfolding by_head place_item
   raw_found n end e h v tr sp tag s l ew ea eo =
       let x = input v p sp tr in
@@ -131,13 +129,13 @@ module _ (p hots : List ℕ) (objects ts at : ℕ) where
       record { value = IsRaw (record { off = at; len = n * ts; advances = true }); is = λ inner. rw (← ea, ← ew) (raw_to x (n * word_bytes v) true m refl (rw (ea, ew) (sym e))); fields = refl; width = refl; kept = λ o done m. refl; waits = refl; valued = refl }
 
 -- a legacy back-reference
-pub legacy-found : (v p dt hots : List ℕ) (objects n alignment ts at space : ℕ) {b : Backref} → b ≡ backref_of v p dt n alignment space at → (r : Ref) (next : ℕ) → b ≡ To r next → (leaf : Leaf) → Entered r next ts leaf → {kind : ℕ} → kind ≡ 3 → FoundIn v p dt hots objects n alignment ts at kind space leaf
+pub legacy-found : (v p dt hots : List ℕ) (objects n alignment ts at space : ℕ) {b : Answer} → b ≡ backref_of v p dt n alignment space at → (r : Backref) → b ≡ Ok r → (leaf : Leaf) → Entered r.target r.next ts leaf → {kind : ℕ} → kind ≡ 3 → FoundIn v p dt hots objects n alignment ts at kind space leaf
 unfolding by_head
-legacy-found v p dt hots objects n alignment ts at space {b} e r next k leaf q ek h tr sp tag s l ew ea eo en el ed =
+legacy-found v p dt hots objects n alignment ts at space {b} e r k leaf q ek h tr sp tag s l ew ea eo en el ed =
     let x = input v p sp tr in
     let m : Mem = mem s (hot_is hots l) in
     let g : b ≡ backref_of v p l.addresses s.addresses s.alignment space s.at = rw (ed, en, el, ea) e in
-    rw ek (entering_stands x tag 3 space s (hot_is hots l) r next ts leaf (q h).0 (q h).1 ew (λ inner. legacy_to x space m g (rw k refl) k))
+    rw ek (entering_stands x tag 3 space s (hot_is hots l) r.target r.next ts leaf (q h).0 (q h).1 ew (λ inner. legacy_to x space m g (rw k refl) k))
 
 -- ---- its slot
 

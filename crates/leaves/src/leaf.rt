@@ -9,12 +9,13 @@ ghost use Rattle.definition.specs.Memory.{got};
 ghost use Rattle.readers.specs.Views.{Lent, mem, seen, hot_is};
 ghost use Rattle.leaves.specs.Leaf.{HeadsFit, ring_with, ring, after, value_of, Entered, Found, FoundIn, Placed};
 
+use address_index::resolve::AddressIndex;
 use backref::hot_ring::add_fields;
-use backref::legacy::{Backref, backref_at};
+use backref::legacy::LegacyReader;
 use readers::parts::index_start;
 use readers::state::{State, Step};
-use stream::bytes::{Range, byte, raw};
-use stream::putint::{Int, putint};
+use stream::bytes::{byte, raw};
+use stream::putint::putint;
 use tables::records::{add_slot, count_slot};
 use tables::values::{Fields, Raw, Ref, SlotValue, fields_of};
 
@@ -102,42 +103,42 @@ fn entering(r: Ref, next: usize, word: u64) -> Leaf
 fn back_leaf(p: &[u8], at: usize, objects: usize, word: u64) -> Leaf
     ensures { (hot : List ℕ) (i : ℕ) → Found p.now hot objects word at 2 i result }
 {
-    let Int::Is(i, count) = putint(p, at) else {
+    let Some(i) = putint(p, at) else {
         return none();
     };
-    if objects as u64 <= i as u64 {
+    if objects as u64 <= i.value as u64 {
         return none();
     }
-    entering(Ref::Object(i as u64), at + count, word)
+    entering(Ref::Object(i.value as u64), at + i.count, word)
 }
 
 // A root by integer, which enters the ring.
 fn root_array_leaf(p: &[u8], at: usize, word: u64) -> Leaf
     ensures { (hot : List ℕ) (objects i : ℕ) → Found p.now hot objects word at 9 i result }
 {
-    let Int::Is(i, count) = putint(p, at) else {
+    let Some(i) = putint(p, at) else {
         return none();
     };
-    entering(Ref::Root(i as u64), at + count, word)
+    entering(Ref::Root(i.value as u64), at + i.count, word)
 }
 
 // A read-only reference.
 fn read_only_leaf(p: &[u8], at: usize, word: u64) -> Leaf
     ensures { (hot : List ℕ) (objects i : ℕ) → Found p.now hot objects word at 12 i result }
 {
-    let Int::Is(chunk, count) = putint(p, at) else {
+    let Some(chunk) = putint(p, at) else {
         return none();
     };
-    let next = at + count;
-    let Int::Is(offset, more) = putint(p, next) else {
+    let next = at + chunk.count;
+    let Some(offset) = putint(p, next) else {
         return none();
     };
     Leaf {
         kind: 3,
-        a: chunk as u64,
-        b: offset as u64,
+        a: chunk.value as u64,
+        b: offset.value as u64,
         width: word,
-        next: next + more,
+        next: next + offset.count,
         enters: false,
     }
 }
@@ -148,7 +149,7 @@ fn raw_leaf(p: &[u8], at: usize, n: u64, word: u64) -> Leaf
     ensures { (hot : List ℕ) (objects : ℕ) → Found p.now hot objects word at 28 n result }
 {
     let bytes = n * word;
-    let Range::To(end) = raw(p, at, bytes as usize) else {
+    let Some(end) = raw(p, at, bytes as usize) else {
         return none();
     };
     Leaf {
@@ -198,12 +199,12 @@ pub fn leaf_at(
 }
 
 // A legacy back-reference, which enters the ring. Its search needs the address records and their index.
-fn legacy_leaf(
-    v: &[u16],
+fn legacy_leaf<'a>(
+    v: &'a [u16],
     h: &[u16; 512],
-    p: &[u8],
-    dt: &[u64],
-    sc: &[u64],
+    p: &'a [u8],
+    dt: &'a [u64],
+    sc: &'a [u64],
     at: usize,
     n: usize,
     alignment: u64,
@@ -223,9 +224,20 @@ fn legacy_leaf(
     }
     let space = h[256 + b] as u64;
     let start = index_start(p, sc);
-    match backref_at(v, p, dt, &sc[start..], n, alignment, space, at + 1) {
-        Backref::To(r, next) => entering(r, next, word),
-        _ => none(),
+    let reader = LegacyReader {
+        sheet: v,
+        payload: p,
+        addresses: AddressIndex {
+            table: dt,
+            links: &sc[start..],
+            count: n,
+        },
+        alignment,
+        space,
+    };
+    match reader.backref_at(at + 1) {
+        Ok(found) => entering(found.target, found.next, word),
+        Err(_) => none(),
     }
 }
 

@@ -24,6 +24,8 @@ use Rattle.sheet.proofs.UsableSheet.{usable_gives}
 use Rattle.sheet.proofs.TestsLaws.{span_from, span_below, alignment_out}
 use Rattle.tables.specs.Records.{room, field, address_row, written}
 use Rattle.tables.proofs.RecordLaws.{written_length}
+use Rattle.refusals.specs.declared.refusal.Refusal.{Refusal}
+use Rattle.refusals.specs.Numbers.{number_of}
 use Rattle.alloc.specs.declared.legacy_alloc.LegacyAlloc.{LegacyAlloc}
 use Rattle.alloc.specs.declared.legacy_alloc.Request.{Request}
 use Rattle.alloc.specs.Fill.{fill_to_align}
@@ -68,21 +70,28 @@ module _ (v : List ℕ) (u : usable v ≡ true) (b : ℕ) where
 
 -- ---- allocation
 
-module _ (addresses : List ℕ) (n spaces : ℕ) (want : Request) (cur used : List ℕ) {number alignment : ℕ} {used' after : List ℕ} (e : outcome number alignment (record { cur = cur; used = used' }) after ≡ allocate_of addresses n spaces want (record { cur = cur; used = used })) where
+-- a refusal's number is not 0, which stands for none
+refused_some : (r : Refusal) → number_of r ≡ 0 → ⊥
+refused_some r = grind arith
+
+-- refused, nothing changes
+module _ (addresses : List ℕ) (n spaces : ℕ) (want : Request) (cur used : List ℕ) (r : Refusal) {used' after : List ℕ} (e : outcome (number_of r) want.alignment (record { cur = cur; used = used' }) after ≡ allocate_of addresses n spaces want (record { cur = cur; used = used })) where
+  as_before : outcome (number_of r) want.alignment (record { cur = cur; used = used' }) after ≡ outcome (allocate_of addresses n spaces want (record { cur = cur; used = used })).number want.alignment (record { cur = cur; used = used }) addresses
+  as_before = e ∙ allocate_refused addresses n spaces _ _ (λ z. refused_some r (ap (λ a. a.number) e ∙ z))
+
+  pub refused_table : after ≡ addresses
+  refused_table = ap (λ a. a.table) as_before
+
+  pub refused_used : used' ≡ used
+  refused_used = ap (λ a. a.alloc.used) as_before
+
+-- allocated, the record is added
+module _ (addresses : List ℕ) (n spaces : ℕ) (want : Request) (cur used : List ℕ) {alignment : ℕ} {used' after : List ℕ} (e : outcome 0 alignment (record { cur = cur; used = used' }) after ≡ allocate_of addresses n spaces want (record { cur = cur; used = used })) where
   abbrev counters : LegacyAlloc
   counters = record { cur = cur; used = used }
 
-  pub allocated_room : number ≡ 0 → n < room 5 addresses
-  allocated_room h = allocate_room addresses n spaces _ _ (sym (ap (λ a. a.number) e) ∙ h)
-
-  as_before : (number ≡ 0 → ⊥) → outcome number alignment (record { cur = cur; used = used' }) after ≡ outcome (allocate_of addresses n spaces want counters).number want.alignment counters addresses
-  as_before h = e ∙ allocate_refused addresses n spaces _ _ (λ z. h (ap (λ a. a.number) e ∙ z))
-
-  pub refused_table : (number ≡ 0 → ⊥) → after ≡ addresses
-  refused_table h = ap (λ a. a.table) (as_before h)
-
-  pub refused_used : (number ≡ 0 → ⊥) → used' ≡ used
-  refused_used h = ap (λ a. a.alloc.used) (as_before h)
+  pub allocated_room : n < room 5 addresses
+  allocated_room = allocate_room addresses n spaces _ _ (sym (ap (λ a. a.number) e))
 
   -- the record that was added
   record Row : Type 0 where
@@ -91,30 +100,33 @@ module _ (addresses : List ℕ) (n spaces : ℕ) (want : Request) (cur used : Li
     of_space : get_or row 0 0 ≡ want.space
     is : after ≡ written addresses n row
 
-  added_row : number ≡ 0 → Row
-  added_row h = of (subst (λ (a : Outcome). a.number ≡ 0 → (n < room 5 addresses) × (Shape addresses n spaces want counters a)) (sym e) (allocate_shape addresses n spaces want counters) h).1
+  added_row : Row
+  added_row = of (subst (λ (a : Outcome). a.number ≡ 0 → (n < room 5 addresses) × (Shape addresses n spaces want counters a)) (sym e) (allocate_shape addresses n spaces want counters) refl).1
     where
-      of : Shape addresses n spaces want counters (outcome number alignment (record { cur = cur; used = used' }) after) → Row
+      of : Shape addresses n spaces want counters (outcome 0 alignment (record { cur = cur; used = used' }) after) → Row
       of (bare a q b) = record { row = address_row want.space 0 0 want.object 0; five = refl; of_space = refl; is = q }
       of (seated a q b c) = record { row = address_row want.space (get_or cur want.space 0) (get_or used want.space 0 + fill_to_align (get_or used want.space 0) want.alignment want.word) want.object 1; five = refl; of_space = refl; is = q }
 
   -- what its entering the index asks
-  pub enter_asks : number ≡ 0 → want.space < 256 → (ix : List ℕ) → Linked addresses n ix → (n < room 5 after) × (space_of after n < 256) × Linked after n ix
-  enter_asks h low ix i =
-      let d = added_row h in
-      let roomy = allocated_room h in
+  pub enter_asks : want.space < 256 → (ix : List ℕ) → Linked addresses n ix → (n < room 5 after) × (space_of after n < 256) × Linked after n ix
+  enter_asks low ix i =
+      let d = added_row in
+      let roomy = allocated_room in
       let same : length (written addresses n d.row) ≡ length addresses = written_length addresses d.row n in
       rw d.is
       (omega (arith, same, roomy), rw (new_space addresses d.row n d.five roomy, d.of_space) low, linked_same addresses _ n ix (λ i l. old_space addresses d.row n d.five roomy i l) i)
 
-module _ (x : Input) (s : State) (space bytes o : ℕ) (addresses cur used : List ℕ) (w : ℕ) {number alignment : ℕ} {used' after : List ℕ} (e : outcome number alignment (record { cur = cur; used = used' }) after ≡ allocate_of addresses s.addresses x.spaces (record { space = space; size = bytes; object = o; alignment = s.alignment; word = w }) (record { cur = cur; used = used })) (l : Lent) (ew : w ≡ word x) where
-  pub allocated_no : (number ≡ 0 → ⊥) → no number s.at (mem s (addresses_is after (counters_is cur used' l))) ≡ allocate x space bytes o (mem s (addresses_is addresses (counters_is cur used l)))
-  unfolding allocate
-  allocated_no h = rw (← ew, ← e, ne_eqb number 0 h, refused_table addresses s.addresses x.spaces _ cur used e h, refused_used addresses s.addresses x.spaces _ cur used e h)
+module _ (x : Input) (s : State) (space bytes o : ℕ) (addresses cur used : List ℕ) (w : ℕ) (l : Lent) (ew : w ≡ word x) where
+  abbrev allocates : Outcome
+  allocates = allocate_of addresses s.addresses x.spaces (record { space = space; size = bytes; object = o; alignment = s.alignment; word = w }) (record { cur = cur; used = used })
 
-  pub allocated : number ≡ 0 → got tt (with_alloc (table after (s.addresses + 1)) alignment (record { cur = cur; used = used' }) (mem s (addresses_is addresses (counters_is cur used l)))) ≡ allocate x space bytes o (mem s (addresses_is addresses (counters_is cur used l)))
+  pub allocated_no : (r : Refusal) {used' after : List ℕ} → outcome (number_of r) s.alignment (record { cur = cur; used = used' }) after ≡ allocates → no (number_of r) s.at (mem s (addresses_is after (counters_is cur used' l))) ≡ allocate x space bytes o (mem s (addresses_is addresses (counters_is cur used l)))
   unfolding allocate
-  allocated h = rw (← ew, ← e, eq-eqb number 0 h)
+  allocated_no r e = rw (← ew, ← e, ne_eqb (number_of r) 0 (refused_some r), refused_table addresses s.addresses x.spaces _ cur used r e, refused_used addresses s.addresses x.spaces _ cur used r e)
+
+  pub allocated : {alignment : ℕ} {used' after : List ℕ} → outcome 0 alignment (record { cur = cur; used = used' }) after ≡ allocates → got tt (with_alloc (table after (s.addresses + 1)) alignment (record { cur = cur; used = used' }) (mem s (addresses_is addresses (counters_is cur used l)))) ≡ allocate x space bytes o (mem s (addresses_is addresses (counters_is cur used l)))
+  unfolding allocate
+  allocated e = rw (← ew, ← e)
 
 -- ---- chunk changes
 

@@ -5,8 +5,8 @@ use mathlib.Core.Bool.{Bool, true, false, ◌&&◌}
 use Prim.Native.Nat.{ℕ, ◌+◌, ◌-◌, ◌*◌}
 use lib.Dec.{ltb, eqb}
 use lib.ListN.{length, get_or}
+use Rattle.std.specs.Prelude.{Option, Some, None}
 use Rattle.stream.specs.declared.putint.Int.{Int}
-use Rattle.stream.specs.declared.putint.Int.TheVariants.{Is, Cut}
 use Rattle.stream.specs.PutInt.{int_at}
 use Rattle.sheet.specs.Sheet.{is_legacy, is_six_x, is_map_first, lo_space}
 use Rattle.tables.specs.declared.values.SlotValue.{SlotValue}
@@ -57,9 +57,9 @@ abbrev Keeps : {A : Type 0} → Mem → Out A → Type 0
 Keeps m (got v m') = m'.objects ≡ m.objects
 Keeps m (no n q m') = Unit {0}
 
-int_keeps : (x : Input) (m : Mem) (i : Int) → Keeps m (after_int x i m)
-int_keeps x m (Is v count) = refl
-int_keeps x m Cut = tt
+int_keeps : (x : Input) (m : Mem) (i : Option Int) → Keeps m (after_int x i m)
+int_keeps x m (Some i) = refl
+int_keeps x m None = tt
 
 byte_keeps : (x : Input) (m : Mem) (more : Bool) → Keeps m (and_then (choose more (λ m. got (get_or x.payload m.at 0) (moved (m.at + 1) m)) (cut x) m) (λ _. give (tt {0})))
 byte_keeps x m true = refl

@@ -8,8 +8,8 @@ use native.Mathlib.Omega.{arith}
 use borrow.Author.Tests.{eqb-true, eq-eqb, ne_eqb, lt-ltb, ltb-true, ltb-false}
 use lib.Dec.{eqb, ltb}
 use lib.ListN.{length, take}
+use Rattle.std.specs.Prelude.{Option, Some, None}
 use Rattle.stream.specs.declared.putint.Int.{Int}
-use Rattle.stream.specs.declared.putint.Int.TheVariants.{Is as IntIs, Cut}
 use Rattle.stream.specs.Bytes.{peek_at}
 use Rattle.stream.specs.PutInt.{int_at}
 use Rattle.stream.proofs.ByteLaws.{peek_end}
@@ -104,15 +104,14 @@ module _ (n o : ℕ) (m : Mem) where
 -- ---- an integer that was read
 
 record IntRead (p : List ℕ) (m m' : Mem) : Type 0 where
-  value : ℕ
-  count : ℕ
-  is : int_at p m.at ≡ IntIs value count
-  moves : m' ≡ moved (m.at + count) m
+  found_int : Int
+  is : int_at p m.at ≡ Some found_int
+  moves : m' ≡ moved (m.at + found_int.count) m
 
 module _ (x : Input) (v : ℕ) (m m' : Mem) where
-  int_cases : (i : Int) → int_at x.payload m.at ≡ i → got v m' ≡ after_int x i m → IntRead x.payload m m'
-  int_cases (IntIs w n) q e = record { value = w; count = n; is = q; moves = cc }
-  int_cases Cut q e = absurd (let z : ◌≡◌ {A = ℕ} 0 1 = cc in omega arith)
+  int_cases : (i : Option Int) → int_at x.payload m.at ≡ i → got v m' ≡ after_int x i m → IntRead x.payload m m'
+  int_cases (Some i) q e = record { found_int = i; is = q; moves = cc }
+  int_cases None q e = absurd (let z : ◌≡◌ {A = ℕ} 0 1 = cc in omega arith)
 
   int_read : got v m' ≡ int x m → IntRead x.payload m m'
   unfolding int
@@ -165,7 +164,7 @@ module _ (p : List ℕ) (s : State) {r : Count} (i : (v tr : List ℕ) (sp : ℕ
   numbered {n} {t} e =
       let d = int_read (input [] p 0 []) n (mem (passed s) nothing) (mem t nothing) (count_is nothing e (i [] [] 0 nothing)) in
       let w = int_within p (s.at + 1) d.is in
-      let a : t.at ≡ s.at + 1 + d.count = ap (λ (m : Mem). m.at) d.moves in
+      let a : t.at ≡ s.at + 1 + d.found_int.count = ap (λ (m : Mem). m.at) d.moves in
       record {
         slots_same = ap (λ (m : Mem). m.slots.count) d.moves;
         pending_same = ap (λ (m : Mem). m.pending) d.moves;

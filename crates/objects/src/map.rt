@@ -1,8 +1,8 @@
 // What follows an object's map: legacy allocation, the flag of a trusted map, and slot 0.
-ghost use Rattle.std.specs.Prelude.{true, ◌≡◌, List, ℕ, ◌+◌, ◌-◌, ◌*◌, ◌^◌, ◌<◌, ◌≤◌, length, get_or, take, drop};
+ghost use Rattle.std.specs.Prelude.{true, ◌≡◌, List, ℕ, ◌+◌, ◌-◌, ◌*◌, ◌^◌, ◌<◌, ◌≤◌, length, get_or, take, drop, OnOk, OnErr};
 ghost use Rattle.sheet.specs.Sheet.{usable};
 ghost use Rattle.tables.specs.Records.{room, field};
-ghost use Rattle.alloc.specs.Allocation.{outcome, allocate_of};
+ghost use Rattle.alloc.specs.Allocation.{seen, allocate_of};
 ghost use Rattle.address_index.specs.Links.{space_of, Linked};
 ghost use Rattle.definition.specs.Object.{allocate, chunk_changes};
 ghost use Rattle.readers.specs.Views.{Lent, input, mem, seen_went, objects_is, slots_is, addresses_is, counters_is};
@@ -11,8 +11,9 @@ ghost use Rattle.objects.specs.Map.{after_map, map_kept, is_flagged};
 
 use crate::item::push_slot;
 use address_index::links::enter;
-use alloc::legacy_alloc::{Placed, Request, allocate, next_chunk};
+use alloc::legacy_alloc::{Request, allocate, next_chunk};
 use readers::state::{Count, State, Went};
+use refusals::refusal::Refusal;
 use sheet::names::K_NEXT_CHUNK;
 use sheet::numbers::{legacy, map_first, word_bytes};
 use sheet::tests::{alignment, is_tag};
@@ -31,7 +32,8 @@ fn enter_record(addresses: &[u64], scratch: &mut [u64], size: usize, n: usize)
     }
 }
 
-// Address record n and its entry in the index, which is in the second part of scratch, from `size` on; where it is refused, nothing changes.
+// Address record n and its entry in the index, which is in the second part of scratch, from `size` on: the alignment that is pending then.
+// Where it is refused, nothing changes.
 pub fn allocate_record(
     addresses: &mut [u64],
     scratch: &mut [u64],
@@ -41,18 +43,16 @@ pub fn allocate_record(
     spaces: u64,
     n: usize,
     want: Request,
-) -> Placed
+) -> Result<u64, Refusal>
     requires { (want.space < 256) × (want.word ≤ 8) × Linked addresses.old n (drop size scratch.old) }
-    ensures addresses_after { outcome result.number result.alignment (record { cur = cur.now; used = used.new }) addresses.new ≡ allocate_of addresses.old n spaces want (record { cur = cur.now; used = used.old }) }
-    ensures linked { result.number ≡ 0 → Linked addresses.new (n + 1) (drop size scratch.new) }
+    ensures addresses_after { seen want.alignment result (record { cur = cur.now; used = used.new }) addresses.new ≡ allocate_of addresses.old n spaces want (record { cur = cur.now; used = used.old }) }
+    ensures linked { OnOk result (Linked addresses.new (n + 1) (drop size scratch.new)) }
     ensures front { take size scratch.new ≡ take size scratch.old }
-    ensures kept { (result.number ≡ 0 → ⊥) → scratch.new ≡ scratch.old }
+    ensures kept { OnErr result (scratch.new ≡ scratch.old) }
 {
-    let placed = allocate(cur, used, addresses, n, spaces, want);
-    if placed.number == 0 {
-        enter_record(addresses, scratch, size, n);
-    }
-    placed
+    let alignment = allocate(cur, used, addresses, n, spaces, want)?;
+    enter_record(addresses, scratch, size, n);
+    Ok(alignment)
 }
 
 // An address record of object o, and its entry in the index.
@@ -84,14 +84,15 @@ fn allocate_object(
     };
     let n = s.addresses;
     let at = s.at;
-    let placed = allocate_record(addresses, scratch, size, cur, used, spaces, n, want);
-    if placed.number != 0 {
-        return Went::Refused(placed.number, at, s);
+    match allocate_record(addresses, scratch, size, cur, used, spaces, n, want) {
+        Err(r) => Went::Refused(r.number(), at, s),
+        Ok(alignment) => {
+            let mut t = s;
+            t.addresses = n + 1;
+            t.alignment = alignment;
+            Went::On(t)
+        }
     }
-    let mut t = s;
-    t.addresses = n + 1;
-    t.alignment = placed.alignment;
-    Went::On(t)
 }
 
 // Chunk changes at the cursor, as long as they name this space.

@@ -1,12 +1,10 @@
 -- An object whose map is a leaf, at each way out of the code. Assumes nothing.
-use mathlib.Core.Path.{◌≡◌, subst}
+use mathlib.Core.Path.{◌≡◌}
 use mathlib.Core.List.{List}
 use Prim.Native.Nat.{ℕ, ◌^◌, ◌<◌}
 use native.Mathlib.Omega.{arith}
 use Rattle.tables.specs.Records.{room, field, object_row, written}
 use Rattle.tables.proofs.RecordLaws.{written_same}
-use Rattle.alloc.specs.declared.legacy_alloc.LegacyAlloc.{LegacyAlloc}
-use Rattle.alloc.specs.Allocation.{Outcome, outcome}
 use Rattle.opened_leaves.specs.declared.opening.Opened.{Opened}
 use Rattle.opened_leaves.specs.Opening.{MapAt}
 
@@ -18,7 +16,3 @@ opened_count t o bytes tag e b = let z = written_same t (object_row bytes tag) o
 pub map_with : (v h tr p hot : List ℕ) (at count ts : ℕ) (r : Opened) (records alignment : ℕ) → MapAt v h tr p hot at count ts r → MapAt v h tr p hot at count ts (record { words = r.words; size = r.size; map = r.map; records = records; alignment = alignment })
 map_with v h tr p hot at count ts r records alignment m =
     record { no_large_byte = m.no_large_byte; not_first = m.not_first; sized = m.sized; small = m.small; there = m.there; found = m.found; unflagged = m.unflagged }
-
--- an allocation that is not refused
-pub numbered-zero : (number alignment : ℕ) (c : LegacyAlloc) (t : List ℕ) → number ≡ 0 → {o : Outcome} → outcome number alignment c t ≡ o → outcome 0 alignment c t ≡ o
-numbered-zero number alignment c t e {o} h = subst (λ (m : ℕ). outcome m alignment c t ≡ o) e h

@@ -1,6 +1,5 @@
 -- An object whose map is a leaf, opened without the readers of every reference. Assumes nothing: these are definitions.
-use Rattle.std.specs.Prelude.{◌≡◌, true, false, List, ℕ, ◌+◌, ◌*◌, ◌^◌, ◌<◌, length, get_or, set, take, drop}
-use Rattle.stream.specs.declared.putint.Int.TheVariants.{Is}
+use Rattle.std.specs.Prelude.{◌≡◌, true, false, List, ℕ, ◌+◌, ◌*◌, ◌^◌, ◌<◌, length, get_or, set, take, drop, Some}
 use Rattle.stream.specs.PutInt.{int_at}
 use Rattle.sheet.specs.Sheet.{is_legacy, is_six_x, is_map_first}
 use Rattle.tables.specs.Values.{triple}
@@ -19,7 +18,7 @@ use Rattle.opened_leaves.specs.declared.opening.Opened.{Opened}
 pub record MapAt (v h tr p hot : List ℕ) (at count ts : ℕ) (r : Opened) : Type 0 where
   pub no_large_byte : is_six_x v ≡ false
   pub not_first : is_map_first v ≡ false
-  pub sized : Is r.words r.size ≡ int_at p at
+  pub sized : Some (record { value = r.words; count = r.size }) ≡ int_at p at
   pub small : r.words < 2 ^ 30
   pub there : (at + r.size < length p) × (get_or p (at + r.size) 0 < 256)
   pub found : Found p hot count ts (at + r.size + 1) (get_or h (get_or p (at + r.size) 0) 0) (get_or h (256 + get_or p (at + r.size) 0) 0) r.map

@@ -11,7 +11,7 @@ use leaves::leaf::{Leaf, enter, leaf_at, none, value_of};
 use objects::map::{allocate_record, is_flagged};
 use readers::state::State;
 use sheet::numbers::{legacy, map_first, six_x, word_bytes};
-use stream::putint::{Int, putint};
+use stream::putint::putint;
 use tables::records::{add_object, add_slot, count_slot};
 use tables::values::Fields;
 
@@ -69,16 +69,16 @@ fn map_at(
     if map_first(v) {
         return unopened();
     }
-    let Int::Is(words, size) = putint(p, at) else {
+    let Some(i) = putint(p, at) else {
         return unopened();
     };
-    let map = leaf_at(h, p, hot, at + size, count, word);
+    let map = leaf_at(h, p, hot, at + i.count, count, word);
     if is_flagged(tr, value_of(map)) {
         return unopened();
     }
     Opened {
-        words: words as u64,
-        size,
+        words: i.value as u64,
+        size: i.count,
         map,
         records: 0,
         alignment: 0,
@@ -101,22 +101,25 @@ fn give_address(
     ensures dt_unchanged { result.given ≡ false → (dt.new ≡ dt.old) × (u.new ≡ u.old) × (sc.new ≡ sc.old) }
     ensures given { result.given ≡ true → Addressed v.now k n size want c.now result.records result.alignment dt.old u.old sc.old dt.new u.new sc.new }
 {
-    let mut address = Address {
-        given: true,
-        records: n,
-        alignment: want.alignment,
-    };
     if !legacy(v) {
-        return address;
+        return Address {
+            given: true,
+            records: n,
+            alignment: want.alignment,
+        };
     }
-    let placed = allocate_record(dt, sc, size, c, u, k, n, want);
-    if placed.number != 0 {
-        address.given = false;
-        return address;
+    match allocate_record(dt, sc, size, c, u, k, n, want) {
+        Ok(alignment) => Address {
+            given: true,
+            records: n + 1,
+            alignment,
+        },
+        Err(_) => Address {
+            given: false,
+            records: n,
+            alignment: want.alignment,
+        },
     }
-    address.records = n + 1;
-    address.alignment = placed.alignment;
-    address
 }
 
 // The records of object o, whose head stands at `tag`, and of its map, slot n; both have room.

@@ -1,28 +1,27 @@
 -- The view of a raw slot (refusal 17 of document 01). Assumes nothing: these are definitions.
-use Rattle.std.specs.Prelude.{Bool, true, false, ◌||◌, List, [], ℕ, ◌+◌, take, drop, ltb, leb, eqb}
+use Rattle.std.specs.Prelude.{Bool, cond, ◌||◌, List, [], ℕ, ◌+◌, take, drop, ltb, leb, eqb, Result, Ok, Err}
+use Rattle.refusals.specs.declared.refusal.Refusal.{Refusal}
+use Rattle.refusals.specs.declared.refusal.Refusal.TheVariants.{NoView}
 use Rattle.raw_slots.specs.declared.view.View.{View}
-use Rattle.raw_slots.specs.declared.view.View.TheVariants.{Is, Refused}
 use Rattle.tables.specs.Records.{room, field}
-
-abbrev pub pick_view : Bool → View → View → View
-pick_view true a b = a
-pick_view false a b = b
 
 -- a slot is raw: kind 5 or 6
 abbrev pub is_raw : List ℕ → ℕ → Bool
 is_raw slots k = eqb (field 6 slots k 2) 5 || eqb (field 6 slots k 2) 6
 
 -- the range of slot k of `count` slots, in a payload of so many bytes. In this order: the count is not above the room, the slot is
--- listed, it is raw, its range lies in the payload; else 17
-unfoldable pub view_of : ℕ → List ℕ → ℕ → ℕ → View
+-- listed, it is raw, its range lies in the payload; else refusal 17
+unfoldable pub view_of : ℕ → List ℕ → ℕ → ℕ → Result View Refusal
 view_of bytes slots count k =
-    pick_view (ltb (room 6 slots) count) (Refused 17)
-    (pick_view (leb count k) (Refused 17)
-    (pick_view (is_raw slots k)
-    (pick_view (leb (field 6 slots k 3 + field 6 slots k 4) bytes) (Is (field 6 slots k 3) (field 6 slots k 4)) (Refused 17))
-    (Refused 17)))
+    cond (ltb (room 6 slots) count) (Err NoView)
+    (cond (leb count k) (Err NoView)
+    (cond (is_raw slots k)
+    (cond (leb (field 6 slots k 3 + field 6 slots k 4) bytes)
+    (Ok (record { offset = field 6 slots k 3; len = field 6 slots k 4 }))
+    (Err NoView))
+    (Err NoView)))
 
 -- the view: that part of the payload itself; where it is refused, empty
-abbrev pub viewed : List ℕ → View → List ℕ
-viewed payload (Is off len) = take len (drop off payload)
-viewed payload (Refused n) = []
+abbrev pub viewed : List ℕ → Result View Refusal → List ℕ
+viewed payload (Ok view) = take view.len (drop view.offset payload)
+viewed payload (Err e) = []

@@ -1,16 +1,12 @@
-// The reading half of a walk: the payload, borrowed, and a cursor in it. Each function takes the struct apart and calls the one of
-// `stream` on slice and number.
-#![tactic(auto)]
-
-mod cursor;
+// The reading half of a walk: the payload, borrowed, and a cursor in it.
+#![tactic(auto, using(std::proofs::lemmas::Bool::Decides::nat_tests), unfolding(stream::specs::Bytes::raw_at, stream::specs::PutInt::int_at))]
 
 ghost use Rattle.std.specs.Prelude.{◌≡◌, ◌+◌};
 ghost use Rattle.stream.specs.Bytes.{peek_at, raw_at};
 ghost use Rattle.stream.specs.PutInt.{int_at, Small};
 ghost use Rattle.reader.specs.Cursor.{moved_to, past_byte, past_int, past_raw, bytes_of};
 
-use crate::cursor::{past_byte, past_int, past_raw, raw_bytes};
-use stream::bytes::{Range, peek, raw};
+use stream::bytes::{peek, raw};
 use stream::putint::{Int, putint};
 
 #[derive(Clone, Copy)]
@@ -21,13 +17,14 @@ pub struct Reader<'a> {
 
 impl<'a> Reader<'a> {
     // A reader of a payload, at a place that need not lie in it.
-    pub fn new(payload: &'a [u8], at: usize) -> Reader<'a>
-        ensures { (result.payload ≡ payload.entry) × (result.at ≡ at) }
+    pub fn new(payload: &'a [u8], at: usize) -> Self
+        ensures payload { result.payload ≡ payload.entry }
+        ensures at { result.at ≡ at }
     {
-        Reader { payload, at }
+        Self { payload, at }
     }
 
-    // The byte at the cursor, or 256 where none is left.
+    // The byte at the cursor, or 256 where none is left: no Option, since document 01 asks for a thin struct, and `stream` gives 256.
     pub fn peek(self) -> u64
         ensures { result ≡ peek_at self.entry.payload.now self.entry.at }
     {
@@ -38,44 +35,48 @@ impl<'a> Reader<'a> {
     pub fn view(self, n: usize) -> &'a [u8]
         ensures { result.now ≡ bytes_of self.entry.payload.now self.entry.at n (raw_at self.entry.payload.now self.entry.at n) }
     {
-        raw_bytes(self.payload, self.at, n)
+        match raw(self.payload, self.at, n) {
+            Some(end) => &self.payload[self.at..end],
+            None => &[],
+        }
     }
 
     // The byte at the cursor, or 256 where none is left. The cursor moves past the byte.
     pub fn byte(&mut self) -> u64
-        ensures { (result ≡ peek_at self.old.payload.now self.old.at) × (self.new ≡ moved_to self.old (past_byte self.old.payload.now self.old.at)) }
+        ensures value { result ≡ peek_at self.old.payload.now self.old.at }
+        ensures cursor { self.new ≡ moved_to self.old (past_byte self.old.payload.now self.old.at) }
     {
-        let at = self.at;
-        let b = peek(self.payload, at);
-        self.at = past_byte(self.payload, at);
-        b
+        let byte = self.peek();
+        if self.at < self.payload.len() {
+            self.at += 1;
+        }
+        byte
     }
 
-    // A raw range of n bytes at the cursor. The cursor moves to its end.
-    pub fn raw(&mut self, n: usize) -> Range
-        ensures { (result ≡ raw_at self.old.payload.now self.old.at n) × (self.new ≡ moved_to self.old (past_raw result self.old.at)) }
+    // The end of a raw range of n bytes at the cursor; none where it passes the payload's end. The cursor moves to that end.
+    pub fn raw(&mut self, n: usize) -> Option<usize>
+        ensures value { result ≡ raw_at self.old.payload.now self.old.at n }
+        ensures cursor { self.new ≡ moved_to self.old (past_raw result self.old.at) }
     {
-        let at = self.at;
-        let r = raw(self.payload, at, n);
-        self.at = past_raw(r, at);
-        r
+        let end = raw(self.payload, self.at, n)?;
+        self.at = end;
+        Some(end)
     }
 
-    // The integer at the cursor. The cursor moves past it.
-    #[tactic(auto, using(crate::proofs::Laws::past_int_fits))]
-    pub fn putint(&mut self) -> Int
-        ensures { (result ≡ int_at self.old.payload.now self.old.at) × (Small result × (self.new ≡ moved_to self.old (past_int result self.old.at))) }
+    // The integer at the cursor; none where the payload ends before it does. The cursor moves past it.
+    pub fn putint(&mut self) -> Option<Int>
+        ensures value { result ≡ int_at self.old.payload.now self.old.at }
+        ensures small { Small result }
+        ensures cursor { self.new ≡ moved_to self.old (past_int result self.old.at) }
     {
-        let at = self.at;
-        let i = putint(self.payload, at);
-        self.at = past_int(i, at);
-        i
+        let int = putint(self.payload, self.at)?;
+        self.at += int.count;
+        Some(int)
     }
 }
 
 // The size integer of a new object whose tag stands at a place.
-#[tactic(auto, using(crate::proofs::Laws::int_past))]
-pub fn size_after_tag(payload: &[u8], at: usize) -> Int
+pub fn size_after_tag(payload: &[u8], at: usize) -> Option<Int>
     ensures { result ≡ int_at payload.now (at + 1) }
 {
     let mut r = Reader::new(payload, at);

@@ -5,8 +5,8 @@ use Prim.Native.Nat.{ℕ, ◌+◌, ◌^◌, ◌<◌, ◌≤◌}
 use native.Mathlib.Omega.{arith}
 use borrow.Author.Tests.{lt-ltb, le-ltb}
 use lib.ListN.{length, get_or}
+use Rattle.std.specs.Prelude.{Option, Some, None}
 use Rattle.stream.specs.declared.putint.Int.{Int}
-use Rattle.stream.specs.declared.putint.Int.TheVariants.{Is, Cut}
 use Rattle.stream.specs.PutInt.{int_at, Small}
 use Rattle.stream.proofs.IntegerLaws.{IntWithin, int_within}
 use Rattle.definition.specs.Memory.{Input, Mem, Out, got, no, moved, with_skip, after_int, cut, and_then, change, byte, int}
@@ -26,27 +26,27 @@ module _ (x : Input) (m : Mem) where
   unfolding byte
   byte_cut h = rw (le-ltb m.at (length x.payload) h)
 
-  module _ {r : Int} (e : r ≡ int_at x.payload m.at) where
-    pub int_is : {value n : ℕ} → r ≡ Is value n → got value (moved (m.at + n) m) ≡ int x m
+  module _ {r : Option Int} (e : r ≡ int_at x.payload m.at) where
+    pub int_is : {i : Int} → r ≡ Some i → got i.value (moved (m.at + i.count) m) ≡ int x m
     unfolding int
     int_is k = rw (← e, k)
 
-    pub int_cut : r ≡ Cut → cut x m ≡ int x m
+    pub int_cut : r ≡ None → cut x m ≡ int x m
     unfolding int
     int_cut k = rw (← e, k)
 
-module _ {r : Int} {value n : ℕ} (k : r ≡ Is value n) where
-  pub int_small : Small r → value < 2 ^ 30
+module _ {r : Option Int} {i : Int} (k : r ≡ Some i) where
+  pub int_small : Small r → i.value < 2 ^ 30
   int_small h = rw k at h
 
-  pub int_ends : (p : List ℕ) (at : ℕ) → r ≡ int_at p at → IntWithin p at n
+  pub int_ends : (p : List ℕ) (at : ℕ) → r ≡ int_at p at → IntWithin p at i.count
   int_ends p at e = int_within p at (rw e at k)
 
 -- an integer moves the cursor and no more
 module _ (x : Input) (m k : Mem) (n : ℕ) where
-  after_keeps : (i : Int) → got n k ≡ after_int x i m → k ≡ moved k.at m
-  after_keeps (Is value count) e = let q : k ≡ moved (m.at + count) m = cc in rw q
-  after_keeps Cut e = absurd (let z : ◌≡◌ {A = ℕ} 0 1 = cc in omega arith)
+  after_keeps : (i : Option Int) → got n k ≡ after_int x i m → k ≡ moved k.at m
+  after_keeps (Some i) e = let q : k ≡ moved (m.at + i.count) m = cc in rw q
+  after_keeps None e = absurd (let z : ◌≡◌ {A = ℕ} 0 1 = cc in omega arith)
 
   int_keeps : got n k ≡ int x m → k ≡ moved k.at m
   unfolding int

@@ -8,8 +8,7 @@ use native.Mathlib.Omega.{arith}
 use borrow.Author.Tests.{lt-ltb, le-ltb, ne_eqb}
 use lib.Dec.{eqb}
 use lib.ListN.{length, get_or}
-use Rattle.stream.specs.declared.bytes.Range.{Range}
-use Rattle.stream.specs.declared.bytes.Range.TheVariants.{To as RangeTo, Past}
+use Rattle.std.specs.Prelude.{Option, Some, None, Ok, Err}
 use Rattle.stream.specs.Bytes.{raw_at}
 use Rattle.heads.specs.Kinds.{internal, embedder_fields, off_heap_target}
 use Rattle.sheet.specs.Sheet.{pick_ℕ, is_legacy, word_bytes}
@@ -20,12 +19,10 @@ use Rattle.tables.specs.declared.values.SlotValue.TheVariants.{Ref as IsRef, Rep
 use Rattle.tables.specs.Values.{ref_fields}
 use Rattle.address_index.specs.Links.{Linked}
 use Rattle.address_index.specs.Sorted.{Sorted}
-use Rattle.backref.specs.declared.hot_ring.Hot.{Hot}
-use Rattle.backref.specs.declared.hot_ring.Hot.TheVariants.{Is, Empty}
 use Rattle.backref.specs.HotRing.{entered, hot_at}
 use Rattle.backref.specs.declared.legacy.Backref.{Backref}
-use Rattle.backref.specs.declared.legacy.Backref.TheVariants.{To, Cut, Unknown}
-use Rattle.backref.specs.Legacy.{backref_of, ring_after}
+use Rattle.backref.specs.declared.legacy.BackrefError.TheVariants.{Cut, Unknown}
+use Rattle.backref.specs.Legacy.{Answer, backref_of, ring_after}
 use Rattle.definition.specs.Memory.{Input, passed, Mem, Out, got, no, Reader, ◌>>=◌, ◌>>◌, give, refuse, refuse_at, moved, with_hot, with_pending, noted, int}
 use Rattle.definition.specs.Reference.{skip_amount, refers, refers_hot, backref_to, hot_place, legacy_reference, pending_reference, raw_data, by_head}
 use Rattle.readers.specs.Simple.{of_int, of_ints, skipped_to, read_int, read_ints, read_skipped, Simple}
@@ -46,25 +43,25 @@ module _ (m : Mem) where
     unfolding backref_to
     backref_past h = rw (le-ltb i m.objects.count h)
 
-    module _ {h : Hot} (e : h ≡ hot_at m.hot i) where
-      pub hot_is_lem : {r : Ref} → h ≡ Is r → got (IsRef r) m ≡ hot_place i m
+    module _ {h : Option Ref} (e : h ≡ hot_at m.hot i) where
+      pub hot_is_lem : {r : Ref} → h ≡ Some r → got (IsRef r) m ≡ hot_place i m
       hot_is_lem k = rw (← e, k)
 
-      pub hot-empty : h ≡ Empty → refuse 9 m ≡ hot_place i m
+      pub hot-empty : h ≡ None → refuse 9 m ≡ hot_place i m
       hot-empty k = rw (← e, k)
 
 -- ---- legacy back-references
 
-module _ (x : Input) (space : ℕ) (m : Mem) {b : Backref} (e : b ≡ backref_of x.sheet x.payload m.addresses.rows m.addresses.count m.alignment space m.at) {hot : List ℕ} (g : hot ≡ ring_after m.hot b) where
-  pub legacy_to : {r : Ref} {next : ℕ} → b ≡ To r next → got (IsRef r) (with_hot hot (moved next m)) ≡ legacy_reference x space m
+module _ (x : Input) (space : ℕ) (m : Mem) {b : Answer} (e : b ≡ backref_of x.sheet x.payload m.addresses.rows m.addresses.count m.alignment space m.at) {hot : List ℕ} (g : hot ≡ ring_after m.hot b) where
+  pub legacy_to : {r : Backref} → b ≡ Ok r → got (IsRef r.target) (with_hot hot (moved r.next m)) ≡ legacy_reference x space m
   unfolding legacy_reference
   legacy_to k = rw (← e, g, k)
 
-  pub legacy_cut : b ≡ Cut → no 4 (length x.payload) (with_hot hot (moved (length x.payload) m)) ≡ legacy_reference x space m
+  pub legacy_cut : b ≡ Err Cut → no 4 (length x.payload) (with_hot hot (moved (length x.payload) m)) ≡ legacy_reference x space m
   unfolding legacy_reference
   legacy_cut k = rw (← e, g, k)
 
-  pub legacy_unknown : {next : ℕ} → b ≡ Unknown next → no 15 next (with_hot hot (moved next m)) ≡ legacy_reference x space m
+  pub legacy_unknown : {next : ℕ} → b ≡ Err (Unknown next) → no 15 next (with_hot hot (moved next m)) ≡ legacy_reference x space m
   unfolding legacy_reference
   legacy_unknown k = rw (← e, g, k)
 
@@ -74,12 +71,12 @@ index_stays t ix e h = rw e h
 
 -- ---- raw data
 
-module _ (x : Input) (n : ℕ) (advances : Bool) (m : Mem) {r : Range} (e : r ≡ raw_at x.payload m.at n) where
-  pub raw_to : {end : ℕ} → r ≡ RangeTo end → got (IsRaw (record { off = m.at; len = n; advances = advances })) (noted (passed m.at n) (moved end m)) ≡ raw_data x n advances m
+module _ (x : Input) (n : ℕ) (advances : Bool) (m : Mem) {r : Option ℕ} (e : r ≡ raw_at x.payload m.at n) where
+  pub raw_to : {end : ℕ} → r ≡ Some end → got (IsRaw (record { off = m.at; len = n; advances = advances })) (noted (passed m.at n) (moved end m)) ≡ raw_data x n advances m
   unfolding raw_data
   raw_to k = rw (← e, k)
 
-  pub raw_past : r ≡ Past → refuse 7 m ≡ raw_data x n advances m
+  pub raw_past : r ≡ None → refuse 7 m ≡ raw_data x n advances m
   unfolding raw_data
   raw_past k = rw (← e, k)
 

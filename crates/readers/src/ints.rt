@@ -6,7 +6,7 @@ ghost use Rattle.readers.specs.Views.{Lent, input, mem, seen_count, seen_went, B
 
 use crate::state::{Count, State, Went};
 use stream::bytes::byte;
-use stream::putint::{Int, putint};
+use stream::putint::putint;
 
 pub fn read_byte(p: &[u8], s: State) -> Count
     ensures by_index { (v tr : List ℕ) (sp : ℕ) (l : Lent) → seen_count result l ≡ Memory.byte (input v p.now sp tr) (mem s l) }
@@ -30,11 +30,11 @@ pub fn read_int(p: &[u8], s: State) -> Count
     let at = s.at;
     let mut t = s;
     match putint(p, at) {
-        Int::Is(v, count) => {
-            t.at = at + count;
-            Count::Is(v as u64, t)
+        Some(i) => {
+            t.at = at + i.count;
+            Count::Is(i.value as u64, t)
         }
-        Int::Cut => {
+        None => {
             t.at = p.len();
             Count::Refused(4, p.len(), t)
         }

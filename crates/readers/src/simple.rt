@@ -13,10 +13,11 @@ ghost use Rattle.readers.specs.Simple.{of_int, of_ints, read_backref, read_root,
 use crate::ints::{read_int, read_skip};
 use crate::parts::index_start;
 use crate::state::{Count, State, Step, Went};
-use backref::hot_ring::{Hot, add, get};
-use backref::legacy::{Backref, legacy_backref};
+use address_index::resolve::AddressIndex;
+use backref::hot_ring::{add, get};
+use backref::legacy::{BackrefError, LegacyReader};
 use sheet::numbers::{legacy, raw_advances, word_bytes};
-use stream::bytes::{Range, raw};
+use stream::bytes::raw;
 use tables::values::{Raw, Ref, SlotValue};
 
 // kBackref: an object by plain index, which enters the ring.
@@ -57,17 +58,17 @@ fn hot_ref(hot: &[u64; 25], s: State, place: u64) -> Step
 {
     let at = s.at;
     match get(hot, place as usize) {
-        Hot::Is(r) => Step::Got(SlotValue::Ref(r), s),
-        Hot::Empty => Step::Refused(9, at, s),
+        Some(r) => Step::Got(SlotValue::Ref(r), s),
+        None => Step::Refused(9, at, s),
     }
 }
 
 // A legacy back-reference to a space.
-pub fn legacy_ref(
-    sheet: &[u16],
-    p: &[u8],
-    addresses: &[u64],
-    scratch: &[u64],
+pub fn legacy_ref<'a>(
+    sheet: &'a [u16],
+    p: &'a [u8],
+    addresses: &'a [u64],
+    scratch: &'a [u64],
     hot: &mut [u64; 25],
     s: State,
     space: u64,
@@ -76,29 +77,29 @@ pub fn legacy_ref(
     requires linked { Linked addresses.now s.addresses (drop (length p.now) scratch.now) × Sorted addresses.now s.addresses }
     ensures { (tr : List ℕ) (sp : ℕ) (l : Lent) → seen result (addresses_is addresses.now (hot_is hot.new l)) ≡ legacy_reference (input sheet.now p.now sp tr) space (mem s (addresses_is addresses.now (hot_is hot.old l))) }
 {
-    let at = s.at;
     let start = index_start(p, scratch);
-    let mut t = s;
-    match legacy_backref(
+    let reader = LegacyReader {
         sheet,
-        p,
-        addresses,
-        &scratch[start..],
-        hot,
-        s.addresses,
-        s.alignment,
+        payload: p,
+        addresses: AddressIndex {
+            table: addresses,
+            links: &scratch[start..],
+            count: s.addresses,
+        },
+        alignment: s.alignment,
         space,
-        at,
-    ) {
-        Backref::To(r, next) => {
-            t.at = next;
-            Step::Got(SlotValue::Ref(r), t)
+    };
+    let mut t = s;
+    match reader.legacy_backref(hot, s.at) {
+        Ok(b) => {
+            t.at = b.next;
+            Step::Got(SlotValue::Ref(b.target), t)
         }
-        Backref::Cut => {
+        Err(BackrefError::Cut) => {
             t.at = p.len();
             Step::Refused(4, p.len(), t)
         }
-        Backref::Unknown(next) => {
+        Err(BackrefError::Unknown(next)) => {
             t.at = next;
             Step::Refused(15, next, t)
         }
@@ -112,7 +113,7 @@ fn raw_data(p: &[u8], s: State, n: u64, advances: bool) -> Step
     let at = s.at;
     let mut t = s;
     match raw(p, at, n as usize) {
-        Range::To(end) => {
+        Some(end) => {
             t.at = end;
             Step::Got(
                 SlotValue::Raw(Raw {
@@ -123,7 +124,7 @@ fn raw_data(p: &[u8], s: State, n: u64, advances: bool) -> Step
                 t,
             )
         }
-        Range::Past => Step::Refused(7, at, s),
+        None => Step::Refused(7, at, s),
     }
 }
 

@@ -1,3 +1,2 @@
-pub mod SheetLaws
 pub mod TestsLaws
 pub mod UsableSheet

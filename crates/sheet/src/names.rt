@@ -1,4 +1,4 @@
-// The version sheet's numbers that the code names, by their place (docs/SHEET.md).
+// The version sheet's numbers, by their place (docs/SHEET.md). They are indexes and no enum: C hands a sheet over as an array of numbers.
 
 // What an absent tag or constant has.
 pub const ABSENT: u16 = 65535;
@@ -9,6 +9,10 @@ pub const SHEET_LENGTH: usize = 58;
 pub const K_NEW_OBJECT: usize = 0;
 
 pub const K_BACKREF: usize = 1;
+
+pub const K_ROOT_ARRAY: usize = 2;
+
+pub const K_ATTACHED_REFERENCE: usize = 3;
 
 pub const K_SYNCHRONIZE: usize = 4;
 
@@ -28,13 +32,71 @@ pub const K_HOT_OBJECT_WITH_SKIP: usize = 11;
 
 pub const K_ROOT_ARRAY_CONSTANTS_WITH_SKIP: usize = 12;
 
+pub const K_READ_ONLY_HEAP_REF: usize = 13;
+
+pub const K_BUILTIN: usize = 14;
+
+pub const K_EXTERNAL_REFERENCE: usize = 15;
+
+pub const K_API_REFERENCE: usize = 16;
+
+pub const K_INTERNAL_REFERENCE: usize = 17;
+
+pub const K_INTERNAL_REFERENCE_ENCODED: usize = 18;
+
+pub const K_DEOPTIMIZER_ENTRY_PLAIN: usize = 19;
+
+pub const K_DEOPTIMIZER_ENTRY_FROM_CODE: usize = 20;
+
+pub const K_OFF_HEAP_BACKING_STORE: usize = 21;
+
+pub const K_VARIABLE_RAW_CODE: usize = 22;
+
+pub const K_EMBEDDER_FIELDS_DATA: usize = 23;
+
+pub const K_OFF_HEAP_TARGET: usize = 24;
+
+pub const K_PARTIAL_SNAPSHOT_CACHE: usize = 25;
+
+pub const K_STARTUP_OBJECT_CACHE: usize = 26;
+
+pub const K_READ_ONLY_OBJECT_CACHE: usize = 27;
+
+pub const K_SHARED_HEAP_OBJECT_CACHE: usize = 28;
+
+pub const K_REGISTER_PENDING_FORWARD_REF: usize = 29;
+
+pub const K_CLEARED_WEAK_REFERENCE: usize = 30;
+
+pub const K_WEAK_PREFIX: usize = 31;
+
+pub const K_INDIRECT_POINTER_PREFIX: usize = 32;
+
+pub const K_PROTECTED_POINTER_PREFIX: usize = 33;
+
+pub const K_INITIALIZE_SELF_INDIRECT_POINTER: usize = 34;
+
+pub const K_ALLOCATE_JS_DISPATCH_ENTRY: usize = 35;
+
+pub const K_JS_DISPATCH_ENTRY: usize = 36;
+
+pub const K_VARIABLE_RAW_DATA: usize = 37;
+
 pub const K_SKIP: usize = 38;
 
 pub const K_FIXED_REPEAT: usize = 39;
 
 pub const K_FIXED_REPEAT_ROOT: usize = 40;
 
+pub const K_VARIABLE_REPEAT: usize = 41;
+
+pub const K_VARIABLE_REPEAT_ROOT: usize = 42;
+
 pub const K_NEW_META_MAP: usize = 43;
+
+pub const K_NEW_CONTEXTLESS_META_MAP: usize = 44;
+
+pub const K_NEW_CONTEXTFUL_META_MAP: usize = 45;
 
 pub const K_RESOLVE_PENDING_FORWARD_REF: usize = 46;
 

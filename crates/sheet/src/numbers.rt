@@ -3,7 +3,7 @@ ghost use Rattle.std.specs.Prelude.{◌≡◌, ◌<◌};
 ghost use Rattle.sheet.specs.Sheet as Sheet;
 
 use crate::names::{
-    K_BACKREF_WITH_SKIP, K_LO_SPACE, K_MAP_SPACE, K_NEW_META_MAP, K_NUMBER_OF_SPACES,
+    ABSENT, K_BACKREF_WITH_SKIP, K_LO_SPACE, K_MAP_SPACE, K_NEW_META_MAP, K_NUMBER_OF_SPACES,
     K_PAGE_SIZE_BITS, K_ROOT_ARRAY_CONSTANTS_MASK, K_SPACE_MASK, K_SPACE_TAG_SIZE, TAGGED_SIZE,
     VAR_RAW_ADVANCES,
 };
@@ -12,20 +12,17 @@ use crate::names::{
 pub fn number(sheet: &[u16], k: usize) -> u64
     ensures { (result ≡ Sheet.number sheet.now k) × (result < 65536) }
 {
-    if k < sheet.len() {
-        sheet[k] as u64
-    } else {
-        65535
-    }
+    u64::from(sheet.get(k).copied().unwrap_or(ABSENT))
 }
 
 pub fn present(sheet: &[u16], k: usize) -> bool
     ensures { result ≡ Sheet.present sheet.now k }
 {
-    number(sheet, k) != 65535
+    number(sheet, k) != u64::from(ABSENT)
 }
 
-// A constant, or its default where it is absent.
+// A constant, or its default where it is absent. The six functions that follow stay: each is a definition of specs/Sheet.antt by name,
+// and an enum of these constants would be no plainer, since it lists their names once more.
 fn constant(sheet: &[u16], k: usize, default: u64) -> u64
     requires { default < 65536 }
     ensures { (result ≡ Sheet.constant sheet.now k default) × (result < 65536) }
@@ -102,5 +99,5 @@ pub fn six_x(sheet: &[u16]) -> bool
 pub fn map_first(sheet: &[u16]) -> bool
     ensures { result ≡ Sheet.is_map_first sheet.now }
 {
-    legacy(sheet) & present(sheet, K_NEW_META_MAP)
+    legacy(sheet) && present(sheet, K_NEW_META_MAP)
 }

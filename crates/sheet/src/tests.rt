@@ -28,17 +28,18 @@ fn in_span(sheet: &[u16], k: usize, n: u64, b: u64) -> bool
     ensures { result ≡ Tests.in_span sheet.now k n b }
 {
     let first = number(sheet, k);
-    (first <= b) & (b < first + n)
+    (first..first + n).contains(&b)
 }
 
 // The payload's first byte opens an object.
 pub fn opens(sheet: &[u16], b: u64) -> bool
     ensures { result ≡ Tests.opens sheet.now b }
 {
-    (number(sheet, K_NEW_OBJECT) <= b) & (b < number(sheet, K_BACKREF))
+    (number(sheet, K_NEW_OBJECT)..number(sheet, K_BACKREF)).contains(&b)
 }
 
 // An alignment prefix: 1 to 3, or 0 where the byte is none.
+#[tactic(auto, unfolding(crate::specs::Tests::alignment_of))]
 pub fn alignment(sheet: &[u16], b: u64) -> u64
     ensures { result ≡ Tests.alignment_of sheet.now b }
 {
@@ -54,11 +55,12 @@ fn is_entry(sheet: &[u16], b: u64) -> bool
     ensures { result ≡ Tests.is_entry sheet.now b }
 {
     legacy(sheet)
-        & !present(sheet, K_NEW_META_MAP)
-        & in_span(sheet, K_NEW_OBJECT, number_of_spaces(sheet), b)
+        && !present(sheet, K_NEW_META_MAP)
+        && in_span(sheet, K_NEW_OBJECT, number_of_spaces(sheet), b)
 }
 
 // What the closing section takes a byte for: kSynchronize, alignment, deferred entry, reference, in this order.
+#[tactic(auto, unfolding(crate::specs::Tests::alignment_of, crate::specs::Tests::closing_of))]
 pub fn closing_entry(sheet: &[u16], b: u64) -> Closing
     ensures { result ≡ Tests.closing_of sheet.now b }
 {

@@ -11,7 +11,7 @@ use lib.Dec.{lit<}
 use lib.Arith.{digits_lt}
 use lib.Bits.{bit_or, or_shifted_r}
 use lib.Pow.{pow-add, shl_exact}
-use Rattle.stream.specs.declared.bytes.Range.TheVariants.{To, Past}
+use Rattle.std.specs.Prelude.{Some, None}
 use Rattle.stream.specs.Bytes.{peek_at, little_endian, raw_at}
 
 -- each byte is below 256
@@ -49,14 +49,11 @@ le_next p at n b bs h r e =
     rw (add-one, e, r, shl_exact {a = get_or p (at + n) 0} 8 (8 * n) 64 (bs (at + n)) (omega arith), or_shifted_r (get_or p (at + n) 0) (8 * n) (little_endian p at n) (le_below p at n bs))
     (add_comm (get_or p (at + n) 0 * 2 ^ (8 * n)) (little_endian p at n))
 
-pub le_all : (p : List ℕ) (at : ℕ) {i n : ℕ} → i ≡ n → little_endian p at i ≡ little_endian p at n
-le_all p at e = ap (little_endian p at) e
-
 module _ (p : List ℕ) (at n : ℕ) where
-  pub raw_past : length p < at + n → Past ≡ raw_at p at n
+  pub raw_past : length p < at + n → None ≡ raw_at p at n
   unfolding raw_at
   raw_past h = rw (lt-ltb (length p) (at + n) h)
 
-  pub raw_to : at + n ≤ length p → To (at + n) ≡ raw_at p at n
+  pub raw_to : at + n ≤ length p → Some (at + n) ≡ raw_at p at n
   unfolding raw_at
   raw_to h = rw (le-ltb (length p) (at + n) h)

@@ -11,7 +11,7 @@ use lib.ListN.{length, get_or}
 use lib.Pow.{pow_mono}
 use native.Mathlib.Nat.{lt_of_lt_of_le}
 use Rattle.stream.specs.declared.putint.Int.{Int}
-use Rattle.stream.specs.declared.putint.Int.TheVariants.{Is, Cut}
+use Rattle.std.specs.Prelude.{Option, Some, None}
 use Rattle.stream.specs.Bytes.{little_endian}
 use Rattle.stream.specs.PutInt.{pick_int, int_length, int_at}
 use Rattle.stream.proofs.ByteLaws.{Bytes, le_below}
@@ -26,16 +26,16 @@ module _ (p : List ℕ) (at : ℕ) where
   unfolding int_length
   count_small = omega arith
 
-  pub int_none : length p ≤ at → Cut ≡ int_at p at
+  pub int_none : length p ≤ at → None ≡ int_at p at
   unfolding int_at
   int_none h = rw (le-leb (length p) at h)
 
   module _ (h : at < length p) {n : ℕ} (e : n ≡ int_length p at) where
-    pub int_cut : length p - at < n → Cut ≡ int_at p at
+    pub int_cut : length p - at < n → None ≡ int_at p at
     unfolding int_at
     int_cut l = rw (← e, lt-leb (length p) at h, lt-ltb (length p - at) n l)
 
-    pub int_is : {raw : ℕ} → n ≤ length p - at → raw ≡ little_endian p at n → Is (raw / 4) n ≡ int_at p at
+    pub int_is : {raw : ℕ} → n ≤ length p - at → raw ≡ little_endian p at n → Some (record { value = raw / 4; count = n }) ≡ int_at p at
     unfolding int_at
     int_is {raw} l r = rw (← e, lt-leb (length p) at h, le-ltb (length p - at) n l, r)
 
@@ -50,17 +50,17 @@ pub record IntWithin (p : List ℕ) (at n : ℕ) : Type 0 where
   pub least : 1 ≤ n
   pub most : n ≤ 4
 
-module _ {value n : ℕ} where
-  whole : (cut : Bool) {i : Int} → pick_int cut Cut i ≡ Is value n → (cut ≡ false) × (i ≡ Is value n)
+module _ {i : Int} where
+  whole : (cut : Bool) {o : Option Int} → pick_int cut None o ≡ Some i → (cut ≡ false) × (o ≡ Some i)
   whole true e = absurd (let z : ◌≡◌ {A = ℕ} 0 1 = cc in omega arith)
   whole false e = (refl, e)
 
-  pub int_within : (p : List ℕ) (at : ℕ) → int_at p at ≡ Is value n → IntWithin p at n
+  pub int_within : (p : List ℕ) (at : ℕ) → int_at p at ≡ Some i → IntWithin p at i.count
   unfolding int_length int_at
   int_within p at e =
       let begun = whole (leb (length p) at) e in
       let ended = whole (ltb (length p - at) (int_length p at)) begun.1 in
-      let count : int_length p at ≡ n = cc ended.1 in
+      let count : int_length p at ≡ i.count = cc ended.1 in
       record {
         ends = omega (arith, leb-false (length p) at begun.0, ltb-false (length p - at) (int_length p at) ended.0);
         least = omega arith;

@@ -13,7 +13,7 @@ use lib.IntN.{ℤ, pos, negsuc, ◌-ℤ◌}
 use lib.Signed.{shr_z, mag, mag_shr}
 use lib.ListN.{length}
 use lib.Dec.{ltb}
-use Rattle.stream.specs.declared.smi.Smi.TheVariants.{Is, No}
+use Rattle.std.specs.Prelude.{Some, None}
 use Rattle.stream.specs.Bytes.{little_endian}
 use Rattle.stream.specs.Smi.{pick_ℤ, signed, smi_of}
 use Rattle.stream.proofs.ByteLaws.{Bytes, le_below}
@@ -49,25 +49,25 @@ module _ (d : List ℕ) where
   word_below bs e = rw e (le_below d 0 4 bs)
 
   module _ (l : length d ≡ 8) {raw : ℕ} (e : raw ≡ little_endian d 0 8) where
-    pub smi8_is : {z : ℤ} → raw % 4294967296 ≡ 0 → raw / 4294967296 < 2 ^ 32 → z ≡ signed (raw / 4294967296) → Is (to_z w64 (of_z w64 z)) ≡ smi_of d
+    pub smi8_is : {z : ℤ} → raw % 4294967296 ≡ 0 → raw / 4294967296 < 2 ^ 32 → z ≡ signed (raw / 4294967296) → Some (to_z w64 (of_z w64 z)) ≡ smi_of d
     unfolding smi_of
     smi8_is h f r =
         rw (eq-eqb (length d) 8 l, ← e, eq-eqb (raw % 4294967296) 0 h, read_back r (signed_fits (raw / 4294967296) f))
 
-    pub smi8_no : (raw % 4294967296 ≡ 0 → ⊥) → No ≡ smi_of d
+    pub smi8_no : (raw % 4294967296 ≡ 0 → ⊥) → None ≡ smi_of d
     unfolding smi_of
     smi8_no h = rw (eq-eqb (length d) 8 l, ← e, ne_eqb (raw % 4294967296) 0 h)
 
   module _ (l : length d ≡ 4) {raw : ℕ} (e : raw ≡ little_endian d 0 4) where
-    pub smi4_is : {z : ℤ} → raw % 2 ≡ 0 → raw < 2 ^ 32 → z ≡ signed raw → Is (to_z w64 (of_z w64 (shr_z (to_z w64 (of_z w64 z)) 2))) ≡ smi_of d
+    pub smi4_is : {z : ℤ} → raw % 2 ≡ 0 → raw < 2 ^ 32 → z ≡ signed raw → Some (to_z w64 (of_z w64 (shr_z (to_z w64 (of_z w64 z)) 2))) ≡ smi_of d
     unfolding smi_of
     smi4_is h f r =
         rw (l, ← e, eq-eqb (raw % 2) 0 h, read_back r (signed_fits raw f), to_z-of_z (half_fits (signed_fits raw f)))
 
-    pub smi4_no : (raw % 2 ≡ 0 → ⊥) → No ≡ smi_of d
+    pub smi4_no : (raw % 2 ≡ 0 → ⊥) → None ≡ smi_of d
     unfolding smi_of
     smi4_no h = rw (l, ← e, ne_eqb (raw % 2) 0 h)
 
-  pub smi_no : (length d ≡ 8 → ⊥) → (length d ≡ 4 → ⊥) → No ≡ smi_of d
+  pub smi_no : (length d ≡ 8 → ⊥) → (length d ≡ 4 → ⊥) → None ≡ smi_of d
   unfolding smi_of
   smi_no h l = rw (ne_eqb (length d) 8 h, ne_eqb (length d) 4 l)

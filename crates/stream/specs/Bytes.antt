@@ -1,7 +1,5 @@
 -- Bytes, little-endian numbers and raw ranges of a payload. Assumes nothing: these are definitions.
-use Rattle.std.specs.Prelude.{Bool, true, false, List, ℕ, zero, suc, ◌+◌, ◌*◌, ◌^◌, length, get_or, ltb}
-use Rattle.stream.specs.declared.bytes.Range.{Range}
-use Rattle.stream.specs.declared.bytes.Range.TheVariants.{To, Past}
+use Rattle.std.specs.Prelude.{Bool, true, false, List, ℕ, zero, suc, ◌+◌, ◌*◌, ◌^◌, length, get_or, ltb, Option, Some, None}
 
 -- the byte at a cursor, or 256 where none is left
 unfoldable pub peek_at : List ℕ → ℕ → ℕ
@@ -12,10 +10,10 @@ unfoldable pub little_endian : List ℕ → ℕ → ℕ → ℕ
 little_endian p at zero = 0
 little_endian p at (suc n) = little_endian p at n + get_or p (at + n) 0 * 2 ^ (8 * n)
 
-abbrev pub pick_range : Bool → Range → Range → Range
+abbrev pub pick_range : Bool → Option ℕ → Option ℕ → Option ℕ
 pick_range true a b = a
 pick_range false a b = b
 
--- a raw range of n bytes at a cursor (`raw range` of document 01): where it ends, or that it passes the payload's end (refusal 7)
-unfoldable pub raw_at : List ℕ → ℕ → ℕ → Range
-raw_at p at n = pick_range (ltb (length p) (at + n)) Past (To (at + n))
+-- a raw range of n bytes at a cursor (`raw range` of document 01): where it ends; none where it passes the payload's end (refusal 7)
+unfoldable pub raw_at : List ℕ → ℕ → ℕ → Option ℕ
+raw_at p at n = pick_range (ltb (length p) (at + n)) None (Some (at + n))

@@ -1,10 +1,9 @@
 -- The variable-length integer of document 01 (PutUint30, in older versions PutInt). Assumes nothing: these are definitions.
-use Rattle.std.specs.Prelude.{Bool, true, false, List, ℕ, ◌+◌, ◌-◌, ◌/◌, ◌%◌, ◌^◌, ◌<◌, length, get_or, ltb, leb}
+use Rattle.std.specs.Prelude.{Bool, true, false, List, ℕ, ◌+◌, ◌-◌, ◌/◌, ◌%◌, ◌^◌, ◌<◌, length, get_or, ltb, leb, Option, Some, None}
 use Rattle.stream.specs.declared.putint.Int.{Int}
-use Rattle.stream.specs.declared.putint.Int.TheVariants.{Is, Cut}
 use Rattle.stream.specs.Bytes.{little_endian}
 
-abbrev pub pick_int : Bool → Int → Int → Int
+abbrev pub pick_int : Bool → Option Int → Option Int → Option Int
 pick_int true a b = a
 pick_int false a b = b
 
@@ -13,13 +12,13 @@ unfoldable pub int_length : List ℕ → ℕ → ℕ
 int_length p at = get_or p at 0 % 4 + 1
 
 -- an integer: that many bytes, little-endian, shifted right by 2; a payload that ends before it does has none (refusal 4)
-unfoldable pub int_at : List ℕ → ℕ → Int
+unfoldable pub int_at : List ℕ → ℕ → Option Int
 int_at p at =
-    pick_int (leb (length p) at) Cut
-    (pick_int (ltb (length p - at) (int_length p at)) Cut
-    (Is (little_endian p at (int_length p at) / 4) (int_length p at)))
+    pick_int (leb (length p) at) None
+    (pick_int (ltb (length p - at) (int_length p at)) None
+    (Some (record { value = little_endian p at (int_length p at) / 4; count = int_length p at })))
 
 -- an integer's value has 30 bits, since a payload's bytes are below 256
-abbrev pub Small : Int → Type 0
-Small (Is v n) = v < 2 ^ 30
-Small Cut = Unit {0}
+abbrev pub Small : Option Int → Type 0
+Small (Some i) = i.value < 2 ^ 30
+Small None = Unit {0}

@@ -23,30 +23,18 @@ pub fn little_endian(p: &[u8], at: usize, n: usize) -> u64
     ensures { result ≡ little_endian p.now at n }
 {
     let mut raw: u64 = 0;
-    let mut i: usize = 0;
-    while i < n {
+    for i in 0..n {
         raw |= byte(p, at + i) << (8 * i);
-        i += 1;
     }
     raw
 }
 
-// Where a raw range ends, or that it passes the payload's end.
-#[derive(Clone, Copy)]
-pub enum Range {
-    To(usize),
-    Past,
-}
-
-// A raw range of n bytes at a cursor.
-pub fn raw(p: &[u8], at: usize, n: usize) -> Range
+// Where a raw range of n bytes at a cursor ends; none where it passes the payload's end.
+pub fn raw(p: &[u8], at: usize, n: usize) -> Option<usize>
     ensures { result ≡ raw_at p.now at n }
 {
-    if p.len() < at {
-        return Range::Past;
+    if p.len() < at || p.len() - at < n {
+        return None;
     }
-    if p.len() - at < n {
-        return Range::Past;
-    }
-    Range::To(at + n)
+    Some(at + n)
 }

@@ -4,24 +4,25 @@ ghost use Rattle.stream.specs.PutInt.{int_at, Small};
 
 use crate::bytes::{byte, little_endian};
 
-// An integer's value and its byte count, or that the payload ends before it does.
+// An integer's value and its byte count.
 #[derive(Clone, Copy)]
-pub enum Int {
-    Is(u32, usize),
-    Cut,
+pub struct Int {
+    pub value: u32,
+    pub count: usize,
 }
 
-// The integer at a place.
-pub fn putint(p: &[u8], at: usize) -> Int
+// The integer at a place; none where the payload ends before it does.
+pub fn putint(p: &[u8], at: usize) -> Option<Int>
     ensures value { result ≡ int_at p.now at }
     ensures small { Small result }
 {
     if p.len() <= at {
-        return Int::Cut;
+        return None;
     }
-    let n = ((byte(p, at) & 3) + 1) as usize;
-    if p.len() - at < n {
-        return Int::Cut;
+    let count = ((byte(p, at) & 3) + 1) as usize;
+    if p.len() - at < count {
+        return None;
     }
-    Int::Is((little_endian(p, at, n) >> 2) as u32, n)
+    let value = (little_endian(p, at, count) >> 2) as u32;
+    Some(Int { value, count })
 }

@@ -4,13 +4,6 @@ ghost use Rattle.stream.specs.Smi.{signed, smi_of};
 
 use crate::bytes::little_endian;
 
-// A small integer, or that the bytes hold none.
-#[derive(Clone, Copy)]
-pub enum Smi {
-    Is(i64),
-    No,
-}
-
 // The signed number whose 32 bits are n.
 fn signed32(n: u64) -> i64
     requires { n < 2 ^ 32 }
@@ -21,21 +14,21 @@ fn signed32(n: u64) -> i64
 }
 
 // Eight bytes with a zero lower half hold the upper half; four bytes, even, hold half; all else is no Smi.
-pub fn decode_smi_bytes(d: &[u8]) -> Smi
+pub fn decode_smi_bytes(d: &[u8]) -> Option<i64>
     ensures { result ≡ smi_of d.now }
 {
     if d.len() == 8 {
         let raw = little_endian(d, 0, 8);
         if raw % 4294967296 == 0 {
-            return Smi::Is(signed32(raw / 4294967296));
+            return Some(signed32(raw / 4294967296));
         }
-        return Smi::No;
+        return None;
     }
     if d.len() == 4 {
         let raw = little_endian(d, 0, 4);
         if raw % 2 == 0 {
-            return Smi::Is(signed32(raw) >> 1);
+            return Some(signed32(raw) >> 1);
         }
     }
-    Smi::No
+    None
 }

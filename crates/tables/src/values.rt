@@ -33,7 +33,7 @@ pub enum SlotValue {
     PendingRef(u64),
 }
 
-// A value as a record has it: document 01's kind, a and b.
+// A value as a record has it: document 01's kind, a and b. The kind stays a number, as C reads it from the table; `SlotValue` is the enum.
 #[derive(Clone, Copy)]
 pub struct Fields {
     pub kind: u64,
@@ -41,45 +41,53 @@ pub struct Fields {
     pub b: u64,
 }
 
-fn fields3(kind: u64, a: u64, b: u64) -> Fields
-    ensures { result ≡ triple kind a b }
-{
-    Fields { kind, a, b }
+impl Fields {
+    fn new(kind: u64, a: u64, b: u64) -> Fields
+        ensures { result ≡ triple kind a b }
+    {
+        Fields { kind, a, b }
+    }
 }
 
 // The kind and the two numbers of a reference.
-fn ref_fields(r: Ref) -> Fields
-    ensures { result ≡ ref_fields r }
-{
-    match r {
-        Ref::Object(id) => fields3(1, id, 0),
-        Ref::Root(i) => fields3(2, i, 0),
-        Ref::RoRef(c, o) => fields3(3, c, o),
-        Ref::Attached(i) => fields3(4, i, 0),
+impl From<Ref> for Fields {
+    ghost from_gives = { λ r f. f ≡ ref_fields r };
+
+    fn from(r: Ref) -> Fields {
+        match r {
+            Ref::Object(id) => Fields::new(1, id, 0),
+            Ref::Root(i) => Fields::new(2, i, 0),
+            Ref::RoRef(c, o) => Fields::new(3, c, o),
+            Ref::Attached(i) => Fields::new(4, i, 0),
+        }
     }
 }
 
 // The kind and the two numbers of a value.
+impl From<SlotValue> for Fields {
+    ghost from_gives = { λ v f. f ≡ fields_of v };
+
+    fn from(v: SlotValue) -> Fields {
+        match v {
+            SlotValue::Ref(r) => r.into(),
+            SlotValue::Raw(r) if r.advances => Fields::new(5, r.off, r.len),
+            SlotValue::Raw(r) => Fields::new(6, r.off, r.len),
+            SlotValue::Repeat(n, k) => Fields::new(7, n as u64, k),
+            SlotValue::RepeatPrev(n) => Fields::new(8, n as u64, 0),
+            SlotValue::Skip(n) => Fields::new(9, n as u64, 0),
+            SlotValue::StreamBytes(n) => Fields::new(10, n as u64, 0),
+            SlotValue::ClearedWeak => Fields::new(11, 0, 0),
+            SlotValue::WeakRef(k) => Fields::new(12, k, 0),
+            SlotValue::PendingRef(n) => Fields::new(13, n, 0),
+        }
+    }
+}
+
+// The conversion of a value under the name that other crates cite.
 pub fn fields_of(v: SlotValue) -> Fields
     ensures { result ≡ fields_of v }
 {
-    match v {
-        SlotValue::Ref(r) => ref_fields(r),
-        SlotValue::Raw(r) => {
-            if r.advances {
-                fields3(5, r.off, r.len)
-            } else {
-                fields3(6, r.off, r.len)
-            }
-        }
-        SlotValue::Repeat(n, k) => fields3(7, n as u64, k),
-        SlotValue::RepeatPrev(n) => fields3(8, n as u64, 0),
-        SlotValue::Skip(n) => fields3(9, n as u64, 0),
-        SlotValue::StreamBytes(n) => fields3(10, n as u64, 0),
-        SlotValue::ClearedWeak => fields3(11, 0, 0),
-        SlotValue::WeakRef(k) => fields3(12, k, 0),
-        SlotValue::PendingRef(n) => fields3(13, n, 0),
-    }
+    v.into()
 }
 
 // How many bytes of its object an item with this value takes, `ts` bytes to a word.
@@ -89,13 +97,12 @@ pub fn width(v: SlotValue, ts: u64) -> u64
 {
     match v {
         SlotValue::Raw(r) => { if r.advances { r.len } else { 0 } }
-        SlotValue::Repeat(n, _) => (n as u64) * ts,
-        SlotValue::RepeatPrev(n) => (n as u64) * ts,
+        SlotValue::Repeat(n, _) | SlotValue::RepeatPrev(n) => n as u64 * ts,
         SlotValue::Skip(n) => n as u64,
         SlotValue::StreamBytes(_) => 0,
-        SlotValue::Ref(_) => ts,
-        SlotValue::ClearedWeak => ts,
-        SlotValue::WeakRef(_) => ts,
-        SlotValue::PendingRef(_) => ts,
+        SlotValue::Ref(_)
+        | SlotValue::ClearedWeak
+        | SlotValue::WeakRef(_)
+        | SlotValue::PendingRef(_) => ts,
     }
 }

@@ -1,12 +1,11 @@
 // Which sheets are usable and plain.
-// Tests are joined by & and |: all of them are safe to make, and a test without branches is its definition's equation.
 ghost use Rattle.std.specs.Prelude.{◌≡◌, ◌<◌};
 ghost use Rattle.sheet.specs.Sheet as Sheet;
 
 use sheet::names::{
-    K_ALIGNMENT_PREFIX, K_BACKREF, K_BACKREF_WITH_SKIP, K_DEFERRED, K_FIXED_RAW_DATA,
+    ABSENT, K_ALIGNMENT_PREFIX, K_BACKREF, K_BACKREF_WITH_SKIP, K_DEFERRED, K_FIXED_RAW_DATA,
     K_FIXED_REPEAT, K_FIXED_REPEAT_ROOT, K_HOT_OBJECT, K_HOT_OBJECT_WITH_SKIP, K_NEW_OBJECT,
-    K_ROOT_ARRAY_CONSTANTS, K_ROOT_ARRAY_CONSTANTS_WITH_SKIP, K_SKIP, K_SPACE_MASK,
+    K_ROOT_ARRAY_CONSTANTS, K_ROOT_ARRAY_CONSTANTS_WITH_SKIP, K_SKIP, K_SPACE_MASK, SHEET_LENGTH,
 };
 use sheet::numbers::{
     legacy, number, number_of_spaces, page_size_bits, present, root_mask, six_x, space_tag_size,
@@ -17,27 +16,20 @@ use sheet::numbers::{
 fn within(most: u64, absent: bool, x: u64) -> bool
     ensures { result ≡ Sheet.within most absent x }
 {
-    (x <= most) | (absent & (x == 65535))
+    x <= most || (absent && x == u64::from(ABSENT))
 }
 
 // n numbers from the first on are within.
 fn all_within(sheet: &[u16], most: u64, absent: bool, n: usize) -> bool
     ensures { result ≡ Sheet.all_within sheet.now most absent 0 n }
 {
-    let mut i = 0;
-    while i < n {
-        if !within(most, absent, number(sheet, i)) {
-            return false;
-        }
-        i += 1;
-    }
-    true
+    (0..n).all(|i| within(most, absent, number(sheet, i)))
 }
 
 fn between(low: u64, high: u64, x: u64) -> bool
     ensures { result ≡ Sheet.between low high x }
 {
-    (low <= x) & (x <= high)
+    (low..=high).contains(&x)
 }
 
 // The first byte after a present name's span is at most 255.
@@ -45,21 +37,22 @@ fn span_fits(sheet: &[u16], k: usize, n: u64) -> bool
     requires { n < 65537 }
     ensures { result ≡ Sheet.span_fits sheet.now k n }
 {
-    !present(sheet, k) | (number(sheet, k) + n <= 255)
+    !present(sheet, k) || number(sheet, k) + n <= 255
 }
 
+// A name a line, as the definition has them: a list of names and spans to go through would be no plainer.
 fn spans_fit(sheet: &[u16]) -> bool
     ensures { result ≡ Sheet.spans_fit sheet.now }
 {
     let constants = root_mask(sheet) + 1;
     span_fits(sheet, K_HOT_OBJECT, 8)
-        & span_fits(sheet, K_HOT_OBJECT_WITH_SKIP, 8)
-        & span_fits(sheet, K_ROOT_ARRAY_CONSTANTS, constants)
-        & span_fits(sheet, K_ROOT_ARRAY_CONSTANTS_WITH_SKIP, constants)
-        & span_fits(sheet, K_FIXED_RAW_DATA, 32)
-        & span_fits(sheet, K_FIXED_REPEAT, 16)
-        & span_fits(sheet, K_FIXED_REPEAT_ROOT, 16)
-        & span_fits(sheet, K_ALIGNMENT_PREFIX, 3)
+        && span_fits(sheet, K_HOT_OBJECT_WITH_SKIP, 8)
+        && span_fits(sheet, K_ROOT_ARRAY_CONSTANTS, constants)
+        && span_fits(sheet, K_ROOT_ARRAY_CONSTANTS_WITH_SKIP, constants)
+        && span_fits(sheet, K_FIXED_RAW_DATA, 32)
+        && span_fits(sheet, K_FIXED_REPEAT, 16)
+        && span_fits(sheet, K_FIXED_REPEAT_ROOT, 16)
+        && span_fits(sheet, K_ALIGNMENT_PREFIX, 3)
 }
 
 fn legacy_spans_fit(sheet: &[u16]) -> bool
@@ -67,36 +60,38 @@ fn legacy_spans_fit(sheet: &[u16]) -> bool
 {
     let spaces = number_of_spaces(sheet);
     !legacy(sheet)
-        | (span_fits(sheet, K_NEW_OBJECT, spaces)
-            & span_fits(sheet, K_BACKREF, spaces)
-            & span_fits(sheet, K_BACKREF_WITH_SKIP, spaces))
+        || (span_fits(sheet, K_NEW_OBJECT, spaces)
+            && span_fits(sheet, K_BACKREF, spaces)
+            && span_fits(sheet, K_BACKREF_WITH_SKIP, spaces))
 }
 
 // A usable sheet.
+#[tactic(auto, unfolding(sheet::specs::Sheet::usable))]
 pub fn usable(sheet: &[u16]) -> bool
     ensures { result ≡ Sheet.usable sheet.now }
 {
     let word = word_bytes(sheet);
-    (sheet.len() == 58)
-        & ((word == 4) | (word == 8))
-        & all_within(sheet, 65534, false, 9)
-        & all_within(sheet, 255, true, 56)
-        & between(1, 16, space_tag_size(sheet))
-        & between(3, 28, page_size_bits(sheet))
-        & (!six_x(sheet) | legacy(sheet))
-        & spans_fit(sheet)
-        & legacy_spans_fit(sheet)
+    sheet.len() == SHEET_LENGTH
+        && (word == 4 || word == 8)
+        && all_within(sheet, 65534, false, 9)
+        && all_within(sheet, 255, true, 56)
+        && between(1, 16, space_tag_size(sheet))
+        && between(3, 28, page_size_bits(sheet))
+        && (!six_x(sheet) || legacy(sheet))
+        && spans_fit(sheet)
+        && legacy_spans_fit(sheet)
 }
 
 // A plain sheet.
+#[tactic(auto, unfolding(sheet::specs::Sheet::plain))]
 pub fn plain(sheet: &[u16]) -> bool
     ensures { result ≡ Sheet.plain sheet.now }
 {
     usable(sheet)
-        & !present(sheet, K_SPACE_MASK)
-        & !present(sheet, K_BACKREF_WITH_SKIP)
-        & !present(sheet, K_HOT_OBJECT_WITH_SKIP)
-        & !present(sheet, K_ROOT_ARRAY_CONSTANTS_WITH_SKIP)
-        & !present(sheet, K_SKIP)
-        & !present(sheet, K_DEFERRED)
+        && !present(sheet, K_SPACE_MASK)
+        && !present(sheet, K_BACKREF_WITH_SKIP)
+        && !present(sheet, K_HOT_OBJECT_WITH_SKIP)
+        && !present(sheet, K_ROOT_ARRAY_CONSTANTS_WITH_SKIP)
+        && !present(sheet, K_SKIP)
+        && !present(sheet, K_DEFERRED)
 }

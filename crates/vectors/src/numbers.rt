@@ -1,122 +1,106 @@
-// The numbers of the frozen files, and the arrays that they fill.
-ghost use Rattle.std.specs.Prelude.{◌≤◌};
+// The numbers of the file of cases.
+ghost use Rattle.std.specs.Prelude.{◌≡◌, ◌≤◌, ◌↔◌, min, IsTrue, IfOk, length, vec_len};
+ghost use Rattle.std.specs.Int.{from_le_bytes};
+ghost use Rattle.std.specs.Iterator.{at_most};
+ghost use mir.Syntax.{w64};
+ghost use Rattle.std.specs.Option.{unwrap_or};
+ghost use Rattle.vectors.specs.Numbers.{IsFrozen, after_number, after_numbers, after_table, first_number, numbers, places};
 
-use stream::bytes::{byte, little_endian};
+use std::alloc::{AllocError, Global};
 
-// A number, and the place after it.
+// The bytes that are not read yet.
 #[derive(Drop)]
-pub struct Number {
-    pub value: u64,
-    pub at: usize,
-}
+pub struct Numbers<'a>(pub &'a [u8]);
 
-// The number at a place: one byte below 248; else 247 and the number of bytes, which follow, the lowest first. 0 where none is left.
-pub fn next(data: &[u8], at: usize) -> Number {
-    if data.len() <= at {
-        return Number { value: 0, at };
-    }
-    let b = byte(data, at);
-    if b < 248 {
-        return Number {
-            value: b,
-            at: at + 1,
-        };
-    }
-    let n = (b - 247) as usize;
-    if data.len() - at <= n {
-        return Number {
-            value: 0,
-            at: data.len(),
-        };
-    }
-    Number {
-        value: little_endian(data, at + 1, n),
-        at: at + 1 + n,
-    }
-}
-
-// A length that an array with so many places can have.
-pub fn at_most(n: u64, most: usize) -> usize
-    ensures { result ≤ most }
+// The bytes as a number, the first byte lowest.
+fn little_endian(bytes: &[u8]) -> u64
+    requires { length bytes.now ≤ 8 }
+    ensures { result ≡ from_le_bytes w64 bytes.now }
 {
-    if n < most as u64 { n as usize } else { most }
+    let mut word = [0u8; 8];
+    word[..bytes.len()].copy_from_slice(bytes);
+    u64::from_le_bytes(word)
 }
 
-fn low_byte(n: u64) -> u8 {
-    if n < 256 { n as u8 } else { 0 }
-}
+impl Iterator for Numbers<'_> {
+    type Item = u64;
 
-fn low_half(n: u64) -> u32 {
-    if n < 4294967296 { n as u32 } else { 0 }
-}
+    ghost next_gives = { λ s r t. (r ≡ first_number s.0.now) × (t.0.now ≡ after_number s.0.now) };
 
-fn two_bytes(low: u8, high: u8) -> u16 {
-    (low as u16) + (high as u16) * 256
-}
+    ghost remaining = { λ s. at_most (length s.0.now) };
 
-// The numbers of a sheet, two bytes each.
-pub fn fill_sheet(data: &[u8], start: usize, out: &mut [u16]) {
-    let mut i: usize = 0;
-    let mut at = start;
-    while i < out.len() {
-        if data.len() < at {
-            return;
+    // One byte below 248; else 247 and the number of bytes, which follow, the lowest first.
+    fn next(&mut self) -> Option<u64> {
+        let (first, rest) = self.0.split_first()?;
+        let n = usize::from(first.saturating_sub(247));
+        if n == 0 {
+            self.0 = rest;
+            return Some(u64::from(*first));
         }
-        if data.len() - at < 2 {
-            return;
+        if rest.len() < n {
+            self.0 = &[];
+            return None;
         }
-        out[i] = two_bytes(data[at], data[at + 1]);
-        i += 1;
-        at += 2;
+        let (bytes, rest) = rest.split_at(n);
+        self.0 = rest;
+        Some(little_endian(bytes))
     }
 }
 
-// Bytes, and the place after them.
-pub fn fill_bytes(data: &[u8], start: usize, out: &mut [u8]) -> usize {
-    let mut i: usize = 0;
-    let mut at = start;
-    while i < out.len() {
-        let n = next(data, at);
-        out[i] = low_byte(n.value);
-        at = n.at;
-        i += 1;
+impl Numbers<'_> {
+    // The next number, 0 where none is left.
+    pub fn number(&mut self) -> u64
+        ensures value { result ≡ unwrap_or (first_number self.old.0.now) 0 }
+        ensures rest { self.new.0.now ≡ after_number self.old.0.now }
+    {
+        self.next().unwrap_or(0)
     }
-    at
-}
 
-// Reservations, and the place after them.
-pub fn fill_halves(data: &[u8], start: usize, out: &mut [u32]) -> usize {
-    let mut i: usize = 0;
-    let mut at = start;
-    while i < out.len() {
-        let n = next(data, at);
-        out[i] = low_half(n.value);
-        at = n.at;
-        i += 1;
+    // The next number, or `most` where it is greater.
+    pub fn length(&mut self, most: usize) -> usize
+        ensures value { result ≡ min (unwrap_or (first_number self.old.0.now) 0) most }
+        ensures rest { self.new.0.now ≡ after_number self.old.0.now }
+    {
+        usize::try_from(self.number()).unwrap_or(most).min(most)
     }
-    at
-}
 
-// Whether a table has the numbers frozen at a place, so many of them, and zeros after them; and the place after the numbers.
-#[derive(Drop)]
-pub struct Same {
-    pub same: bool,
-    pub at: usize,
-}
+    // Numbers with their length before them. At most `most` are read, and one that T can't hold counts as 0.
+    pub fn list<T: TryFrom<u64> + Default>(
+        &mut self,
+        alloc: Global,
+        most: usize,
+    ) -> Result<Vec<T>, AllocError>
+    where
+        T: Drop,
+        T::Error: Drop,
+        ensures { IfOk result (λ v. vec_len v ≡ min (unwrap_or (first_number self.old.0.now) 0) most) }
+    {
+        let len = self.length(most);
+        let mut list = Vec::new(alloc);
+        list.resize_with(len, || T::try_from(self.number()).unwrap_or_default())?;
+        Ok(list)
+    }
 
-pub fn same_table(data: &[u8], start: usize, count: u64, table: &[u64]) -> Same {
-    let mut i: usize = 0;
-    let mut at = start;
-    let mut same = count <= table.len() as u64;
-    while i < table.len() {
-        let mut want: u64 = 0;
-        if (i as u64) < count {
-            let n = next(data, at);
-            want = n.value;
-            at = n.at;
+    // Whether the next numbers are these.
+    fn next_are(&mut self, those: &[u64]) -> bool
+        ensures same { IsTrue result ↔ (those.now ≡ numbers (length those.now) self.old.0.now) }
+        ensures rest { self.new.0.now ≡ after_numbers (length those.now) self.old.0.now }
+    {
+        let mut same = true;
+        for n in those {
+            same &= *n == self.number();
         }
-        same = same & (table[i] == want);
-        i += 1;
+        same
     }
-    Same { same, at }
+
+    // Whether a table has the frozen records, so many of some fields, and zeros after them. 100,000 records or more count as none.
+    pub fn is_frozen(&mut self, table: &[u64], count: u64, fields: u64) -> bool
+        ensures same { IsTrue result ↔ IsFrozen self.old.0.now (places count fields) table.now }
+        ensures rest { self.new.0.now ≡ after_table self.old.0.now (places count fields) table.now }
+    {
+        let count = if count < 100000 { count } else { 0 };
+        let len = usize::try_from(count.saturating_mul(fields)).unwrap_or(usize::MAX);
+        let (records, rest) = table.split_at(len.min(table.len()));
+        (len <= table.len()) & self.next_are(records) & rest.iter().all(|n| *n == 0)
+    }
 }

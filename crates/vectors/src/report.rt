@@ -1,70 +1,113 @@
 // What is printed.
-use std::io;
+ghost use Rattle.std.specs.Prelude.{◌≡◌, ◌||◌, ◌+◌, ◌<◌, ◌≤◌, nat_lt, if◌then◌else◌, IsTrue};
 
-pub fn file_failed(rt: &impl Eprint, name: &str, error: io::Error) -> io::Result<()> {
-    eprintln!(rt; "{name}: {error}")?;
-    eprintln!(rt; "no cases were run")
+use std::fmt;
+
+// Which parts of a case differ from what is frozen.
+#[derive(Clone, Copy)]
+pub struct Differences {
+    pub outcome: bool,
+    pub objects: bool,
+    pub slots: bool,
+    pub values: bool,
+    pub addresses: bool,
 }
 
-fn part(rt: &impl Print, differs: bool, name: &str) -> io::Result<()> {
-    if differs {
-        print!(rt; "{name}")?;
+impl Differences {
+    pub fn any(&self) -> bool
+        ensures { result ≡ (self.now.outcome || self.now.objects || self.now.slots || self.now.values || self.now.addresses) }
+    {
+        self.outcome | self.objects | self.slots | self.values | self.addresses
     }
-    Ok(())
 }
 
-// The case's number and what differs in it.
-pub fn difference(
-    rt: &impl Print,
-    k: u64,
-    outcome: bool,
-    objects: bool,
-    slots: bool,
-    values: bool,
-    addresses: bool,
-) -> io::Result<()> {
-    print!(rt; "case {k} differs:")?;
-    part(rt, !outcome, " outcome")?;
-    part(rt, !objects, " objects")?;
-    part(rt, !slots, " slots")?;
-    part(rt, !values, " values")?;
-    part(rt, !addresses, " addresses")?;
-    println!(rt)
+// The parts, each after a space.
+impl fmt::Display for Differences {
+    fn fmt<W: fmt::Write>(&self, f: &mut fmt::Formatter<W>) -> fmt::Result {
+        let parts = [
+            (self.outcome, " outcome"),
+            (self.objects, " objects"),
+            (self.slots, " slots"),
+            (self.values, " values"),
+            (self.addresses, " addresses"),
+        ];
+        for (differs, name) in parts {
+            if differs {
+                f.write_str(name)?;
+            }
+        }
+        Ok(())
+    }
 }
 
-fn line(rt: &impl Print, name: &str, n: u64) -> io::Result<()> {
-    println!(rt; "{name}: {n}")
+// What the families are called, by their numbers in cases.bin.
+const FAMILIES: [&str; 8] = [
+    "document 01",
+    "modern",
+    "legacy",
+    "map-first",
+    "6.x",
+    "shared bytes",
+    "unusable",
+    "rooms",
+];
+
+// No count goes further.
+const MOST: u64 = 1000000;
+
+// How many cases there were of each family and of each frozen number, and how many differed.
+#[derive(Clone, Copy, Default)]
+pub struct Tally {
+    families: [u64; 8],
+    outcomes: [u64; 18],
+    differ: u64,
 }
 
-// A line for each refusal number with cases.
-fn refusals(rt: &impl Print, outcomes: &[u64]) -> io::Result<()> {
-    for (i, n) in outcomes.iter().enumerate() {
-        if i != 0 && *n != 0 {
-            println!(rt; "refused with {i}: {n}")?;
+fn count(n: &mut u64)
+    ensures { n.new ≡ (if nat_lt n.old MOST then n.old + 1 else n.old) }
+{
+    if *n < MOST {
+        *n += 1;
+    }
+}
+
+// One more at place k, where there is one.
+fn count_at(counts: &mut [u64], k: u64) {
+    if let Ok(i) = usize::try_from(k)
+        && let Some(n) = counts.get_mut(i)
+    {
+        count(n);
+    }
+}
+
+impl Tally {
+    pub fn add(&mut self, family: u64, outcome: u64, differs: bool)
+        ensures counted { IsTrue differs → 0 < self.new.differ }
+        ensures kept { self.old.differ ≤ self.new.differ }
+    {
+        count_at(&mut self.families, family);
+        count_at(&mut self.outcomes, outcome);
+        if differs {
+            count(&mut self.differ);
         }
     }
-    Ok(())
 }
 
-pub fn summary(
-    rt: &impl Print,
-    families: &[u64; 8],
-    outcomes: &[u64; 18],
-    differ: u64,
-) -> io::Result<()> {
-    line(rt, "document 01", families[0])?;
-    line(rt, "modern", families[1])?;
-    line(rt, "legacy", families[2])?;
-    line(rt, "map-first", families[3])?;
-    line(rt, "6.x", families[4])?;
-    line(rt, "shared bytes", families[5])?;
-    line(rt, "unusable", families[6])?;
-    line(rt, "rooms", families[7])?;
-    line(rt, "accepted", outcomes[0])?;
-    refusals(rt, outcomes)?;
-    if differ == 0 {
-        println!(rt; "all equal")
-    } else {
-        line(rt, "differ", differ)
+impl fmt::Display for Tally {
+    fn fmt<W: fmt::Write>(&self, f: &mut fmt::Formatter<W>) -> fmt::Result {
+        for (name, n) in FAMILIES.iter().zip(&self.families) {
+            writeln!(f, "{name}: {n}")?;
+        }
+        writeln!(f, "accepted: {}", self.outcomes[0])?;
+        for (i, n) in self.outcomes.iter().enumerate().skip(1) {
+            if *n != 0 {
+                writeln!(f, "refused with {i}: {n}")?;
+            }
+        }
+        if self.differ == 0 {
+            writeln!(f, "all equal")
+        } else {
+            writeln!(f, "differ: {}", self.differ)
+        }
     }
 }

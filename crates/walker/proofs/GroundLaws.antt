@@ -4,8 +4,8 @@ use mathlib.Core.List.{List}
 use Prim.Native.Nat.{ℕ, zero, suc}
 use lib.Dec.{ltb}
 use lib.ListN.{length, take, drop}
+use Rattle.std.specs.Prelude.{Option, Some, None}
 use Rattle.stream.specs.declared.putint.Int.{Int}
-use Rattle.stream.specs.declared.putint.Int.TheVariants.{Is as IntIs, Cut as IntCut}
 use Rattle.stream.specs.PutInt.{int_at}
 use Rattle.sheet.specs.Tests.{is_resolve}
 use Rattle.tables.specs.declared.values.SlotValue.{SlotValue}
@@ -44,9 +44,9 @@ module _ (x : Input) where
   unfolding byte
   byte_ground m = same_choose ground_of (ltb m.at (length x.payload)) _ _ m (λ _. refl) refl
 
-  int_of : (i : Int) → Leaves ground_of (after_int x i)
-  int_of (IntIs v count) m = refl
-  int_of IntCut m = refl
+  int_of : (i : Option Int) → Leaves ground_of (after_int x i)
+  int_of (Some i) m = refl
+  int_of None m = refl
 
   int_ground : Leaves ground_of (int x)
   unfolding int

@@ -120,7 +120,7 @@ module _ (v p : List ℕ) (sp : ℕ) (tr h sc : List ℕ) (s : State) (l : Lent)
   by_sheet false e = let z = y.plain e in rw (z.0, z.1, z.2, z.3) (after-plain x e s.alignment space bytes s.objects (mem s₂ l₂))
   by_sheet true e =
       let z = y.legacy e in
-      rw (a.not_first, e, z.1) (allocated x s₂ space bytes s.objects l.addresses l.cur l.used (word_bytes v) z.0 l₂ refl refl)
+      rw (a.not_first, e, z.1) (allocated x s₂ space bytes s.objects l.addresses l.cur l.used (word_bytes v) l₂ refl z.0)
 
   abbrev l₄ : Lent
   l₄ = objects_is ot (slots_is st (addresses_is dt (hot_is hot (counters_is l.cur used l))))

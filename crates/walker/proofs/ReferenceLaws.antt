@@ -8,28 +8,24 @@ use native.Mathlib.Omega.{arith}
 use borrow.Author.Tests.{lt-ltb, le-ltb, ltb-true, eqb-true}
 use lib.Dec.{ltb, eqb}
 use lib.ListN.{length, get_or, drop}
-use Rattle.stream.specs.declared.bytes.Range.{Range}
-use Rattle.stream.specs.declared.bytes.Range.TheVariants.{To as RangeTo, Past}
+use Rattle.std.specs.Prelude.{Option, Some, None, Ok, Err}
 use Rattle.stream.specs.Bytes.{raw_at}
 use Rattle.stream.specs.declared.putint.Int.{Int}
-use Rattle.stream.specs.declared.putint.Int.TheVariants.{Is as IntIs, Cut as IntCut}
 use Rattle.stream.specs.PutInt.{int_at}
 use Rattle.heads.specs.Kinds.{new_object, backref, legacy_backref, legacy_backref_with_skip, next_chunk, alignment, hot, hot_with_skip, root_array, root_constant, root_constant_with_skip, read_only, attached, builtin, external, api, internal, deoptimizer, stream_bytes, embedder_fields, off_heap_target, cache, register_pending, cleared_weak, weak_prefix, pointer_prefix, dispatch_entry, fixed_raw, variable_raw, skip, fixed_repeat, fixed_repeat_root, repeat_previous, variable_repeat, variable_repeat_previous, variable_repeat_root, meta_map}
 use Rattle.sheet.specs.Sheet.{usable}
 use Rattle.heads.specs.Heads.{Row, order, Head, claims, pick_head, first_of, head_of}
 use Rattle.sheet.proofs.UsableSheet.{and_left, and_right}
+use Rattle.tables.specs.declared.values.Ref.{Ref}
 use Rattle.tables.specs.declared.values.Ref.TheVariants.{Root}
 use Rattle.tables.specs.declared.values.SlotValue.{SlotValue}
 use Rattle.tables.specs.declared.values.SlotValue.TheVariants.{Ref as IsRef}
 use Rattle.tables.specs.declared.values.Fields.{Fields}
 use Rattle.tables.specs.Values.{fields_of}
 use Rattle.tables.specs.Records.{room}
-use Rattle.backref.specs.declared.hot_ring.Hot.{Hot}
-use Rattle.backref.specs.declared.hot_ring.Hot.TheVariants.{Is as HotIs, Empty}
 use Rattle.backref.specs.HotRing.{hot_at}
-use Rattle.backref.specs.declared.legacy.Backref.{Backref}
-use Rattle.backref.specs.declared.legacy.Backref.TheVariants.{To, Cut, Unknown}
-use Rattle.backref.specs.Legacy.{backref_of}
+use Rattle.backref.specs.declared.legacy.BackrefError.TheVariants.{Cut, Unknown}
+use Rattle.backref.specs.Legacy.{Answer, backref_of}
 use Rattle.address_index.specs.Links.{Linked}
 use Rattle.address_index.specs.Sorted.{Sorted}
 use Rattle.definition.specs.Memory.{Input, Table, Mem, Out, got, no, Reader, and_then, ◌>>=◌, ◌>>◌, choose, change, moved, aligned, after_int, byte, int, has_room}
@@ -75,9 +71,9 @@ module _ (x : Input) where
   unfolding byte
   byte_still m = same_choose records_of (ltb m.at (length x.payload)) _ _ m (λ _. refl) refl
 
-  int_of : (i : Int) → Still (after_int x i)
-  int_of (IntIs v count) m = refl
-  int_of IntCut m = refl
+  int_of : (i : Option Int) → Still (after_int x i)
+  int_of (Some i) m = refl
+  int_of None m = refl
 
   pub int_still : Still (int x)
   unfolding int
@@ -86,18 +82,18 @@ module _ (x : Input) where
   amount_still : Still (skip_amount x)
   amount_still = then_leaves records_of (int x) _ int_still (λ n m. refl)
 
-  backref_of_lem : (b : Backref) → Still (of_backref x b)
-  backref_of_lem (To r next) m = refl
-  backref_of_lem Cut m = refl
-  backref_of_lem (Unknown next) m = refl
+  backref_of_lem : (b : Answer) → Still (of_backref x b)
+  backref_of_lem (Ok b) m = refl
+  backref_of_lem (Err Cut) m = refl
+  backref_of_lem (Err (Unknown next)) m = refl
 
   pub legacy_still : (space : ℕ) → Still (legacy_reference x space)
   unfolding legacy_reference
   legacy_still space m = backref_of_lem (backref_of x.sheet x.payload m.addresses.rows m.addresses.count m.alignment space m.at) m
 
-  raw_of : (n : ℕ) (advances : Bool) (r : Range) → Still (after_raw n advances r)
-  raw_of n advances (RangeTo end) m = refl
-  raw_of n advances Past m = refl
+  raw_of : (n : ℕ) (advances : Bool) (r : Option ℕ) → Still (after_raw n advances r)
+  raw_of n advances (Some end) m = refl
+  raw_of n advances None m = refl
 
   raw_still : (n : ℕ) (advances : Bool) → Still (raw_data x n advances)
   unfolding raw_data
@@ -107,9 +103,9 @@ backref_to_still : (i : ℕ) → Still (backref_to i)
 unfolding backref_to
 backref_to_still i m = same_choose records_of (ltb i m.objects.count) _ _ m (λ _. refl) refl
 
-hot_of : (h : Hot) → Still (of_hot h)
-hot_of (HotIs r) m = refl
-hot_of Empty m = refl
+hot_of : (h : Option Ref) → Still (of_hot h)
+hot_of (Some r) m = refl
+hot_of None m = refl
 
 hot_still : (i : ℕ) → Still (hot_place i)
 hot_still i m = hot_of (hot_at m.hot i) m

@@ -1,81 +1,78 @@
 use native.Mathlib.Omega.{arith}
-use Prim.Native.Nat.{◌-◌}
-use Rattle.address_index.proofs.LinkLaws.{newest_before, newest_jump, jump_jump, far_jump, ordinal_low}
+use mathlib.Core.Path.{◌≡◌, sym, ap, ◌∙◌}
+use Prim.Native.Nat.{suc, ◌<◌}
+use Rattle.address_index.specs.Links.{counted, space_of, newest}
+use Rattle.address_index.proofs.LinkLaws.{jump_kept, ordinal_low, newest_before, newest_space, newest_jump, jump_older}
 use Rattle.address_index.proofs.links.jump_from.Goals as goal
+use Rattle.address_index.proofs.links.jump_from.Goals.{In_ok-i, In-Some, In-Some-jump}
 
-pub jump-near-requires : goal.jump-near-requires
-jump-near-requires c =
-    let a = c.args in
-    let q = c.requires in
-    let b = newest_before a.table.now a.n a.p q.2 c.if-p-eq0.false in
-    omega (arith, b, q.0)
+-- the newest record, the record that it jumps to, and the one that this jumps to
+newest_of : (c : In_ok-i) → suc c.in_ok-i.i ≡ newest c.args.table.now (space_of c.args.table.now c.args.n) c.args.n
+newest_of c = sym (ap counted c.in_ok-i.was) ∙ c.requires.2
 
-pub returns-then-near-eq0 : goal.returns-then-near-eq0
-returns-then-near-eq0 c = newest_jump c.args.table.now c.args.n c.args.p c.requires.2
+low : (c : In_ok-i) → c.in_ok-i.i < c.args.n
+low c = newest_before _ _ _ (newest_of c)
 
-pub jump-far-requires : goal.jump-far-requires
-jump-far-requires c =
-    let a = c.args in
-    let q = c.requires in
-    let b = newest_before a.table.now a.n a.p q.2 c.if-p-eq0.false in
-    let near = jump_jump q.1 b (omega (arith, c.if-near-eq0.false)) c.jump-near.ensures in
-    omega (arith, b, q.0, near.0, c.if-near-eq0.false)
+near : (c : In-Some) → (c.in-Some.near < c.in_ok-i.i) × (space_of c.args.table.now c.in-Some.near ≡ space_of c.args.table.now c.in_ok-i.i)
+near c = jump_kept c.requires.1 (low (goal.at.jump-requires-2 c).In_ok-i) c.in-Some.ensures
 
-pub returns-then-far-eq0 : goal.returns-then-far-eq0
-returns-then-far-eq0 c = newest_jump c.args.table.now c.args.n c.args.p c.requires.2
+far : (c : In-Some-jump) → (c.in-Some-jump.far < c.in-Some.near) × (space_of c.args.table.now c.in-Some-jump.far ≡ space_of c.args.table.now c.in-Some.near)
+far c =
+    let l = low (goal.at.ordinal-requires c).In_ok-i in
+    let k = near (goal.at.ordinal-requires c).In-Some in
+    jump_kept c.requires.1 (omega (arith, l, k.0)) c.in-Some-jump.ensures
+
+pub jump-requires : goal.jump-requires
+jump-requires c = let l = low c in omega (arith, l, c.requires.0)
+
+pub returns-in_default : goal.returns-in_default
+returns-in_default c = newest_jump c.args.table.now c.args.n _ c.requires.2
+
+pub jump-requires-2 : goal.jump-requires-2
+jump-requires-2 c = let l = low (goal.at.jump-requires-2 c).In_ok-i in let k = near c in omega (arith, l, k.0, c.requires.0)
+
+pub returns-in_default-jump : goal.returns-in_default-jump
+returns-in_default-jump c = newest_jump c.args.table.now c.args.n _ c.requires.2
 
 pub ordinal-requires : goal.ordinal-requires
-ordinal-requires c =
-    let a = c.args in
-    let q = c.requires in
-    let b = newest_before a.table.now a.n a.p q.2 c.if-p-eq0.false in
-    omega (arith, b, q.0)
+ordinal-requires c = let l = low (goal.at.ordinal-requires c).In_ok-i in omega (arith, l, c.requires.0)
 
 pub ordinal-requires-2 : goal.ordinal-requires-2
 ordinal-requires-2 c =
-    let a = c.args in
-    let q = c.requires in
-    let b = newest_before a.table.now a.n a.p q.2 c.if-p-eq0.false in
-    let near = jump_jump q.1 b (omega (arith, c.if-near-eq0.false)) c.jump-near.ensures in
-    let far = jump_jump q.1 (omega (arith, b, near.0, c.if-near-eq0.false)) (omega (arith, c.if-far-eq0.false)) c.jump-far.ensures in
-    omega (arith, b, q.0, near.0, far.0, c.if-near-eq0.false, c.if-far-eq0.false)
+    let l = low (goal.at.ordinal-requires-2 c).In_ok-i in
+    let k = near (goal.at.ordinal-requires-2 c).In-Some in
+    let f = far (goal.at.ordinal-requires-2 c).In-Some-jump in
+    omega (arith, l, k.0, f.0, c.requires.0)
 
-pub overflow_add-ends : goal.overflow_add-ends
-overflow_add-ends c =
-    let a = c.args in
-    let q = c.requires in
-    let b = newest_before a.table.now a.n a.p q.2 c.if-p-eq0.false in
-    let near = jump_jump q.1 b (omega (arith, c.if-near-eq0.false)) c.jump-near.ensures in
-    let far = jump_jump q.1 (omega (arith, b, near.0, c.if-near-eq0.false)) (omega (arith, c.if-far-eq0.false)) c.jump-far.ensures in
-    let o1 = ordinal_low q.1 (a.p - 1) b in
-    let o2 = ordinal_low q.1 (c.jump-far.result - 1) (omega (arith, b, near.0, far.0, c.if-near-eq0.false, c.if-far-eq0.false)) in
-    omega (arith, o1, o2, c.ordinal.ensures, c.ordinal-2.ensures, b, near.0, far.0, q.0)
+pub overflow_add-ordinal : goal.overflow_add-ordinal
+overflow_add-ordinal c =
+    let l = low (goal.at.overflow_add-ordinal c).In_ok-i in
+    let k = near (goal.at.overflow_add-ordinal c).In-Some in
+    let f = far (goal.at.overflow_add-ordinal c).In-Some-jump in
+    let a = ordinal_low c.requires.1 l c.ordinal.ensures in
+    let b = ordinal_low c.requires.1 (omega (arith, l, k.0, f.0)) c.ordinal-2.ensures in
+    omega (arith, a, b, l, k.0, f.0, c.requires.0)
 
 pub ordinal-requires-3 : goal.ordinal-requires-3
 ordinal-requires-3 c =
-    let a = c.args in
-    let q = c.requires in
-    let b = newest_before a.table.now a.n a.p q.2 c.if-p-eq0.false in
-    let near = jump_jump q.1 b (omega (arith, c.if-near-eq0.false)) c.jump-near.ensures in
-    omega (arith, b, q.0, near.0, c.if-near-eq0.false)
+    let l = low (goal.at.ordinal-requires-3 c).In_ok-i in
+    let k = near (goal.at.ordinal-requires-3 c).In-Some in
+    omega (arith, l, k.0, c.requires.0)
 
 pub overflow_mul-ordinal : goal.overflow_mul-ordinal
 overflow_mul-ordinal c =
-    let a = c.args in
-    let q = c.requires in
-    let b = newest_before a.table.now a.n a.p q.2 c.if-p-eq0.false in
-    let near = jump_jump q.1 b (omega (arith, c.if-near-eq0.false)) c.jump-near.ensures in
-    let o3 = ordinal_low q.1 (c.jump-near.result - 1) (omega (arith, b, near.0, c.if-near-eq0.false)) in
-    omega (arith, o3, c.ordinal-3.ensures, b, near.0, q.0)
+    let l = low (goal.at.overflow_mul-ordinal c).In_ok-i in
+    let k = near (goal.at.overflow_mul-ordinal c).In-Some in
+    let a = ordinal_low c.requires.1 (omega (arith, l, k.0)) c.ordinal-3.ensures in
+    omega (arith, a, l, k.0, c.requires.0)
 
-pub returns-then-ends-ordinal : goal.returns-then-ends-ordinal
-returns-then-ends-ordinal c =
-    let a = c.args in
-    let q = c.requires in
-    let b = newest_before a.table.now a.n a.p q.2 c.if-p-eq0.false in
-    let near = jump_jump q.1 b (omega (arith, c.if-near-eq0.false)) c.jump-near.ensures in
-    let far = jump_jump q.1 (omega (arith, b, near.0, c.if-near-eq0.false)) (omega (arith, c.if-far-eq0.false)) c.jump-far.ensures in
-    far_jump a.table.now a.n a.p c.jump-near.result c.jump-far.result (newest_jump c.args.table.now c.args.n c.args.p c.requires.2) c.if-p-eq0.false near far
+pub returns-then-ordinal : goal.returns-then-ordinal
+returns-then-ordinal c =
+    let l = low (goal.at.returns-then-ordinal c).In_ok-i in
+    let k = near (goal.at.returns-then-ordinal c).In-Some in
+    let f = far (goal.at.returns-then-ordinal c).In-Some-jump in
+    let s = newest_space _ _ _ (newest_of (goal.at.returns-then-ordinal c).In_ok-i) in
+    jump_older c.args.table.now c.args.n c.in-Some-jump.far (omega (arith, l, k.0, f.0)) (f.1 ∙ k.1 ∙ s)
 
-pub returns-else-ends-ordinal : goal.returns-else-ends-ordinal
-returns-else-ends-ordinal c = newest_jump c.args.table.now c.args.n c.args.p c.requires.2
+pub returns-else-ordinal : goal.returns-else-ordinal
+returns-else-ordinal c = newest_jump c.args.table.now c.args.n _ c.requires.2

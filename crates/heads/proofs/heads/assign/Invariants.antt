@@ -1,9 +1,7 @@
-use Prim.Native.Nat.{◌+◌, ◌-◌, ◌≤◌}
-use Rattle.heads.specs.Assigning.{Assigned}
+use Rattle.std.proofs.Common.{◌-◌}
+use Rattle.heads.specs.Kinds.{kind_number}
+use Rattle.heads.specs.Assigning.{argument_number, Assigned}
 use Rattle.heads.proofs.heads.assign.Given as goal
 
 abbrev pub invariant-loop-b : goal.invariant-loop-b
-invariant-loop-b l = (l.first ≤ l.b) × (l.b ≤ l.first + l.n) × Assigned l.initial.heads l.first (l.b - l.first) l.kind l.argument l.mask l.heads
-
-abbrev pub decreases-loop-b : goal.decreases-loop-b
-decreases-loop-b l = l.first + l.n - l.b
+invariant-loop-b l = Assigned l.initial.heads l.first (l.b - l.first) (kind_number l.kind) (argument_number l.argument) l.mask l.heads

@@ -1,22 +1,25 @@
-use native.Mathlib.Omega.{arith}
-use Rattle.heads.proofs.Answers.{answers_none, answers_all, step_absent, step_untested, step_claimed}
-use Rattle.heads.proofs.Spans.{fits}
+use Rattle.std.proofs.Common.{sym, ◌∙◌}
+use Rattle.heads.proofs.Answers.{left_all, left_none, left_absent, left_untested, left_fits, left_claimed}
 use Rattle.heads.proofs.heads.claim_all.Goals as goal
+use Rattle.heads.proofs.heads.claim_all.Goals.{else-present-via-then-present+else-tested, else-present-via-else-present}
 
-pub loop-i-init : goal.loop-i-init
-loop-i-init c = (omega arith, answers_none _ _ c.requires.heads_value)
+pub loop-c-init : goal.loop-c-init
+loop-c-init c = left_all _ _ _ (cc) c.requires.heads_value
 
 pub assign-requires : goal.assign-requires
-assign-requires c = (fits c.args.sheet.now _ _ _ _ _ c.requires.sheet_value (omega arith) c.order_row-c.ensures c.number-first.ensures.0 (λ e. omega arith) c.tested.ensures c.if-tested.true c.span_of.ensures, c.loop-i.invariant.1.size)
+assign-requires c =
+    left_fits _ _ _ _ _ c.in-Some.ensures.steps c.loop-c.invariant _ _ c.number-first.ensures.0 c.span_of-n.ensures (sym c.present.ensures ∙ c.if-present.true) (sym c.tested.ensures ∙ c.if-tested.true) c.requires.sheet_value
 
-pub loop-i-preserved-then-tested : goal.loop-i-preserved-then-tested
-loop-i-preserved-then-tested c = (omega arith, step_claimed c.args.sheet.now _ _ _ _ c.loop-i-test.true c.loop-i.invariant.0 c.loop-i.invariant.1 c.order_row-c.ensures c.number-first.ensures.0 _ c.tested.ensures _ _ _ (λ e. omega arith) c.if-tested.true c.span_of.ensures c.root_mask-mask.ensures.0 c.assign.ensures)
+pub loop-c-preserved-then-tested : goal.loop-c-preserved-then-tested
+loop-c-preserved-then-tested c =
+    left_claimed _ _ _ _ _ c.in-Some.ensures.steps c.loop-c.invariant _ _ c.number-first.ensures.0 c.span_of-n.ensures (sym c.present.ensures ∙ c.if-present.true) (sym c.tested.ensures ∙ c.if-tested.true) _ _ c.root_mask-mask.ensures.0 c.assign.ensures
 
-pub loop-i-preserved-else-tested : goal.loop-i-preserved-else-tested
-loop-i-preserved-else-tested c = (omega arith, step_untested c.args.sheet.now _ _ _ _ c.loop-i-test.true c.loop-i.invariant.0 c.loop-i.invariant.1 c.order_row-c.ensures c.number-first.ensures.0 _ c.tested.ensures c.if-tested.false)
-
-pub loop-i-preserved : goal.loop-i-preserved
-loop-i-preserved c = (omega arith, step_absent c.args.sheet.now _ _ _ _ c.loop-i-test.true c.loop-i.invariant.0 c.loop-i.invariant.1 c.order_row-c.ensures c.number-first.ensures.0 (omega arith))
+pub loop-c-preserved : goal.loop-c-preserved
+loop-c-preserved c =
+    elim c.else-present.branch [
+      | else-present-via-then-present+else-tested b ↦ left_untested _ _ _ _ _ c.in-Some.ensures.steps c.loop-c.invariant (sym b.tested.ensures ∙ b.if-tested.false)
+      | else-present-via-else-present b ↦ left_absent _ _ _ _ _ c.in-Some.ensures.steps c.loop-c.invariant (sym c.present.ensures ∙ b.if-present.false)
+    ]
 
 pub returns : goal.returns
-returns c = answers_all _ _ c.loop-i.i (omega arith) c.loop-i.invariant.1
+returns c = left_none _ _ _ c.in-None.ensures.steps.0 c.loop-c.invariant

@@ -7,8 +7,8 @@ use Rattle.stream.proofs.putint.putint.Goals.{After-little_endian}
 pub returns-then-p-at : goal.returns-then-p-at
 returns-then-p-at c = record { value = int_none _ _ c.if-p-at.true; small = tt }
 
-pub overflow_add-n : goal.overflow_add-n
-overflow_add-n c = let a = c.args in omega (arith, count_is a.p.now a.at c.byte.ensures.0, count_small a.p.now a.at)
+pub overflow_add-count : goal.overflow_add-count
+overflow_add-count c = let a = c.args in omega (arith, count_is a.p.now a.at c.byte.ensures.0, count_small a.p.now a.at)
 
 pub returns-then-p-at-2 : goal.returns-then-p-at-2
 returns-then-p-at-2 c = record { value = int_cut _ _ c.if-p-at.false (count_is _ _ c.byte.ensures.0) c.if-p-at-2.true; small = tt }
@@ -23,8 +23,8 @@ raw_below : (c : After-little_endian) → c.little_endian.result < 2 ^ 32
 raw_below c =
     int_below _ _ (λ i. omega (arith, c.type_inv.p i)) (count_is _ _ c.byte.ensures.0) c.little_endian.ensures
 
-pub overflow_cast-result : goal.overflow_cast-result
-overflow_cast-result c = let h = raw_below (goal.at.overflow_cast-result c).After-little_endian in omega arith
+pub overflow_cast-value : goal.overflow_cast-value
+overflow_cast-value c = let h = raw_below (goal.at.overflow_cast-value c).After-little_endian in omega arith
 
 pub returns : goal.returns
 returns c =

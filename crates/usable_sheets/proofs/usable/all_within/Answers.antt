@@ -1,16 +1,11 @@
-use mathlib.Core.Path.{ap}
-use mathlib.Core.Bool.{not}
-use Rattle.usable_sheets.proofs.WithinLaws.{passed_none, passed-more, passed_all, stops}
+use Rattle.std.proofs.Common.{rules, true, false, arith}
+use borrow.Author.Tests.{tests}
+use Rattle.std.proofs.lemmas.Iterator.{cases_from_all, YieldsList-from_range}
+use Rattle.usable_sheets.proofs.WithinLaws.{Tests, decided}
 use Rattle.usable_sheets.proofs.usable.all_within.Goals as goal
 
-pub loop-i-init : goal.loop-i-init
-loop-i-init c = passed_none _ _ _ _
-
-pub returns-then-not-within : goal.returns-then-not-within
-returns-then-not-within c = stops _ _ _ _ _ _ c.loop-i.invariant c.loop-i-test.true c.number.ensures.0 c.within.ensures (ap not c.if-not-within.true)
-
-pub loop-i-preserved : goal.loop-i-preserved
-loop-i-preserved c = passed-more _ _ _ _ _ _ c.loop-i.invariant c.loop-i-test.true c.number.ensures.0 c.within.ensures (ap not c.if-not-within.false)
-
 pub returns : goal.returns
-returns c = passed_all _ _ _ _ _ c.loop-i.invariant c.loop-i-test.false
+returns c =
+    let a = c.args in
+    decided a.sheet.now a.most a.absent a.n _
+    (cases_from_all _ _ _ (Tests a.sheet.now a.most a.absent true) (Tests a.sheet.now a.most a.absent false) c.all.ensures.ran (YieldsList-from_range 0 a.n a.n (cc) (omega arith)) (λ x q k. search (rules, tests)) (λ x q k. search (rules, tests)))
