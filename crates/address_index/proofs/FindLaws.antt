@@ -7,13 +7,14 @@ use Prim.Native.Nat.{ℕ, ◌+◌, ◌<◌}
 use native.Mathlib.Omega.{arith}
 use borrow.Author.Tests.{eqb-true, eqb-false, eq-eqb, ltb-true, ltb-false}
 use lib.Dec.{ltb, eqb}
+use Rattle.std.proofs.lemmas.Bool.{false_from_ne_true}
 use Rattle.tables.specs.Records.{field}
 use Rattle.alloc.specs.Resolve.{is_address}
 use Rattle.address_index.specs.Links.{space_of, newest}
 use Rattle.address_index.specs.Sorted.{AtMost, Sorted, is_after}
 use Rattle.address_index.specs.Search.{NoneFrom, Seeks}
 pub use Rattle.address_index.specs.KeyLaws.{space_field}
-use Rattle.address_index.specs.KeyLaws.{not_both, refuted, address_of_space}
+use Rattle.address_index.specs.KeyLaws.{not_both, address_of_space}
 use Rattle.address_index.proofs.SearchLaws.{seeks_newest, seeks_on}
 
 -- ---- an address
@@ -71,7 +72,7 @@ module _ {t : List ℕ} {n : ℕ} (s : Sorted t n) (space chunk offset i : ℕ) 
   -- its address is higher than this one: no record of its space from there on has this address
   pub none_after : is_after t i chunk offset ≡ true → NoneFrom (is_address t space chunk offset) i n
   none_after h k a b =
-      refuted _ (λ q. let y = at_address t space chunk offset k q in clash y (is_after_lem t i chunk offset h).higher (up y.of_space (eqb i k) refl))
+      false_from_ne_true _ (λ q. let y = at_address t space chunk offset k q in clash y (is_after_lem t i chunk offset h).higher (up y.of_space (eqb i k) refl))
     where
       up : space_of t k ≡ space → (d : Bool) → eqb i k ≡ d → AtMost (field 5 t i 1) (field 5 t i 2) (field 5 t k 1) (field 5 t k 2)
       up q true c = subst (λ (x : ℕ). AtMost (field 5 t i 1) (field 5 t i 2) (field 5 t x 1) (field 5 t x 2)) (eqb-true i k c) (inr (refl, omega arith))
@@ -99,7 +100,7 @@ module _ {t : List ℕ} {n : ℕ} (s : Sorted t n) (space chunk offset i : ℕ) 
       go true q = subst (λ (x : ℕ). is_address t space chunk offset x ≡ false) (sym (eqb-true k i q)) a
       go false q =
           let c : k < i = (let z = eqb-false k i q in omega (arith, z, b)) in
-          refuted _ (λ d. let y = at_address t space chunk offset k d in same y c (s.rising k i c l (y.of_space ∙ sym e)) (not_after t i chunk offset h))
+          false_from_ne_true _ (λ d. let y = at_address t space chunk offset k d in same y c (s.rising k i c l (y.of_space ∙ sym e)) (not_after t i chunk offset h))
 
   -- the record before it is the one to look at
   pub seeks_before : i < n → is_after t i chunk offset ≡ true → (r : ℕ) → r ≡ newest t (space_of t i) i → Seeks t space (is_address t space chunk offset) n r

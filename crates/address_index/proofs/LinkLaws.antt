@@ -10,20 +10,22 @@ use borrow.Author.Tests.{eqb-true, eqb-false, eq-eqb, ne_eqb}
 use lib.Dec.{eqb}
 use lib.ListN.{length, get_or, set, length-set}
 use lib.Seq.{get_or-set_same, get_or-set_other}
-use Rattle.address_index.specs.Links.{space_of, newest, count_in, JumpOf, Links, Linked}
+use Rattle.address_index.specs.Links.{counted, space_of, newest, count_in, JumpOf, Roomy, Links, Linked}
+use Rattle.address_index.specs.Entries.{IsEntry}
+use Rattle.address_index.specs.declared.links.Entry.{Entry}
 use Rattle.address_index.specs.KeyLaws.{on_or_off, count_on, count_off}
 
 -- ---- the newest record of a space, and how many there are
 
 module _ (t : List ℕ) (s : ℕ) where
-  pub newest_on : (n : ℕ) → space_of t n ≡ s → newest t s (suc n) ≡ suc n
+  newest_on : (n : ℕ) → space_of t n ≡ s → newest t s (suc n) ≡ suc n
   unfolding newest
   newest_on n e = rw (eq-eqb (space_of t n) s e)
 
   pub newest_just : (i : ℕ) → 0 < i → space_of t (i - 1) ≡ s → suc (i - 1) ≡ newest t s i
   newest_just i p e = let z : suc (i - 1) ≡ i = omega (arith, p) in subst (λ (k : ℕ). suc (i - 1) ≡ newest t s k) z (sym (newest_on (i - 1) e))
 
-  pub newest_off : (n : ℕ) → space_of t n ≢ s → newest t s (suc n) ≡ newest t s n
+  newest_off : (n : ℕ) → space_of t n ≢ s → newest t s (suc n) ≡ newest t s n
   unfolding newest
   newest_off n e = rw (ne_eqb (space_of t n) s e)
 
@@ -121,7 +123,7 @@ module _ (ix : List ℕ) (n space p j o : ℕ) where
 
   module _ (small : space < 256) where
     -- what lies elsewhere stays
-    pub entered_else : (x : ℕ) → x ≢ space → x ≢ 256 + n * 3 → x ≢ 256 + n * 3 + 1 → x ≢ 256 + n * 3 + 2 → get_or entered x 0 ≡ get_or ix x 0
+    entered_else : (x : ℕ) → x ≢ space → x ≢ 256 + n * 3 → x ≢ 256 + n * 3 + 1 → x ≢ 256 + n * 3 + 2 → get_or entered x 0 ≡ get_or ix x 0
     entered_else x a b c d =
         get_or-set_other with_ordinal space x (n + 1) 0 a ∙ get_or-set_other with_jump (256 + n * 3 + 2) x o 0 d ∙ get_or-set_other with_older (256 + n * 3 + 1) x j 0 c ∙ get_or-set_other ix (256 + n * 3) x p 0 b
 
@@ -135,23 +137,23 @@ module _ (ix : List ℕ) (n space p j o : ℕ) where
       long_ordinal : length with_ordinal ≡ length ix
       long_ordinal = length-set with_jump (256 + n * 3 + 2) o ∙ long_jump
 
-      pub entered-head : get_or entered space 0 ≡ n + 1
+      entered-head : get_or entered space 0 ≡ n + 1
       entered-head = get_or-set_same with_ordinal space (n + 1) 0 (omega (arith, long_ordinal))
 
-      pub entered_older : get_or entered (256 + n * 3) 0 ≡ p
+      entered_older : get_or entered (256 + n * 3) 0 ≡ p
       entered_older =
           get_or-set_other with_ordinal space (256 + n * 3) (n + 1) 0 (λ e. omega (arith, e))
           ∙ get_or-set_other with_jump (256 + n * 3 + 2) (256 + n * 3) o 0 (λ e. omega (arith, e))
           ∙ get_or-set_other with_older (256 + n * 3 + 1) (256 + n * 3) j 0 (λ e. omega (arith, e))
           ∙ get_or-set_same ix (256 + n * 3) p 0 (omega arith)
 
-      pub entered_jump : get_or entered (256 + n * 3 + 1) 0 ≡ j
+      entered_jump : get_or entered (256 + n * 3 + 1) 0 ≡ j
       entered_jump =
           get_or-set_other with_ordinal space (256 + n * 3 + 1) (n + 1) 0 (λ e. omega (arith, e))
           ∙ get_or-set_other with_jump (256 + n * 3 + 2) (256 + n * 3 + 1) o 0 (λ e. omega (arith, e))
           ∙ get_or-set_same with_older (256 + n * 3 + 1) j 0 (omega (arith, long_older))
 
-      pub entered_ordinal : get_or entered (256 + n * 3 + 2) 0 ≡ o
+      entered_ordinal : get_or entered (256 + n * 3 + 2) 0 ≡ o
       entered_ordinal =
           get_or-set_other with_ordinal space (256 + n * 3 + 2) (n + 1) 0 (λ e. omega (arith, e))
           ∙ get_or-set_same with_jump (256 + n * 3 + 2) o 0 (omega (arith, long_jump))
@@ -190,6 +192,29 @@ module _ (t ix : List ℕ) (n p j o : ℕ) (small : space_of t n < 256) (fits : 
         jumps = λ i l. either (λ i. JumpOf t i (get_or after (256 + i * 3 + 1) 0)) i l (λ b. subst (JumpOf t i) (sym (kept i 1 b (omega arith))) (w.jumps i b)) (subst (JumpOf t n) (sym (entered_jump ix n (space_of t n) p j o small fits)) ej);
         ordinals = λ i l. either (λ i. get_or after (256 + i * 3 + 2) 0 ≡ count_in t (space_of t i) i) i l (λ b. kept i 2 b (omega arith) ∙ w.ordinals i b) (entered_ordinal ix n (space_of t n) p j o small fits ∙ eo);
       }
+
+-- a number that is written behind what is kept of the records changes nothing of it
+links_behind : {t ix : List ℕ} {n : ℕ} → Links t n ix → (cell v : ℕ) → 256 + n * 3 ≤ cell → Links t n (set ix cell v)
+links_behind {t} {ix} {n} w cell v far =
+    record {
+      heads = λ s b. else s (λ q. omega (arith, q)) ∙ w.heads s b;
+      olders = λ i l. else (256 + i * 3) (λ q. omega (arith, q, l)) ∙ w.olders i l;
+      jumps = λ i l. rw (else (256 + i * 3 + 1) (λ q. omega (arith, q, l))) (w.jumps i l);
+      ordinals = λ i l. else (256 + i * 3 + 2) (λ q. omega (arith, q, l)) ∙ w.ordinals i l;
+    }
+  where
+    else : (x : ℕ) → x ≢ cell → get_or (set ix cell v) x 0 ≡ get_or ix x 0
+    else x d = get_or-set_other ix cell x v 0 d
+
+-- the entry of record n is written, without its hint and with it
+module _ (t ix : List ℕ) (n p j : ℕ) (e : Entry) (fits : Roomy n ix) (is : IsEntry t n ix e) (linked : Linked t n ix) (ep : p ≡ counted e.before) (ej : j ≡ counted e.jump) where
+  pub entry_links : Links t (n + 1) (entered ix n e.space p j e.ordinal)
+  entry_links =
+      rw is.space
+      (enters t ix n p j e.ordinal (rw is.space at is.fits.low) fits (linked (omega (arith, fits))) (ep ∙ is.before) (rw ej is.jump) is.ordinal)
+
+  pub entry_links_hint : (cell : ℕ) → 256 + (n + 1) * 3 ≤ cell → Links t (n + 1) (set (entered ix n e.space p j e.ordinal) cell (n + 1))
+  entry_links_hint cell far = links_behind entry_links cell (n + 1) far
 
 -- ---- the spaces of the first n records alone matter
 

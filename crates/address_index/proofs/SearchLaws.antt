@@ -8,10 +8,10 @@ use native.Mathlib.Omega.{arith}
 use lib.ListN.{get_or}
 use Rattle.std.specs.Prelude.{Option, Some, None}
 use Rattle.tables.specs.Records.{field}
-use Rattle.std.proofs.lemmas.Bool.{cases_lt}
+use Rattle.std.proofs.lemmas.Bool.{cases_lt, false_from_ne_true}
 use Rattle.address_index.specs.Links.{counted, space_of, newest, Links}
 use Rattle.address_index.specs.Search.{newest_where, NoneFrom, Seeks}
-use Rattle.address_index.specs.KeyLaws.{refuted, newest_where-at, newest_where-none}
+use Rattle.address_index.specs.KeyLaws.{newest_where-at, newest_where-none}
 use Rattle.address_index.proofs.LinkLaws.{newest_low, newest_is, newest_gap}
 
 -- a test that only records of the space pass
@@ -22,14 +22,14 @@ module _ (t : List ℕ) (space : ℕ) (test : ℕ → Bool) (law : (i : ℕ) →
       record {
         within = rw z (newest_low t space n);
         of_space = λ i p. (newest_is t space n i (sym z ∙ p)).0;
-        none = λ k a c. refuted (test k) (λ e. newest_gap t space n k (rw z at a) c (law k e));
+        none = λ k a c. false_from_ne_true (test k) (λ e. newest_gap t space n k (rw z at a) c (law k e));
       }
 
   -- which the index has
   pub seeks_top : {ix : List ℕ} {n : ℕ} → Links t n ix → space < 256 → (r : ℕ) → r ≡ get_or ix space 0 → Seeks t space test n r
   seeks_top {ix} {n} w l r e = seeks_newest n r (e ∙ w.heads space l)
 
-pub none_join : {test : ℕ → Bool} {m r n : ℕ} → NoneFrom test m r → NoneFrom test r n → NoneFrom test m n
+none_join : {test : ℕ → Bool} {m r n : ℕ} → NoneFrom test m r → NoneFrom test r n → NoneFrom test m n
 none_join {test} {m} {r} {n} f g k a b = ⊎_elim (λ c. f k a c) (λ c. g k c b) (cases_lt k r)
 
 -- the search goes on: no record from record i on passes

@@ -13,10 +13,6 @@ space_field t k = ap (λ (i : ℕ). get_or t i 0) (add-zero (k * 5))
 pub not_both : {b : Bool} → b ≡ true → b ≡ false → ⊥
 not_both p q = cc
 
-pub refuted : (b : Bool) → (b ≡ true → ⊥) → b ≡ false
-refuted true h = absurd (h refl)
-refuted false h = refl
-
 module _ (t : List ℕ) (test : ℕ → Bool) where
   pub newest_where-skip : (m n : ℕ) → m ≤ n → NoneFrom test m n → newest_where test t n ≡ newest_where test t m
   unfolding newest_where

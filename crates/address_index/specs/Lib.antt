@@ -3,3 +3,4 @@ pub mod Sorted
 pub mod Search
 pub mod KeyLaws
 pub mod Searches
+pub mod Entries

@@ -4,7 +4,8 @@
 // are counted from 1.
 ghost use Rattle.std.specs.Prelude.{◌+◌, ◌*◌, ◌^◌, ◌<◌, ◌≤◌, length, IfSome};
 ghost use Rattle.tables.specs.Records.{room};
-ghost use Rattle.address_index.specs.Links.{counted, Linked};
+ghost use Rattle.address_index.specs.Links.{counted};
+ghost use Rattle.address_index.specs.Entries.{HintLies};
 
 use alloc::resolve::Place;
 
@@ -74,28 +75,21 @@ pub fn number_hint(index: &[u64], n: usize, space: u64, number: u64) -> Option<u
     hint_at(index, n, number_cell(r, space, number))
 }
 
-// Record n becomes a hint: in spaces 4 and 5, where back-references give numbers, for its number o; else for the address of record p, the
-// one before it in its space.
-pub fn keep_hint(table: &[u64], index: &mut [u64], n: usize, p: Option<usize>, o: u64)
-    requires { (n < room 5 table.now) × (256 ≤ length index.old) × (counted p ≤ n) × (o ≤ n) × Linked table.now (n + 1) index.old }
-    ensures { Linked table.now (n + 1) index.new }
+// Where record n is kept as a hint: in spaces 4 and 5, where back-references give numbers, for its number o; else for the address of record p,
+// the one before it in its space.
+pub fn hint_cell(table: &[u64], index: &[u64], n: usize, p: Option<usize>, o: u64) -> Option<usize>
+    requires { (n < room 5 table.now) × (256 ≤ length index.now) × (counted p ≤ n) × (o ≤ n) }
+    ensures { HintLies n index.now result }
 {
-    let Some(r) = capacity(index, n + 1) else {
-        return;
-    };
+    let r = capacity(index, n + 1)?;
     let space = table[n * 5];
     if space == 4 || space == 5 {
-        let cell = number_cell(r, space, o);
-        index[cell] = n as u64 + 1;
-        return;
+        return Some(number_cell(r, space, o));
     }
-    let Some(b) = p else {
-        return;
-    };
+    let b = p?;
     let place = Place {
         chunk: table[b * 5 + 1],
         offset: table[b * 5 + 2],
     };
-    let cell = address_cell(r, place);
-    index[cell] = n as u64 + 1;
+    Some(address_cell(r, place))
 }

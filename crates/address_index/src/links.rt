@@ -1,11 +1,12 @@
 // The index of legacy addresses: for each of 256 spaces its newest address record, then three numbers for each
 // record: the record before it in its space, an older record of its space to jump to, and its number in its space. In the index records are
 // counted from 1, and 0 is none. The jumps halve what is left to search (skew-binary lists), whatever the addresses are.
-ghost use Rattle.std.specs.Prelude.{◌≡◌, ℕ, ◌+◌, ◌*◌, ◌^◌, ◌<◌, ◌≤◌, length, get_or};
+ghost use Rattle.std.specs.Prelude.{◌≡◌, ℕ, ◌+◌, ◌*◌, ◌^◌, ◌<◌, ◌≤◌, length, get_or, List, IsTrue, ◌↔◌};
 ghost use Rattle.tables.specs.Records.{room};
 ghost use Rattle.address_index.specs.Links.{counted, space_of, newest as newestOf, count_in, Roomy, JumpOf, Links, Linked};
+ghost use Rattle.address_index.specs.Entries.{EntryFits, IsEntry};
 
-use crate::hints::keep_hint;
+use crate::hints::hint_cell;
 
 // The record that the index names by a number.
 fn record_of(number: u64) -> Option<usize>
@@ -99,22 +100,52 @@ fn ordinal_after(table: &[u64], index: &[u64], n: usize, p: Option<usize>) -> u6
     }
 }
 
-// Record n of the address table enters the index, where the index has room for it.
-pub fn enter(table: &[u64], index: &mut [u64], n: usize)
-    requires { (n < room 5 table.now) × (space_of table.now n < 256) × Linked table.now n index.old }
-    ensures { Linked table.now (n + 1) index.new }
+// The index has room for what is kept of record n.
+pub fn has_room(index: &[u64], n: usize) -> bool
+    requires { n < 2 ^ 60 }
+    ensures { IsTrue result ↔ Roomy n index.now }
+{
+    256 + n * 3 + 3 <= index.len()
+}
+
+// What the index keeps of a record: its space, the record before it there, the record to jump to, its number, and where its hint lies.
+#[derive(Clone, Copy)]
+pub struct Entry {
+    pub space: usize,
+    pub before: Option<usize>,
+    pub jump: Option<usize>,
+    pub ordinal: u64,
+    pub hint: Option<usize>,
+}
+
+// What the index is to keep of record n of the address table.
+pub fn entry_of(table: &[u64], index: &[u64], n: usize) -> Entry
+    requires { (n < room 5 table.now) × (space_of table.now n < 256) × Roomy n index.now × Linked table.now n index.now }
+    ensures { IsEntry table.now n index.now result }
+{
+    let space = table[n * 5] as usize;
+    let before = newest(index, space);
+    let ordinal = ordinal_after(table, index, n, before);
+    Entry {
+        space,
+        before,
+        jump: jump_from(table, index, n, before),
+        ordinal,
+        hint: hint_cell(table, index, n, before, ordinal),
+    }
+}
+
+// Record n enters the index.
+pub fn add_entry(index: &mut [u64], n: usize, entry: Entry)
+    requires { Roomy n index.old × EntryFits n index.old entry }
+    ensures { (t : List ℕ) → IsEntry t n index.old entry → Linked t n index.old → Linked t (n + 1) index.new }
 {
     let at = 256 + n * 3;
-    if index.len() < at + 3 {
-        return;
+    index[at] = number_of(entry.before);
+    index[at + 1] = number_of(entry.jump);
+    index[at + 2] = entry.ordinal;
+    index[entry.space] = n as u64 + 1;
+    if let Some(cell) = entry.hint {
+        index[cell] = n as u64 + 1;
     }
-    let space = table[n * 5] as usize;
-    let p = newest(index, space);
-    let j = jump_from(table, index, n, p);
-    let o = ordinal_after(table, index, n, p);
-    index[at] = index[space];
-    index[at + 1] = number_of(j);
-    index[at + 2] = o;
-    index[space] = n as u64 + 1;
-    keep_hint(table, index, n, p, o);
 }

@@ -1,5 +1,6 @@
 // The chunk counters of legacy spaces, and allocation.
-ghost use Rattle.std.specs.Prelude.{◌≡◌, ◌-◌, ◌^◌, ◌<◌, ◌≤◌, length, get_or};
+ghost use Rattle.std.specs.Prelude.{◌≡◌, ◌-◌, ◌^◌, ◌<◌, ◌≤◌, length, get_or, OnErr, IfErr};
+ghost use Rattle.refusals.specs.Numbers.{number_of};
 ghost use Rattle.alloc.specs.Allocation.{zero_counters, spaces_of, next_chunk, advance_of, outcome, allocate_of, seen, Places};
 
 use crate::fill::{fill_to_align, max_fill_to_align};
@@ -56,55 +57,44 @@ impl LegacyAlloc {
         }
     }
 
-    // The same as `allocate` below, with the counters by value.
+    // Address record n of an object: the alignment that is pending then. Refused (no room for the record; the size, the address or the next
+    // free offset passes 2^32 - 1), nothing changes. A space without counters gets a record that is not placed, and the alignment stays pending.
     pub fn allocate(mut self, table: &mut [u64], n: usize, spaces: u64, want: Request) -> Allocated
         requires { (want.space < 256) × (want.word ≤ 8) }
         ensures { seen want.alignment result.alignment result.alloc table.new ≡ allocate_of table.old n spaces want self }
     {
-        let alignment = allocate(&self.cur, &mut self.used, table, n, spaces, want);
+        let i = want.space as usize;
+        let alignment = match place(table, n, spaces, want, self.used[i], self.cur[i]) {
+            Ok(placed) => {
+                self.used[i] = placed.free;
+                Ok(placed.alignment)
+            }
+            Err(refusal) => Err(refusal),
+        };
         Allocated {
             alignment,
             alloc: self,
         }
     }
-}
 
-// Address record n of an object: the alignment that is pending then. Refused (no room for the record; the size, the address or the next
-// free offset passes 2^32 - 1), nothing changes. A space without counters gets a record that is not placed, and the alignment stays pending.
-pub fn allocate(
-    cur: &[u32; 256],
-    used: &mut [u32; 256],
-    table: &mut [u64],
-    n: usize,
-    spaces: u64,
-    want: Request,
-) -> Result<u64, Refusal>
-    requires { (want.space < 256) × (want.word ≤ 8) }
-    ensures { seen want.alignment result (record { cur = cur.now; used = used.new }) table.new ≡ allocate_of table.old n spaces want (record { cur = cur.now; used = used.old }) }
-{
-    let i = want.space as usize;
-    let placed = place(table, n, spaces, want, used[i], cur[i])?;
-    used[i] = placed.free;
-    Ok(placed.alignment)
-}
-
-// A chunk change: the space goes on at offset 0 of its next chunk. A space without counters stays.
-#[tactic(auto, unfolding(crate::specs::Allocation::next_chunk))]
-pub fn next_chunk(cur: &mut [u32; 256], used: &mut [u32; 256], spaces: u64, space: u64)
-    requires { (space < 256) × (get_or cur.old space 0 < 2 ^ 32 - 1) }
-    ensures { (cur.new ≡ (next_chunk (record { cur = cur.old; used = used.old }) spaces space).cur) × (used.new ≡ (next_chunk (record { cur = cur.old; used = used.old }) spaces space).used) }
-{
-    if spaces <= space {
-        return;
+    // A chunk change: the space goes on at offset 0 of its next chunk. A space without counters stays.
+    #[tactic(auto, unfolding(crate::specs::Allocation::next_chunk))]
+    pub fn next_chunk(&mut self, spaces: u64, space: u64)
+        requires { (space < 256) × (get_or self.old.cur space 0 < 2 ^ 32 - 1) }
+        ensures { self.new ≡ next_chunk self.old spaces space }
+    {
+        if spaces <= space {
+            return;
+        }
+        let i = space as usize;
+        self.cur[i] += 1;
+        self.used[i] = 0;
     }
-    let i = space as usize;
-    cur[i] += 1;
-    used[i] = 0;
 }
 
-// The tests of an allocation and its record, in a space with this next free offset and this chunk.
+// The tests of an allocation and its record, in a space with this next free offset and this chunk. Refused, nothing changes.
 #[tactic(auto, using(crate::proofs::Laws::fill_bound, crate::proofs::Laws::advance_bound), unfolding(crate::specs::Allocation::allocate_of))]
-fn place(
+pub fn place(
     table: &mut [u64],
     n: usize,
     spaces: u64,
@@ -113,7 +103,9 @@ fn place(
     chunk: u32,
 ) -> Result<Placed, Refusal>
     requires { want.word ≤ 8 }
-    ensures { Places table.old n spaces want used chunk result table.new }
+    ensures is { Places table.old n spaces want used chunk result table.new }
+    ensures refused { OnErr result (table.new ≡ table.old) }
+    ensures some { IfErr result (λ r. 0 < number_of r) }
 {
     if table.len() / 5 <= n {
         return Err(Refusal::NoRoom);

@@ -1,5 +1,5 @@
 -- What is not used of a table is zero. Assumes nothing.
-use Rattle.std.specs.Prelude.{◌≡◌, refl, List, ℕ, zero, suc, ◌+◌, ◌*◌, ◌/◌, ◌%◌, ◌<◌, ◌≤◌, length, get_or, set, replicate}
+use Rattle.std.specs.Prelude.{◌≡◌, refl, List, ℕ, ◌+◌, ◌*◌, ◌/◌, ◌%◌, ◌<◌, ◌≤◌, length, set}
 use Rattle.std.proofs.Common.{◌∙◌, le-div_iff_mul-le, div-add-mod', mod-lt, arith}
 use Rattle.tables.specs.Records.{field, object_row, slot_row, value_row, filled}
 use Rattle.tables.proofs.RecordLaws.{written_else, filled_else, set_else}
@@ -10,6 +10,7 @@ use Rattle.assurance.specs.Records.{ZeroRest}
 use Rattle.assurance.specs.Induct.{graph_has}
 use Rattle.assurance.proofs.EventRules.{EventRules, tables_have}
 use Rattle.assurance.specs.Whole.{Any, steady}
+use Rattle.assurance.specs.Wider.{zeros_get}
 
 -- by records, of w fields each
 record Rest (w : ℕ) (t : Table) : Type 0 where
@@ -41,13 +42,8 @@ rules x =
       on_close = (λ S ot st vt es o size l h. h);
     }
 
-zeros : (n i : ℕ) → ◌≡◌ {A = ℕ} (get_or (replicate n 0) i 0) 0
-zeros zero i = refl
-zeros (suc n) zero = refl
-zeros (suc n) (suc i) = zeros n i
-
 at_start : (w n : ℕ) → Rest w (empty n)
-at_start w n = record { rest = (λ i k l b. zeros n (i * w + k)) }
+at_start w n = record { rest = (λ i k l b. zeros_get n (i * w + k)) }
 
 by_index : (w : ℕ) (t : Table) → 0 < w → Rest w t → ZeroRest w t
 by_index w t pos h i l =

@@ -19,7 +19,7 @@ use Rattle.assurance.specs.Induct.{graph_has}
 use Rattle.assurance.specs.On.{On, on_note, on_note_two, on_map, on_told}
 
 -- slot k of n is the newest that waits under a number
-abbrev pub Waiter : List ℕ → ℕ → ℕ → ℕ → Type 0
+abbrev Waiter : List ℕ → ℕ → ℕ → ℕ → Type 0
 Waiter rows number n k = (k < n) × (waits_for rows number k ≡ true)
 
 waiter-pick : (rows : List ℕ) (number n k : ℕ) (t : Bool) → waits_for rows number n ≡ t → (waiter rows number n ≡ suc k → Waiter rows number n k) → pick_ℕ t (suc n) (waiter rows number n) ≡ suc k → Waiter rows number (suc n) k
@@ -76,7 +76,7 @@ module _ (x : Input) (P : List Frame → Table → Table → Table → List Even
   placing : (S : List Frame) (o size done : ℕ) (m : Mem) → Base x (frame o size done ∷ S) m → m.slots.count < room 6 m.slots.rows → Placing o m.objects m.slots
   placing S o size done m b l = record { listed = b.open_below.0; objects_fit = b.objects_fit; roomy = l }
 
-  pub rules_of : Rules x Inv Any
+  rules_of : Rules x Inv Any
   unfolding Any
   rules_of =
       record {

@@ -8,7 +8,7 @@ use Rattle.tables.specs.Values.{triple}
 use Rattle.definition.specs.Memory.{in_map, in_slot, in_value, dropped, Event, opened, passed, item, value, resolve, synchronize}
 use Rattle.assurance.specs.Words.{Told, LeftPending, FilledBy}
 
-abbrev pub Either : List Event → ℕ → ℕ → Type 0
+abbrev Either : List Event → ℕ → ℕ → Type 0
 Either es k n = (LeftPending es k n) ⊎ ((o : ℕ) × (FilledBy es k n o))
 
 -- the event in question

@@ -5,8 +5,7 @@ use Rattle.std.proofs.Math.Path.{subst}
 use Rattle.std.proofs.Math.Logic.{⊎_elim}
 use Prim.Native.Nat.{ℕ, zero, suc, ◌+◌, ◌-◌, ◌<◌, ◌≤◌}
 use native.Mathlib.Omega.{arith}
-use Rattle.std.proofs.lemmas.Bool.{eqb-false}
-use Rattle.sheet.proofs.UsableSheet.{and_left, and_right}
+use Rattle.std.proofs.lemmas.Bool.{eqb-false, and_parts}
 use Rattle.tables.specs.declared.values.Fields.{Fields}
 use Rattle.tables.specs.Values.{pick_ℕ}
 use Rattle.tables.specs.Records.{room, field, slot_row, written, filled}
@@ -152,7 +151,7 @@ fill_waits t pending waiting k o l fit w h =
 
 -- what the search for a number finds waits under it
 pub found : (rows : List ℕ) (number k : ℕ) → waits_for rows number k ≡ true → (WaitsAt rows k) × (field 6 rows k 3 ≡ number)
-found rows number k e = (eqb-true (field 6 rows k 5) 1 (and_left _ _ e), eqb-true (field 6 rows k 3) number (and_right (eqb (field 6 rows k 5) 1) _ e))
+found rows number k e = (eqb-true (field 6 rows k 5) 1 (and_parts _ _ e).0, eqb-true (field 6 rows k 3) number (and_parts (eqb (field 6 rows k 5) 1) _ e).1)
 
 -- and where it finds none, none waits under it
 pub unknown : (rows : List ℕ) (number n k : ℕ) → waiter rows number n ≡ 0 → k < n → WaitsAt rows k → field 6 rows k 3 ≢ number

@@ -7,7 +7,7 @@ use borrow.Author.Tests.{ltb-true, leb-false, eqb-true}
 use Rattle.stream.proofs.ByteLaws.{Bytes}
 use Rattle.sheet.specs.Sheet.{is_legacy, is_six_x, is_map_first, lo_space}
 use Rattle.sheet.specs.Tests.{is_resolve, is_deferred}
-use Rattle.sheet.proofs.UsableSheet.{and_left}
+use Rattle.std.proofs.lemmas.Bool.{and_parts}
 use Rattle.tables.specs.declared.values.SlotValue.{SlotValue}
 use Rattle.tables.specs.declared.values.SlotValue.TheVariants.{Ref as IsRef, Repeat, RepeatPrev, Skip, StreamBytes, Raw as IsRaw, ClearedWeak, WeakRef, PendingRef}
 use Rattle.tables.specs.declared.values.Fields.{Fields}
@@ -63,7 +63,7 @@ module _ (x : Input) (bytes : Bytes x.payload) (plainly : PlainSheet x.sheet) wh
     large_has : (S : List Frame) (space : ℕ) (m : Mem) → Good S m → Gives (Had S) (large_byte x space m)
     large_has S space m g =
         gives-choose (Had S) (is_six_x x.sheet && eqb space (lo_space x.sheet)) _ _ m
-        (λ t. absurd (not_six_x_lem x.sheet plainly (and_left _ _ t))) (λ t. gives (Had S) _ _ g)
+        (λ t. absurd (not_six_x_lem x.sheet plainly (and_parts _ _ t).0)) (λ t. gives (Had S) _ _ g)
 
     open_has : (S : List Frame) (tag words : ℕ) (m : Mem) → OpensAt x tag → Good S m → Gives (λ o. Good (frame o (words * word x) 0 ∷ S)) (add_object x tag words m)
     unfolding add_object

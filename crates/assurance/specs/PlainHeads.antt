@@ -2,14 +2,14 @@
 use Rattle.std.specs.Prelude.{◌≡◌, refl, Bool, true, false, not, ◌&&◌, ◌||◌, ℕ, ◌+◌, ◌-◌, ◌<◌, ◌≤◌, eqb, leb}
 use Rattle.std.proofs.Common.{⊎_elim, arith, eqb-true, eq-eqb, leb-true, ltb-true, le-leb, lt-ltb}
 use mathlib.Core.List.{List, [], ◌∷◌}
-use Rattle.std.proofs.lemmas.Bool.{not-true}
+use Rattle.std.proofs.lemmas.Bool.{not-true, and_parts, or_cases}
 use Rattle.std.proofs.lemmas.Nat.{and_le_r}
 use Rattle.sheet.specs.Names.{k_new_object, k_backref, k_hot_object_with_skip, k_root_array_constants_with_skip, k_skip}
 use Rattle.sheet.specs.Sheet.{number, present, root_mask}
 use Rattle.heads.specs.Kinds.{new_object, legacy_backref, legacy_backref_with_skip, next_chunk, alignment, hot, hot_with_skip, root_constant_with_skip, builtin, external, api, internal, deoptimizer, stream_bytes, embedder_fields, off_heap_target, fixed_raw, skip, repeat_previous, variable_repeat_previous}
 use Rattle.heads.specs.Heads.{up_to_backref, Row, legacy, six_x, six_x_alone, from_one, and_seven, tests, argument_of, order, Head, head, claims, pick_head, first_of, head_of}
 use Rattle.sheet.specs.Tests.{opens}
-use Rattle.sheet.proofs.UsableSheet.{and_left, and_right, or_cases, implies, parts}
+use Rattle.sheet.proofs.UsableSheet.{implies, parts}
 use Rattle.assurance.specs.PlainSheet.{clash, PlainSheet}
 
 -- one of these
@@ -61,9 +61,9 @@ module _ (v : List ℕ) (s : PlainSheet v) where
 
   untested_row : (r : Row) (b : ℕ) → untested r ≡ true → claims v r b ≡ true → ⊥
   untested_row r b u c =
-      let l : present v r.name && tests v r.family ≡ true = and_left _ _ (and_left _ _ c) in
-      let p : present v r.name ≡ true = and_left _ _ l in
-      let t : tests v r.family ≡ true = and_right (present v r.name) _ l in
+      let l : present v r.name && tests v r.family ≡ true = (and_parts _ _ (and_parts _ _ c).0).0 in
+      let p : present v r.name ≡ true = (and_parts _ _ l).0 in
+      let t : tests v r.family ≡ true = (and_parts (present v r.name) _ l).1 in
       ⊎_elim
       (λ f. one_of_three r.family legacy six_x six_x_alone ⊥ f
       (λ e. no_family r.family legacy e s.no_legacy t)
@@ -82,8 +82,8 @@ module _ (v : List ℕ) (s : PlainSheet v) where
   -- of the modern row for new objects
   opening : (r : Row) (b : ℕ) → r.name ≡ k_new_object → r.span ≡ up_to_backref → claims v r b ≡ true → opens v b ≡ true
   opening r b n s c =
-      let low : number v k_new_object ≤ b = leb-true _ _ (rw n at (and_right (present v r.name && tests v r.family) _ (and_left _ _ c))) in
-      let high : b < number v k_new_object + (number v k_backref - number v k_new_object) = ltb-true _ _ (rw (n, s) at (and_right (present v r.name && tests v r.family && leb (number v r.name) b) _ c)) in
+      let low : number v k_new_object ≤ b = leb-true _ _ (rw n at (and_parts (present v r.name && tests v r.family) _ (and_parts _ _ c).0).1) in
+      let high : b < number v k_new_object + (number v k_backref - number v k_new_object) = ltb-true _ _ (rw (n, s) at (and_parts (present v r.name && tests v r.family && leb (number v r.name) b) _ c).1) in
       rw (le-leb (number v k_new_object) b low, lt-ltb b (number v k_backref) (omega arith))
 
   row_plain : (r : Row) (b : ℕ) → fits r ≡ true → claims v r b ≡ true → PlainHead v b (given r b)
@@ -93,7 +93,7 @@ module _ (v : List ℕ) (s : PlainSheet v) where
         kind = ⊎_elim (λ u. absurd (untested_row r b u c)) (λ n. not-true _ n) (or_cases _ _ (p 0));
         new_object_lem =
             (λ e. ⊎_elim (λ u. absurd (untested_row r b u c))
-            (λ q. opening r b (eqb-true r.name k_new_object (and_left _ _ q)) (eqb-true r.span up_to_backref (and_right (eqb r.name k_new_object) _ q)) c)
+            (λ q. opening r b (eqb-true r.name k_new_object (and_parts _ _ q).0) (eqb-true r.span up_to_backref (and_parts (eqb r.name k_new_object) _ q).1) c)
             (or_cases (untested r) _ (implies _ _ (p 1) (eq-eqb r.kind new_object e))));
         raw = (λ e. let q : r.argument ≡ from_one = eqb-true _ _ (implies _ _ (p 2) (eq-eqb r.kind fixed_raw e)) in rw q (omega arith));
         place = (λ e. let q : r.argument ≡ and_seven = eqb-true _ _ (implies _ _ (p 3) (eq-eqb r.kind hot e)) in rw q (omega (arith, and_le_r b 7)));
@@ -106,7 +106,7 @@ module _ (v : List ℕ) (s : PlainSheet v) where
   first_plain : (rs : List Row) (b : ℕ) → all_fit rs ≡ true → PlainHead v b (first_of v rs b)
   unfolding first_of all_fit
   first_plain [] b f = record { kind = refl; new_object_lem = (λ e. absurd (omega arith)); raw = (λ e. omega arith); place = (λ e. omega arith) }
-  first_plain (r ∷ rs) b f = pick_plain b (claims v r b) _ _ (row_plain r b (and_left (fits r) (all_fit rs) f)) (first_plain rs b (and_right (fits r) (all_fit rs) f))
+  first_plain (r ∷ rs) b f = pick_plain b (claims v r b) _ _ (row_plain r b (and_parts (fits r) (all_fit rs) f).0) (first_plain rs b (and_parts (fits r) (all_fit rs) f).1)
 
   -- THE THEOREM
   pub head_plain : (b : ℕ) → PlainHead v b (head_of v b)

@@ -1,14 +1,14 @@
 -- What a plain sheet lacks, and what that rules out. Assumes nothing.
 use Rattle.std.specs.Prelude.{◌≡◌, refl, Bool, true, false, not, List, [], ◌∷◌, ℕ, ◌+◌, ◌-◌, ◌*◌, ◌<◌, ◌≤◌, eqb, length}
 use Rattle.std.proofs.Common.{⊎_elim, arith, eqb-true}
-use Rattle.std.proofs.lemmas.Bool.{not-true, not-false}
+use Rattle.std.proofs.lemmas.Bool.{not-true, not-false, and_parts}
 use Rattle.stream.proofs.ByteLaws.{Bytes, peek-byte}
 use Rattle.sheet.specs.Names.{k_new_object, k_synchronize, k_alignment_prefix, k_hot_object_with_skip, k_root_array_constants_with_skip, k_skip, k_deferred}
 use Rattle.sheet.specs.Sheet.{number, present, word_bytes, is_legacy, is_six_x, is_map_first, usable, plain}
 use Rattle.sheet.specs.Tests.{in_span, is_deferred, is_entry, pick_closing, closing_of}
 use Rattle.sheet.specs.declared.tests.Closing.{Closing}
 use Rattle.sheet.specs.declared.tests.Closing.TheVariants.{Synchronize, Alignment, Deferred, Reference}
-use Rattle.sheet.proofs.UsableSheet.{and_left, parts, usable_gives}
+use Rattle.sheet.proofs.UsableSheet.{parts, usable_gives}
 use Rattle.definition.specs.Memory.{Input, Mem}
 use Rattle.definition.specs.Object.{peek}
 use Rattle.laws.specs.Leaves.{peek-inside}
@@ -57,7 +57,7 @@ module _ (v : List ℕ) (plainly : PlainSheet v) where
   not_six_x_lem e = clash (is_six_x v) e plainly.no_six_x
 
   pub not_map_first : is_map_first v ≡ true → ⊥
-  not_map_first e = not_legacy (and_left _ _ e)
+  not_map_first e = not_legacy (and_parts _ _ e).0
 
   -- the tests of the closing section
   module _ (P : Closing → Type 0) where
@@ -70,7 +70,7 @@ module _ (v : List ℕ) (plainly : PlainSheet v) where
     closing_case b s a r =
         pick_case (eqb (number v k_synchronize) b) _ _ s
         (pick_case (in_span v k_alignment_prefix 3 b) (Alignment (b - number v k_alignment_prefix + 1)) _ (λ t. a (b - number v k_alignment_prefix + 1))
-        (pick_case (is_entry v b) (Deferred (b - number v k_new_object)) _ (λ t. absurd (not_legacy (and_left _ _ (and_left _ _ t)))) r))
+        (pick_case (is_entry v b) (Deferred (b - number v k_new_object)) _ (λ t. absurd (not_legacy (and_parts _ _ (and_parts _ _ t).0).0)) r))
 
 -- kDeferred is absent, so no byte is it
 pub not_deferred : (x : Input) → Bytes x.payload → PlainSheet x.sheet → (m : Mem) → is_deferred x.sheet (peek x m) ≡ true → ⊥

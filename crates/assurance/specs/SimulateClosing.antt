@@ -4,10 +4,9 @@ use Rattle.std.proofs.Math.Path.{refl}
 use Rattle.std.proofs.Common.{ap, ◌∙◌, arith, leb-true, leb-false, eqb-true, lt-ltb, le-leb}
 use Rattle.std.proofs.Math.Bool.{true, false}
 use Prim.Native.Nat.{ℕ, zero, suc, ◌+◌, ◌-◌, ◌*◌, ◌<◌, ◌≤◌, max}
-use Rattle.std.proofs.lemmas.Bool.{lt-leb}
+use Rattle.std.proofs.lemmas.Bool.{lt-leb, and_parts}
 use Rattle.std.proofs.Math.ListN.{length}
 use Rattle.sheet.specs.Sheet.{is_legacy}
-use Rattle.sheet.proofs.UsableSheet.{and_left}
 use Rattle.sheet.specs.declared.tests.Closing.{Closing}
 use Rattle.sheet.specs.declared.tests.Closing.TheVariants.{Synchronize, Alignment, Deferred, Reference}
 use Rattle.sheet.specs.Tests.{opens, closing_of, is_nop}
@@ -160,7 +159,7 @@ module _ (S : Pair) where
   after_ends {m} {o} {o'} k k' w g = go o w
     where
       refused : (t : Bool) (n q : ℕ) (m₁ : Mem) → ends_legacy S.x n ≡ t → Fits S m₁ → (S.Compared n → o' ≡ no n q (φ S m₁)) → Ends S m (choose t (give tt) (refuse_at n q) m₁) (after_entry (x' S) k' o')
-      refused true n q m₁ e f w = record { seen = (f, λ v. let compared = S.legacy_compared n e in (S.compared_shared n compared m.at, rw (w compared, e)), S.stop_legacy (and_left _ _ e) m₁) }
+      refused true n q m₁ e f w = record { seen = (f, λ v. let compared = S.legacy_compared n e in (S.compared_shared n compared m.at, rw (w compared, e)), S.stop_legacy (and_parts _ _ e).0 m₁) }
       refused false n q m₁ e f w = record { seen = (f, λ v. rw (w v, e)) }
 
       go : (o : Out (Unit {0})) → Follows S 1 Any m o o' → Ends S m (after_entry S.x k o) (after_entry (x' S) k' o')

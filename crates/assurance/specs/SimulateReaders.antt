@@ -6,7 +6,7 @@ use Rattle.std.proofs.Math.Dec.{eqb}
 use Rattle.stream.specs.Bytes.{peek_at}
 use Rattle.sheet.specs.Sheet.{is_legacy, is_six_x, is_map_first, lo_space, raw_advances}
 use Rattle.sheet.specs.Tests.{is_resolve, is_deferred, is_next_chunk, alignment_of}
-use Rattle.sheet.proofs.UsableSheet.{and_left}
+use Rattle.std.proofs.lemmas.Bool.{and_parts}
 use Rattle.heads.specs.Kinds.{new_object, backref, legacy_backref, legacy_backref_with_skip, next_chunk, alignment, hot, hot_with_skip, root_array, root_constant, root_constant_with_skip, read_only, attached, builtin, external, api, internal, deoptimizer, stream_bytes, embedder_fields, off_heap_target, cache, register_pending, cleared_weak, weak_prefix, pointer_prefix, dispatch_entry, fixed_raw, variable_raw, skip, fixed_repeat, fixed_repeat_root, repeat_previous, variable_repeat, variable_repeat_previous, variable_repeat_root, meta_map}
 use Rattle.heads.specs.Heads.{head_of}
 use Rattle.tables.specs.declared.values.Ref.{Ref as Reference}
@@ -158,7 +158,7 @@ module _ (S : Pair) where
     read_map-law space bytes o recorded = go (is_map_first S.x.sheet) refl
       where
         go : (t : Bool) → is_map_first S.x.sheet ≡ t → Alike S 0 Any (choose t (map_first S.x r space bytes o) (choose (is_legacy S.x.sheet) (map_then_allocate S.x r space bytes o) r)) (choose t (map_first (x' S) r' space bytes o) (choose (is_legacy S.x.sheet) (map_then_allocate (x' S) r' space bytes o) r'))
-        go true e = map_first-law (and_left _ _ e) space bytes o recorded
+        go true e = map_first-law (and_parts _ _ e).0 space bytes o recorded
         go false e = choose_law S (is_legacy S.x.sheet) (then_law S (lower S law) (λ v _. seq_law S (allocate_law S space bytes o recorded) (give_law S v tt))) (lower S law)
 
     items-law : (o size n n' done : ℕ) (m : Mem) → Recorded S o → S.Fuel 1 m.at n n' → Fits S m → Follows S 0 Any m (items S.x r o size n done m) (items (x' S) r' o size n' done (φ S m))

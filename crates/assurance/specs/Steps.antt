@@ -10,7 +10,7 @@ use Rattle.tables.specs.declared.values.Ref.TheVariants.{Object, Root, RoRef, At
 use Rattle.tables.specs.declared.values.SlotValue.{SlotValue}
 use Rattle.tables.specs.declared.values.SlotValue.TheVariants.{Ref as IsRef, Repeat, Raw as IsRaw, ClearedWeak, WeakRef, PendingRef}
 use Rattle.tables.specs.declared.values.Fields.{Fields}
-use Rattle.tables.specs.Values.{ref_fields, fields_of, width_of}
+use Rattle.tables.specs.Values.{fields_of, width_of}
 use Rattle.tables.specs.Records.{room, object_row, slot_row, value_row}
 use Rattle.tables.proofs.RecordLaws.{written_length, filled_length}
 use Rattle.backref.specs.HotRing.{entered, hot_at}
@@ -51,7 +51,7 @@ abbrev pub passing : ℕ → Mem → Mem
 passing n m = noted (passed m.at n) (moved (m.at + n) m)
 
 abbrev pub entering : Ref → Mem → Mem
-entering r m = with_hot (entered m.hot (ref_fields r)) m
+entering r m = with_hot (entered m.hot r) m
 
 abbrev pub numbering : Mem → Mem
 numbering m = with_pending (m.pending + 1) m.waiting m

@@ -12,7 +12,7 @@ use Rattle.stream.proofs.ByteLaws.{Bytes, peek-byte}
 use Rattle.sheet.specs.Names.{k_synchronize}
 use Rattle.sheet.specs.Sheet.{number, is_legacy}
 use Rattle.sheet.specs.Tests.{opens, is_nop}
-use Rattle.sheet.proofs.UsableSheet.{and_left}
+use Rattle.std.proofs.lemmas.Bool.{and_parts}
 use Rattle.tables.specs.declared.values.SlotValue.{SlotValue}
 use Rattle.tables.specs.Values.{fields_of}
 use Rattle.definition.specs.Memory.{Input, value, dropped, synchronize, Table, Mem, Out, got, no, Reader, ◌>>=◌, ◌>>◌, choose, change, tell, refuse_at, moved, aligned, noted, byte}
@@ -86,7 +86,7 @@ module _ (x : Input) (bytes : Bytes x.payload) (plainly : PlainSheet x.sheet) wh
     after_has : (P Q : Unit {0} → Mem → Type 0) (k : Reader (Unit {0})) (o : Out (Unit {0})) → Gives P o → ((m : Mem) → P tt m → Gives Q (k m)) → Gives Q (after_entry x k o)
     after_has P Q k (got u m) h f = f m (given P _ _ h)
     after_has P Q k (no n q m) h f =
-        gives-choose Q (ends_legacy x n) _ _ m (λ t. absurd (not_legacy x.sheet plainly (and_left _ _ t))) (λ t. refused Q _ _ _)
+        gives-choose Q (ends_legacy x n) _ _ m (λ t. absurd (not_legacy x.sheet plainly (and_parts _ _ t).0)) (λ t. refused Q _ _ _)
 
     drop_has : (m : Mem) → G m → Gives (λ u m'. (G m') × (m.at < m'.at)) (drop_reference x m)
     drop_has m g =

@@ -14,7 +14,7 @@ use Rattle.definition.specs.Slots.{waiter}
 abbrev pub wide : ℕ → List ℕ → List ℕ
 wide k t = t ++ replicate k 0
 
-zeros_get : (k i : ℕ) → ◌≡◌ {A = ℕ} (get_or (replicate k 0) i 0) 0
+pub zeros_get : (k i : ℕ) → ◌≡◌ {A = ℕ} (get_or (replicate k 0) i 0) 0
 zeros_get zero i = refl
 zeros_get (suc k) zero = refl
 zeros_get (suc k) (suc i) = zeros_get k i

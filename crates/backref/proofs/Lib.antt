@@ -1,3 +1,2 @@
 pub mod RingLaws
 pub mod BackrefLaws
-pub mod BackrefBounds

@@ -4,10 +4,10 @@ use Rattle.stream.specs.declared.putint.Int.{Int}
 use Rattle.stream.specs.PutInt.{int_at}
 use Rattle.sheet.specs.Sheet.{pick_ℕ, is_six_x, map_space, lo_space, space_tag_size, page_size_bits, word_bytes}
 use Rattle.tables.specs.declared.values.Ref.TheVariants.{Object as ObjectRef, RoRef}
-use Rattle.tables.specs.Values.{ref_fields}
 use Rattle.alloc.specs.declared.resolve.Place.{Place}
 use Rattle.alloc.specs.Resolve.{resolve_of, ordinal_from}
 use Rattle.backref.specs.HotRing.{entered}
+use Rattle.backref.specs.declared.hot_ring.HotRing.{HotRing}
 use Rattle.backref.specs.declared.legacy.Backref.{Backref}
 use Rattle.backref.specs.declared.legacy.BackrefError.{BackrefError}
 use Rattle.backref.specs.declared.legacy.BackrefError.TheVariants.{Cut, Unknown}
@@ -87,6 +87,6 @@ backref_of v p t n alignment space at =
     pick_backref (is_six_x v) (packed_backref v p t n alignment space at) (plain_backref v p t n alignment space at)
 
 -- what it stands for enters the ring, read-only places included
-abbrev pub ring_after : List ℕ → Answer → List ℕ
-ring_after hot (Ok b) = entered hot (ref_fields b.target)
+abbrev pub ring_after : HotRing → Answer → HotRing
+ring_after hot (Ok b) = entered hot b.target
 ring_after hot (Err e) = hot

@@ -1,41 +1,42 @@
-// The ring of hot objects: eight places of three numbers each (kind, a and b of a value; kind 0 is empty), then the place to fill next.
+// The ring of hot objects: eight places, and the place to fill next.
 ghost use Rattle.std.specs.Prelude.{◌≡◌, ◌<◌};
-ghost use Rattle.tables.specs.Values.{ref_fields};
-ghost use Rattle.backref.specs.HotRing.{entered, hot_at};
+ghost use Rattle.backref.specs.HotRing.{empty_ring, entered, hot_at};
 
-use tables::values::{Fields, Ref, SlotValue, fields_of};
+use tables::values::Ref;
 
-// The fields of a reference enter the ring, and the ring moves on.
-#[tactic(auto, unfolding(crate::specs::HotRing::entered))]
-pub fn add_fields(hot: &mut [u64; 25], f: Fields)
-    ensures { hot.new ≡ entered hot.old f }
-{
-    let next = (hot[24] % 8) as usize;
-    hot[next * 3] = f.kind;
-    hot[next * 3 + 1] = f.a;
-    hot[next * 3 + 2] = f.b;
-    hot[24] = ((next + 1) % 8) as u64;
+#[derive(Clone, Copy)]
+pub struct HotRing {
+    pub places: [Option<Ref>; 8],
+    pub next: usize,
 }
 
-// A reference enters the ring.
-pub fn add(hot: &mut [u64; 25], r: Ref)
-    ensures { hot.new ≡ entered hot.old (ref_fields r) }
-{
-    add_fields(hot, fields_of(SlotValue::Ref(r)));
-}
+impl HotRing {
+    // Every place is empty.
+    pub fn new() -> HotRing
+        ensures { result ≡ empty_ring }
+    {
+        HotRing {
+            places: [None; 8],
+            next: 0,
+        }
+    }
 
-// What stands at a place; none where it is empty.
-#[tactic(auto, unfolding(crate::specs::HotRing::hot_at))]
-pub fn get(hot: &[u64; 25], place: usize) -> Option<Ref>
-    requires { place < 8 }
-    ensures { result ≡ hot_at hot.now place }
-{
-    let a = hot[place * 3 + 1];
-    let b = hot[place * 3 + 2];
-    match hot[place * 3] {
-        1 => Some(Ref::Object(a)),
-        2 => Some(Ref::Root(a)),
-        3 => Some(Ref::RoRef(a, b)),
-        _ => None,
+    // A reference enters the ring, and the ring moves on.
+    #[tactic(auto, unfolding(crate::specs::HotRing::entered))]
+    pub fn add(&mut self, r: Ref)
+        ensures { self.new ≡ entered self.old r }
+    {
+        let i = self.next % 8;
+        self.places[i] = Some(r);
+        self.next = (i + 1) % 8;
+    }
+
+    // What stands at a place; none where it is empty.
+    #[tactic(auto, unfolding(crate::specs::HotRing::hot_at))]
+    pub fn get(&self, place: usize) -> Option<Ref>
+        requires { place < 8 }
+        ensures { result ≡ hot_at self.now place }
+    {
+        self.places[place]
     }
 }

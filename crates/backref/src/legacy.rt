@@ -4,7 +4,7 @@ ghost use Rattle.std.specs.Prelude.{true, ◌≡◌, ◌^◌, ◌<◌, ◌≤◌
 ghost use Rattle.sheet.specs.Sheet.{usable};
 ghost use Rattle.backref.specs.Legacy.{numbered_as, unless_zero, index_of, word_bits, unpacked, ring_after};
 
-use crate::hot_ring::add;
+use crate::hot_ring::HotRing;
 use address_index::resolve::AddressIndex;
 use alloc::resolve::Place;
 use sheet::numbers::{lo_space, map_space, page_size_bits, six_x, space_tag_size, word_bytes};
@@ -163,11 +163,11 @@ impl<'a> LegacyReader<'a> {
     }
 
     // The same; what it stands for enters the ring.
-    pub fn legacy_backref(self, hot: &mut [u64; 25], at: usize) -> Result<Backref, BackrefError>
+    pub fn legacy_backref(self, hot: &mut HotRing, at: usize) -> Result<Backref, BackrefError>
         ensures { (result ≡ backref_by self.entry at) × (hot.new ≡ ring_after hot.old result) }
     {
         let found = self.backref_at(at)?;
-        add(hot, found.target);
+        hot.add(found.target);
         Ok(found)
     }
 }

@@ -1,36 +1,42 @@
 -- A call at each way out of the code. Assumes nothing.
-use mathlib.Core.Path.{◌≡◌, refl, sym, ap, subst, ◌∙◌}
-use mathlib.Core.Bool.{Bool, true, false, ◌||◌}
-use mathlib.Core.List.{List, ◌++◌}
-use Prim.Native.Nat.{ℕ, ◌+◌, ◌-◌, ◌<◌, ◌≤◌}
-use native.Mathlib.Omega.{arith}
-use borrow.Author.Tests.{ltb-true, ltb-false}
-use borrow.Rule.Slice.PartMut.{mid_of, post_of, put_mid, mid_len, same_len_mid}
-use lib.Dec.{ltb}
-use lib.ListN.{length, get_or, take, drop, replicate, length-drop, length-replicate, get_or-replicate, get_or-append, get_or-eq_default}
-use lib.Seq.{drop_at, length-take-le}
+use Rattle.std.specs.Prelude.{◌≡◌, refl, Bool, true, false, ◌||◌, List, ℕ, ◌<◌, ◌≤◌, ltb, length, get_or, replicate, Option, Some, None, is_some, Result, Ok, Err, IfErr}
+use Rattle.std.proofs.Common.{arith, sym, ap, subst, ◌∙◌, ltb-false}
+use Rattle.std.proofs.lemmas.List.{length-replicate}
+use Rattle.std.specs.Result.{is_err}
+use Rattle.std.specs.Option.{ok_or}
 use Rattle.stream.proofs.ByteLaws.{Bytes}
-use Rattle.std.specs.Prelude.{Option, Some, None, is_some}
+use Rattle.refusals.specs.declared.refusal.Refusal.{Refusal}
+use Rattle.refusals.specs.declared.refusal.Refusal.TheVariants.{UnusableSheet, TooLong}
+use Rattle.refusals.specs.Numbers.{number_of}
 use Rattle.sheet.specs.Sheet.{usable, plain}
+use Rattle.heads.specs.declared.heads.Head.{Head}
 use Rattle.heads.specs.Heads.{Heads, Decoded}
-use Rattle.alloc.specs.Allocation.{spaces_of}
+use Rattle.alloc.specs.declared.legacy_alloc.LegacyAlloc.{LegacyAlloc}
+use Rattle.alloc.specs.Allocation.{spaces_of, zero_counters}
 use Rattle.address_index.proofs.LinkLaws.{linked_start}
+use Rattle.backref.specs.declared.hot_ring.HotRing.{HotRing}
+use Rattle.backref.specs.HotRing.{empty_ring}
 use Rattle.definition.specs.Memory.{Input, off, Table, table, Mem, Out, got, no}
 use Rattle.definition.specs.Call.{Rooms, Call, input_of, start, walk, too_long, called, graph, table_of, Answer, answer_of}
+use Rattle.laws.specs.Sound.{Proper, Sound, Counted}
+use Rattle.laws.specs.Numbered.{Numbered}
 use Rattle.laws.specs.ClosingKeeps.{start_sound, start-counted}
 use Rattle.laws.specs.Waiting.{waits_start}
-use Rattle.laws.specs.Addresses.{start_ascending}
+use Rattle.laws.specs.Addresses.{Ascending, start_ascending}
 use Rattle.assurance.specs.Quiet.{answer_quiet, table_quiet}
 use Rattle.assurance.specs.Refusals.{Known, refusal_known}
 use Rattle.assurance.proofs.Guarantee.{guaranteed}
 use Rattle.readers.specs.declared.state.State.{State}
-use Rattle.readers.specs.declared.state.Went.{Went}
-use Rattle.readers.specs.declared.state.Went.TheVariants.{On, Refused}
-use Rattle.readers.specs.Views.{Lent, input, mem, seen_went}
-use Rattle.objects.proofs.WaiterLaws.{by_case, indexed_start}
-use Rattle.walker.specs.Ready.{lent, Ready}
-use Rattle.cache_graph.specs.declared.parse.Outcome.{Outcome}
-use Rattle.cache_graph.specs.Promise.{rooms_of, answer, Reads, Assures, Started, Walked}
+use Rattle.readers.specs.declared.state.Refused.{Refused as WalkRefused}
+use Rattle.readers.specs.declared.walker.Walker.{Walker}
+use Rattle.readers.specs.Views.{Lent, input, mem}
+use Rattle.readers.specs.Lent.{input_of as input_in, lent_of}
+use Rattle.objects.proofs.WaiterLaws.{indexed_start}
+use Rattle.walker.specs.Ready.{Ready}
+use Rattle.cache_graph.specs.declared.parse.Tables.{Tables}
+use Rattle.cache_graph.specs.declared.parse.Graph.{Graph}
+use Rattle.cache_graph.specs.declared.parse.Refused.{Refused}
+use Rattle.cache_graph.specs.Promise.{rooms_of, rooms_in, answer, refused_answer, graph_of, Reads, Assures, Cleared, Started, Ended, Walked}
 use Rattle.cache_graph.specs.SecondCall.{accepted_graph}
 
 -- ---- the start
@@ -38,76 +44,63 @@ use Rattle.cache_graph.specs.SecondCall.{accepted_graph}
 abbrev pub first : State
 first = record { at = 0; objects = 0; slots = 0; values = 0; addresses = 0; pending = 0; waiting = 0; skip = 0; alignment = 0 }
 
--- the heads of the index of legacy addresses, which begins at `size`, are zero
-abbrev HeadsZero : ℕ → List ℕ → Type 0
-HeadsZero size sc = (s : ℕ) → s < 256 → get_or (drop size sc) s 0 ≡ 0
+module _ {c : Call} {h : List Head} {t : Tables} (s : Started c h t) where
+  abbrev begun : HotRing → LegacyAlloc → Lent
+  begun hot a =
+      record { objects = t.objects.now; slots = t.slots.now; values = t.values.now; addresses = t.addresses.now; hot = hot; alloc = a }
 
--- so they are where scratch ends before
-pub heads_past : (size : ℕ) (sc : List ℕ) → length sc ≤ size → HeadsZero size sc
-heads_past size sc h s b = get_or-eq_default (drop size sc) 0 (omega (arith, length-drop size sc))
+  pub started : {hot : HotRing} {a : LegacyAlloc} → hot ≡ empty_ring → a ≡ zero_counters → mem first (begun hot a) ≡ start (rooms_in t) off
+  started eh e = let z = s.cleared in rw (eh, e, ← z.objects_zero, ← z.slots_zero, ← z.values_zero, ← z.addresses_zero)
 
--- and when the part from `size` to e was cleared: it has 256 numbers at least, or all that follow
-module _ (size e : ℕ) (sc : List ℕ) (below : size ≤ e) (within : e ≤ length sc) {part : List ℕ} (z : part ≡ replicate (length (mid_of size (e - size) sc)) 0) where
-  part_length : length part ≡ e - size
-  part_length = ap (length {A = ℕ}) z ∙ length-replicate (length (mid_of size (e - size) sc)) 0 ∙ mid_len size e sc within
+  -- whatever scratch holds, it indexes no slot, and where its heads are zero no address record
+  pub started_ready : {w : Walker} → input_in w ≡ input_of c → w.heads.now ≡ h → mem first (lent_of w) ≡ start (rooms_in t) off → ((k : ℕ) → k < 256 → get_or w.index.now k 0 ≡ 0) → Ready w first
+  started_ready {w} e d m z =
+      let proper : Proper (input_in w) = subst Proper (sym e) s.proper in
+      let rooms = rooms_in t in
+      record {
+        proper = proper;
+        decoded = rw (ap (λ (x : Input). x.sheet) e, d) s.decoded;
+        sound = subst (Sound (input_in w)) (sym m) (start_sound (input_in w) rooms off);
+        counted = subst Counted (sym m) (start-counted rooms off);
+        numbered = subst Numbered (sym m) (waits_start _);
+        ascending = subst (λ (m : Mem). Ascending (input_in w) m.addresses m.alloc) (sym m) (start_ascending proper rooms off);
+        indexed = indexed_start _ _;
+        linked = linked_start _ _ z;
+      }
 
-  abbrev after : List ℕ
-  after = put_mid size (e - size) sc part
+-- ---- what the walk leaves
 
-  part_zero : (s : ℕ) → s < e - size → get_or (drop size after) s 0 ≡ 0
-  part_zero s h =
-      rw (drop_at (take size sc) (part ++ post_of size (e - size) sc) size (length-take-le size sc (omega arith)))
-      (get_or-append part (post_of size (e - size) sc) 0 s (omega (arith, part_length))
-      ∙ ap (λ (l : List ℕ). get_or l s 0) z
-      ∙ get_or-replicate (length (mid_of size (e - size) sc)) s 0 0 (omega (arith, mid_len size e sc within)))
+pub same_input : (c : Call) {k : ℕ} → k ≡ spaces_of c.reservations → input c.sheet c.payload k c.trusted ≡ input_of c
+same_input c e = rw e
 
-  after_length : length after ≡ length sc
-  after_length = same_len_mid size (e - size) sc part (part_length ∙ sym (mid_len size e sc within))
+-- the walk's input and its start are the call's
+module _ (c : Call) (rooms : Rooms) {x : Input} {m : Mem} (ex : x ≡ input_of c) (em : m ≡ start rooms off) where
+  same_walk : {o : Out (Unit {0})} → o ≡ walk x m → walk (input_of c) (start rooms off) ≡ o
+  same_walk e = sym (e ∙ ap (λ (x : Input). walk x m) ex ∙ ap (walk (input_of c)) em)
 
-  pub heads_cleared : (e < size + 256 → e ≡ length sc) → HeadsZero size after
-  heads_cleared g s b =
-      by_case _ (ltb s (e - size)) (λ t. part_zero s (ltb-true s (e - size) t))
-      (λ f. let q = ltb-false s (e - size) f in
-      let w = g (omega arith) in
-      get_or-eq_default (drop size after) 0 (omega (arith, length-drop size after, after_length)))
+  pub walk_refused : (r : WalkRefused) (l : Lent) → no (number_of r.refusal) r.place (mem r.state l) ≡ walk x m → (m : Mem) × (walk (input_of c) (start rooms off) ≡ no (number_of r.refusal) r.place m)
+  walk_refused r l e = (mem r.state l, same_walk e)
 
-module _ (x : Input) (h ot st vt dt : List ℕ) (s : Started x h ot st vt dt) where
-  abbrev begins : Mem
-  begins = mem first (lent ot st vt dt (replicate 25 0) (replicate 256 0) (replicate 256 0))
+  pub walk_ended : (s : State) (l : Lent) → got tt (mem s l) ≡ walk x m → {ot st vt dt : List ℕ} → ot ≡ l.objects → st ≡ l.slots → vt ≡ l.values → dt ≡ l.addresses → Ended (walk (input_of c) (start rooms off)) (graph_of s) ot st vt dt
+  walk_ended s l e h i j k =
+      record { held = mem s l; ended = same_walk e; graph_is = refl; objects_are = h; slots_are = i; values_are = j; addresses_are = k }
 
-  pub started : begins ≡ start (rooms_of ot st vt dt) off
-  started = rw (← s.objects_zero, ← s.slots_zero, ← s.values_zero, ← s.addresses_zero)
+-- ---- tables that are cleared
 
-  -- whatever else scratch holds, it indexes no slot and no address record
-  pub started_ready : (sc : List ℕ) → HeadsZero (length x.payload) sc → Ready x h begins sc
-  started_ready sc z =
-      let rooms = rooms_of ot st vt dt in
-      subst (λ (m : Mem). Ready x h m sc) (sym started)
-      (record {
-        proper = s.proper;
-        decoded = s.decoded;
-        sound = start_sound x rooms off;
-        counted = start-counted rooms off;
-        numbered = waits_start _;
-        ascending = start_ascending s.proper rooms off;
-        index = record { pending = indexed_start _ (take (length x.payload) sc); linked = linked_start _ (drop (length x.payload) sc) z };
-      })
+-- they are as long as before
+module _ {rooms : Rooms} {ot st vt dt : List ℕ} (z : Cleared rooms ot st vt dt) where
+  cleared_rooms : rooms_of ot st vt dt ≡ rooms
+  cleared_rooms = rw (z.objects_zero, z.slots_zero, z.values_zero, z.addresses_zero, length-replicate {A = ℕ} rooms.objects 0, length-replicate {A = ℕ} rooms.slots 0, length-replicate {A = ℕ} rooms.values 0, length-replicate {A = ℕ} rooms.addresses 0)
 
--- ---- the walk's answer
+  pub cleared_own : Cleared (rooms_of ot st vt dt) ot st vt dt
+  cleared_own = subst (λ (r : Rooms). Cleared r ot st vt dt) (sym cleared_rooms) z
 
-pub refused-answer : (l : Lent) {w : Went} {n q : ℕ} {t : State} {a : Outcome} → w ≡ Refused n q t → answer a ≡ record { number = n; objects = 0; slots = 0; values = 0; addresses = 0; end = 0; place = q } → answer a ≡ answer_of (seen_went w l)
-refused-answer l e h = rw e h
-
-pub on_answer : (l : Lent) {w : Went} {t : State} → w ≡ On t → {a : Answer} → a ≡ record { number = 0; objects = t.objects; slots = t.slots; values = t.values; addresses = t.addresses; end = t.at; place = 0 } → a ≡ answer_of (seen_went w l)
-on_answer l e h = rw e h
-
-walked_by : (w : Went) (l : Lent) (a : Outcome) → answer a ≡ answer_of (seen_went w l) → Walked (seen_went w l) a l.objects l.slots l.values l.addresses
-walked_by (On t) l a h = record { outcome = h; objects_are = refl; slots_are = refl; values_are = refl; addresses_are = refl }
-walked_by (Refused n q t) l a h = record { outcome = h; objects_are = tt; slots_are = tt; values_are = tt; addresses_are = tt }
-
-pub walked : (x : Input) (w : Went) (l : Lent) (a : Outcome) {m m₀ : Mem} → m ≡ m₀ → seen_went w l ≡ walk x m → answer a ≡ answer_of (seen_went w l) → Walked (walk x m₀) a l.objects l.slots l.values l.addresses
-walked x w l a s e h =
-    subst (λ (o : Out (Unit {0})). Walked o a l.objects l.slots l.values l.addresses) (e ∙ ap (walk x) s) (walked_by w l a h)
+-- and so they are when they are cleared again
+pub cleared_again : {rooms : Rooms} {ot st vt dt : List ℕ} → Cleared rooms ot st vt dt
+    → (ot' st' vt' dt' : List ℕ) → length ot' ≡ length ot → length st' ≡ length st → length vt' ≡ length vt → length dt' ≡ length dt
+    → {ot'' st'' vt'' dt'' : List ℕ} → Cleared (rooms_of ot' st' vt' dt') ot'' st'' vt'' dt'' → Cleared rooms ot'' st'' vt'' dt''
+cleared_again z ot' st' vt' dt' p q r s {ot''} {st''} {vt''} {dt''} y =
+    subst (λ (rooms : Rooms). Cleared rooms ot'' st'' vt'' dt'') ((λ i. record { objects = p i; slots = q i; values = r i; addresses = s i }) ∙ cleared_rooms z) y
 
 -- ---- the call
 
@@ -120,13 +113,13 @@ module _ (c : Call) (rooms : Rooms) where
   unfolding called
   called_long e f = rw (e, f)
 
-  called_walks : usable c.sheet ≡ true → too_long c ≡ false → called c (start rooms off) ≡ walk (input_of c) (start rooms off)
+  pub called_walks : usable c.sheet ≡ true → too_long c ≡ false → {ot st vt dt : List ℕ} → Cleared rooms ot st vt dt → called c (start rooms off) ≡ walk (input_of c) (start (rooms_of ot st vt dt) off)
   unfolding called
-  called_walks e f = rw (e, f)
+  called_walks e f z = rw (e, f) (ap (λ (r : Rooms). walk (input_of c) (start r off)) (sym (cleared_rooms z)))
 
   -- what the definition gives, without its events, is promised
-  module _ (o : Out (Unit {0})) (e : called c (start rooms off) ≡ o) {r : Outcome} {ot st vt dt : List ℕ} where
-    reads : answer r ≡ answer_of o → ot ≡ table_of (λ m. m.objects) rooms.objects o → st ≡ table_of (λ m. m.slots) rooms.slots o → vt ≡ table_of (λ m. m.values) rooms.values o → dt ≡ table_of (λ m. m.addresses) rooms.addresses o → Reads c rooms r ot st vt dt
+  module _ (o : Out (Unit {0})) (e : called c (start rooms off) ≡ o) {r : Answer} {ot st vt dt : List ℕ} where
+    reads : r ≡ answer_of o → ot ≡ table_of (λ m. m.objects) rooms.objects o → st ≡ table_of (λ m. m.slots) rooms.slots o → vt ≡ table_of (λ m. m.values) rooms.values o → dt ≡ table_of (λ m. m.addresses) rooms.addresses o → Reads c rooms r ot st vt dt
     reads a h i j k =
         let b = sym e in
         record {
@@ -137,41 +130,50 @@ module _ (c : Call) (rooms : Rooms) where
           addresses_are = k ∙ ap (table_of (λ m. m.addresses) rooms.addresses) b ∙ table_quiet c rooms (λ m. m.addresses) rooms.addresses (λ m. refl);
         }
 
-  abbrev pub Zero : List ℕ → List ℕ → List ℕ → List ℕ → Type 0
-  Zero ot st vt dt = (ot ≡ replicate rooms.objects 0) × (st ≡ replicate rooms.slots 0) × (vt ≡ replicate rooms.values 0) × (dt ≡ replicate rooms.addresses 0)
+  -- a refusal at 0, before the walk
+  abbrev early : Refusal → Answer
+  early r = refused_answer (record { refusal = r; place = 0 })
 
-  abbrev pub refusal : ℕ → ℕ → Answer
-  refusal n q = record { number = n; objects = 0; slots = 0; values = 0; addresses = 0; end = 0; place = q }
+  module _ {ot st vt dt : List ℕ} (z : Cleared rooms ot st vt dt) where
+    reads_none : {n q : ℕ} {m : Mem} → called c (start rooms off) ≡ no n q m → Reads c rooms (answer_of (no n q m)) ot st vt dt
+    reads_none e = reads (no _ _ _) e refl z.objects_zero z.slots_zero z.values_zero z.addresses_zero
 
-  module _ {r : Outcome} {ot st vt dt : List ℕ} where
-    pub reads_unusable : usable c.sheet ≡ false → answer r ≡ refusal 1 0 → Zero ot st vt dt → Reads c rooms r ot st vt dt
-    reads_unusable u a z = reads (no 1 0 (start rooms off)) (called_unusable u) a z.0 z.1 z.2 z.3
+    pub reads_unusable : usable c.sheet ≡ false → Reads c rooms (early UnusableSheet) ot st vt dt
+    reads_unusable u = reads_none (called_unusable u)
 
-    pub reads_long : usable c.sheet ≡ true → too_long c ≡ true → answer r ≡ refusal 2 0 → Zero ot st vt dt → Reads c rooms r ot st vt dt
-    reads_long u l a z = reads (no 2 0 (start rooms off)) (called_long u l) a z.0 z.1 z.2 z.3
+    pub reads_long : usable c.sheet ≡ true → too_long c ≡ true → Reads c rooms (early TooLong) ot st vt dt
+    reads_long u l = reads_none (called_long u l)
 
   -- after the walk
-  module _ (u : usable c.sheet ≡ true) (l : too_long c ≡ false) {r : Outcome} {ot st vt dt : List ℕ} (w : Walked (walk (input_of c) (start rooms off)) r ot st vt dt) where
-    pub reads_accepted : r.number ≡ 0 → Reads c rooms r ot st vt dt
-    reads_accepted z = go (walk (input_of c) (start rooms off)) (called_walks u l) (subst Known (called_walks u l) (refusal_known c (start rooms off))) w
+  module _ {o : Out (Unit {0})} (e : called c (start rooms off) ≡ o) (r : Result Graph Refused) (ot st vt dt : List ℕ) where
+    pub reads_accepted : is_err r ≡ false → Walked o r ot st vt dt → Reads c rooms (answer r) ot st vt dt
+    reads_accepted z w = go r z w
       where
-        go : (o : Out (Unit {0})) → called c (start rooms off) ≡ o → Known o → Walked o r ot st vt dt → Reads c rooms r ot st vt dt
-        go (got v m) e k w = reads (got v m) e w.outcome w.objects_are w.slots_are w.values_are w.addresses_are
-        go (no n q m) e k w = absurd (let y : r.number ≡ n = ap (λ (a : Answer). a.number) w.outcome in omega (arith, k.0))
+        go : (r : Result Graph Refused) → is_err r ≡ false → Walked o r ot st vt dt → Reads c rooms (answer r) ot st vt dt
+        go (Ok g) z w = reads (got tt w.held) (e ∙ w.ended) w.graph_is w.objects_are w.slots_are w.values_are w.addresses_are
+        go (Err f) z w = absurd (let y : ◌≡◌ {A = ℕ} 0 1 = cc in omega arith)
 
-    pub reads_refused : {ot' st' vt' dt' : List ℕ} → (r.number ≡ 0 → ⊥) → Zero ot' st' vt' dt' → Reads c rooms r ot' st' vt' dt'
-    reads_refused {ot'} {st'} {vt'} {dt'} z q = go (walk (input_of c) (start rooms off)) (called_walks u l) w
+    pub reads_refused : is_err r ≡ true → Walked o r ot st vt dt → {ot' st' vt' dt' : List ℕ} → Cleared rooms ot' st' vt' dt' → Reads c rooms (answer r) ot' st' vt' dt'
+    reads_refused z w {ot'} {st'} {vt'} {dt'} q = go r z w
       where
-        go : (o : Out (Unit {0})) → called c (start rooms off) ≡ o → Walked o r ot st vt dt → Reads c rooms r ot' st' vt' dt'
-        go (got v m) e w = absurd (z (ap (λ (a : Answer). a.number) w.outcome))
-        go (no n p m) e w = reads (no n p m) e w.outcome q.0 q.1 q.2 q.3
+        go : (r : Result Graph Refused) → is_err r ≡ true → Walked o r ot st vt dt → Reads c rooms (answer r) ot' st' vt' dt'
+        go (Ok g) z w = absurd (let y : ◌≡◌ {A = ℕ} 0 1 = cc in omega arith)
+        go (Err f) z w = reads_none q (e ∙ w.1)
+
+    -- a refusal has a number
+    pub numbered : Walked o r ot st vt dt → IfErr r (λ e. 0 < number_of e.refusal)
+    numbered w = go r w
+      where
+        go : (r : Result Graph Refused) → Walked o r ot st vt dt → IfErr r (λ e. 0 < number_of e.refusal)
+        go (Ok g) w = tt
+        go (Err f) w = (subst Known (e ∙ w.1) (refusal_known c (start rooms off))).0
 
   -- demand 3
-  pub assures : {r : Outcome} {ot st vt dt : List ℕ} → Reads c rooms r ot st vt dt → Bytes c.payload → plain c.sheet ≡ true → r.number ≡ 0 → Assures c rooms r ot st vt dt
+  pub assures : {r : Answer} {ot st vt dt : List ℕ} → Reads c rooms r ot st vt dt → Bytes c.payload → plain c.sheet ≡ true → r.number ≡ 0 → Assures c rooms r ot st vt dt
   assures {r} w b p z =
       let g = accepted_graph c rooms r w.outcome z in
       let e : graph c rooms ≡ got tt g.0 = g.1 in
-      let a : answer r ≡ answer_of (got tt g.0) = w.outcome ∙ ap answer_of e in
+      let a : r ≡ answer_of (got tt g.0) = w.outcome ∙ ap answer_of e in
       record {
         held = g.0;
         accepted = e;
@@ -188,23 +190,24 @@ module _ (c : Call) (rooms : Rooms) where
 
 -- ---- what the code's steps give
 
-none_there : (r : Option (List ℕ)) → ((h : List ℕ) → r ≡ Some h → ⊥) → is_some r ≡ false
-none_there (Some h) f = absurd (f h refl)
-none_there None f = refl
+module _ {v : List ℕ} {r : Option (List Head)} (d : Decoded v r) where
+  pub decoded_none : r ≡ None → usable v ≡ false
+  decoded_none e = sym d.usable ∙ ap is_some e
 
-module _ {v : List ℕ} {r : Option (List ℕ)} (d : Decoded v r) where
-  pub decoded_none : ((h : List ℕ) → r ≡ Some h → ⊥) → usable v ≡ false
-  decoded_none f = sym d.usable ∙ none_there r f
-
-  module _ {h : List ℕ} (e : r ≡ Some h) where
+  module _ {h : List Head} (e : r ≡ Some h) where
     pub decoded_usable : usable v ≡ true
-    decoded_usable = sym d.usable ∙ rw e
+    decoded_usable = sym d.usable ∙ ap is_some e
 
     pub decoded_heads : Heads v h
     decoded_heads = rw e at d.heads
 
-pub zeros : (n : ℕ) (t : List ℕ) → t ≡ replicate n 0 → t ≡ replicate (length t) 0
-zeros n t e = let l : length t ≡ n = ap (length {A = ℕ}) e ∙ length-replicate n 0 in rw l e
+-- the refusal of a sheet that is not usable
+pub not_some : {r : Option (List Head)} {e u : Refused} → Err e ≡ ok_or r u → r ≡ None → e ≡ u
+not_some {r} {e} {u} h n = ap (λ (r : Result (List Head) Refused). of r) (h ∙ ap (λ (r : Option (List Head)). ok_or r u) n)
+  where
+    of : Result (List Head) Refused → Refused
+    of (Ok h) = u
+    of (Err e) = e
 
 pub not_long : (c : Call) → too_long c ≡ false → length c.payload ≤ 16777216
 not_long c e = go (ltb 16777216 (length c.payload)) refl e
@@ -212,15 +215,3 @@ not_long c e = go (ltb 16777216 (length c.payload)) refl e
     go : (t : Bool) → ltb 16777216 (length c.payload) ≡ t → t || ltb 65536 (length c.reservations) ≡ false → length c.payload ≤ 16777216
     go true p e = absurd (let z : ◌≡◌ {A = ℕ} 0 1 = cc in omega arith)
     go false p e = ltb-false 16777216 (length c.payload) p
-
--- the walk's input and rooms are the call's
-module _ (c : Call) {r : Outcome} {ot st vt dt : List ℕ} where
-  pub walked_call : {k : ℕ} {rooms' rooms : Rooms} → k ≡ spaces_of c.reservations → rooms' ≡ rooms → Walked (walk (input c.sheet c.payload k c.trusted) (start rooms' off)) r ot st vt dt → Walked (walk (input_of c) (start rooms off)) r ot st vt dt
-  walked_call e f w = rw (← e, ← f) w
-
-pub same_rooms : {a b d e a' b' d' e' : ℕ} → a' ≡ a → b' ≡ b → d' ≡ d → e' ≡ e → ◌≡◌ {A = Rooms} (record { objects = a'; slots = b'; values = d'; addresses = e' }) (record { objects = a; slots = b; values = d; addresses = e })
-same_rooms p q r s = λ i. record { objects = p i; slots = q i; values = r i; addresses = s i }
-
--- a table that is zero again
-pub again : {n m : ℕ} {t : List ℕ} → n ≡ m → t ≡ replicate n 0 → t ≡ replicate m 0
-again e h = rw (← e) h

@@ -1,11 +1,19 @@
 -- What the entry point promises. Assumes nothing: these are definitions.
-use Rattle.std.specs.Prelude.{◌≡◌, List, ℕ, length, replicate}
+use Rattle.std.specs.Prelude.{◌≡◌, List, ℕ, length, replicate, Result, Ok, Err}
+use Rattle.refusals.specs.Numbers.{number_of}
+use Rattle.heads.specs.declared.heads.Head.{Head}
 use Rattle.heads.specs.Heads.{Heads}
-use Rattle.definition.specs.Memory.{Input, Table, table, Mem, Out, got, no}
-use Rattle.definition.specs.Call.{Rooms, Call, graph, table_of, Answer, answer_of}
+use Rattle.definition.specs.Memory.{table, Mem, Out, got, no}
+use Rattle.definition.specs.Call.{Rooms, Call, input_of, graph, table_of, answer_of}
+pub use Rattle.definition.specs.Call.{Answer}
 use Rattle.laws.specs.Sound.{Proper}
 use Rattle.assurance.specs.Guarantee.{Guaranteed}
-use Rattle.cache_graph.specs.declared.parse.Outcome.{Outcome}
+use Rattle.readers.specs.declared.state.State.{State}
+use Rattle.readers.specs.declared.state.Refused.{Refused as WalkRefused}
+use Rattle.cache_graph.specs.declared.parse.Call.{Call as CodeCall}
+use Rattle.cache_graph.specs.declared.parse.Tables.{Tables}
+use Rattle.cache_graph.specs.declared.parse.Graph.{Graph}
+use Rattle.cache_graph.specs.declared.parse.Refused.{Refused}
 
 -- what is entered, and the lengths of the four tables lent
 abbrev pub call_of : List ℕ → List ℕ → List ℕ → List ℕ → Call
@@ -16,22 +24,36 @@ abbrev pub rooms_of : List ℕ → List ℕ → List ℕ → List ℕ → Rooms
 rooms_of objects slots values addresses =
     record { objects = length objects; slots = length slots; values = length values; addresses = length addresses }
 
--- the outcome as the definition's numbers
-abbrev pub answer : Outcome → Answer
-answer r =
-    record
-    { number = r.number; objects = r.objects; slots = r.slots; values = r.values; addresses = r.addresses; end = r.end; place = r.place }
+-- the same of the code's structs
+abbrev pub entered : CodeCall → Call
+entered c = call_of c.sheet.now c.payload.now c.reservations.now c.trusted.now
 
--- demand 2: the outcome, and every number of every table, after a refusal too, are what the definition gives
-pub record Reads (c : Call) (rooms : Rooms) (r : Outcome) (objects slots values addresses : List ℕ) : Type 0 where
-  pub outcome : answer r ≡ answer_of (graph c rooms)
+abbrev pub rooms_in : Tables → Rooms
+rooms_in t = rooms_of t.objects.now t.slots.now t.values.now t.addresses.now
+
+-- the answer as the definition's numbers
+abbrev pub graph_answer : Graph → Answer
+graph_answer g =
+    record { number = 0; objects = g.objects; slots = g.slots; values = g.values; addresses = g.addresses; end = g.end; place = 0 }
+
+abbrev pub refused_answer : Refused → Answer
+refused_answer e =
+    record { number = number_of e.refusal; objects = 0; slots = 0; values = 0; addresses = 0; end = 0; place = e.place }
+
+abbrev pub answer : Result Graph Refused → Answer
+answer (Ok g) = graph_answer g
+answer (Err e) = refused_answer e
+
+-- demand 2: the answer, and every number of every table, after a refusal too, are what the definition gives
+pub record Reads (c : Call) (rooms : Rooms) (r : Answer) (objects slots values addresses : List ℕ) : Type 0 where
+  pub outcome : r ≡ answer_of (graph c rooms)
   pub objects_are : objects ≡ table_of (λ m. m.objects) rooms.objects (graph c rooms)
   pub slots_are : slots ≡ table_of (λ m. m.slots) rooms.slots (graph c rooms)
   pub values_are : values ≡ table_of (λ m. m.values) rooms.values (graph c rooms)
   pub addresses_are : addresses ≡ table_of (λ m. m.addresses) rooms.addresses (graph c rooms)
 
 -- demand 3: what is guaranteed of an accepted payload under a plain sheet, of the tables as the call leaves them
-pub record Assures (c : Call) (rooms : Rooms) (r : Outcome) (objects slots values addresses : List ℕ) : Type 0 where
+pub record Assures (c : Call) (rooms : Rooms) (r : Answer) (objects slots values addresses : List ℕ) : Type 0 where
   pub held : Mem
   pub accepted : graph c rooms ≡ got tt held
   pub guaranteed : Guaranteed c rooms held
@@ -41,25 +63,46 @@ pub record Assures (c : Call) (rooms : Rooms) (r : Outcome) (objects slots value
   pub addresses_held : held.addresses ≡ table addresses r.addresses
   pub end_held : held.at ≡ r.end
 
+-- the call writes what was lent, and lends nothing else in its place
+pub record SameTables (t t' : Tables) : Type 0 where
+  pub objects : t'.objects.ghost_name ≡ t.objects.ghost_name
+  pub slots : t'.slots.ghost_name ≡ t.slots.ghost_name
+  pub values : t'.values.ghost_name ≡ t.values.ghost_name
+  pub addresses : t'.addresses.ghost_name ≡ t.addresses.ghost_name
+  pub scratch : t'.scratch.ghost_name ≡ t.scratch.ghost_name
+
 -- ---- the walk inside the call
 
+-- what it answers, as the call does
+abbrev pub graph_of : State → Graph
+graph_of s = record { objects = s.objects; slots = s.slots; values = s.values; addresses = s.addresses; end = s.at }
+
+abbrev pub refused_of : WalkRefused → Refused
+refused_of e = record { refusal = e.refusal; place = e.place }
+
+-- every number of four tables is zero
+pub record Cleared (rooms : Rooms) (objects slots values addresses : List ℕ) : Type 0 where
+  pub objects_zero : objects ≡ replicate rooms.objects 0
+  pub slots_zero : slots ≡ replicate rooms.slots 0
+  pub values_zero : values ≡ replicate rooms.values 0
+  pub addresses_zero : addresses ≡ replicate rooms.addresses 0
+
 -- it starts with a payload that it takes, the sheet's heads, and tables that are zero
-pub record Started (x : Input) (heads objects slots values addresses : List ℕ) : Type 0 where
-  pub proper : Proper x
-  pub decoded : Heads x.sheet heads
-  pub objects_zero : objects ≡ replicate (length objects) 0
-  pub slots_zero : slots ≡ replicate (length slots) 0
-  pub values_zero : values ≡ replicate (length values) 0
-  pub addresses_zero : addresses ≡ replicate (length addresses) 0
+pub record Started (c : Call) (heads : List Head) (t : Tables) : Type 0 where
+  pub proper : Proper (input_of c)
+  pub decoded : Heads c.sheet heads
+  pub cleared : Cleared (rooms_in t) t.objects.now t.slots.now t.values.now t.addresses.now
 
--- the numbers of a table where the payload is accepted
-abbrev pub Rows : (Mem → Table) → Out (Unit {0}) → List ℕ → Type 0
-Rows t (got v m) rows = rows ≡ (t m).rows
-Rows t (no n q m) rows = Unit {0}
+-- where it accepts: what the definition holds then is the graph and the tables
+pub record Ended (o : Out (Unit {0})) (g : Graph) (objects slots values addresses : List ℕ) : Type 0 where
+  pub held : Mem
+  pub ended : o ≡ got tt held
+  pub graph_is : graph_answer g ≡ answer_of (got tt held)
+  pub objects_are : objects ≡ held.objects.rows
+  pub slots_are : slots ≡ held.slots.rows
+  pub values_are : values ≡ held.values.rows
+  pub addresses_are : addresses ≡ held.addresses.rows
 
-pub record Walked (o : Out (Unit {0})) (r : Outcome) (objects slots values addresses : List ℕ) : Type 0 where
-  pub outcome : answer r ≡ answer_of o
-  pub objects_are : Rows (λ m. m.objects) o objects
-  pub slots_are : Rows (λ m. m.slots) o slots
-  pub values_are : Rows (λ m. m.values) o values
-  pub addresses_are : Rows (λ m. m.addresses) o addresses
+abbrev pub Walked : Out (Unit {0}) → Result Graph Refused → List ℕ → List ℕ → List ℕ → List ℕ → Type 0
+Walked o (Ok g) objects slots values addresses = Ended o g objects slots values addresses
+Walked o (Err e) objects slots values addresses = (m : Mem) × (o ≡ no (number_of e.refusal) e.place m)

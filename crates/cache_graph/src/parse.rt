@@ -1,110 +1,152 @@
-// The entry point: a call from its checks to its outcome.
-ghost use Rattle.std.specs.Prelude.{true, ◌≡◌, List, ℕ, ◌<◌, length, get_or, replicate, drop};
+// The entry point: a call from its checks to its answer.
+ghost use Rattle.std.specs.Prelude.{true, ◌≡◌, List, ℕ, ◌<◌, get_or, IfErr};
+ghost use Rattle.refusals.specs.Numbers.{number_of};
 ghost use Rattle.sheet.specs.Sheet as Sheet;
 ghost use Rattle.definition.specs.Memory.{off};
-ghost use Rattle.definition.specs.Call as Call;
-ghost use Rattle.readers.specs.Views.{Lent, input, seen_went};
-ghost use Rattle.cache_graph.specs.Promise.{call_of, rooms_of, answer, Reads, Assures, Started, Walked};
+ghost use Rattle.definition.specs.Call as Definition;
+ghost use Rattle.cache_graph.specs.Promise.{call_of, entered, rooms_in, answer, graph_of, refused_of, Reads, Assures, SameTables, Cleared, Started, Walked};
 
-use alloc::legacy_alloc::spaces;
+use alloc::legacy_alloc::{LegacyAlloc, spaces};
+use backref::hot_ring::HotRing;
 use graph::walk::walk;
-use heads::heads::decode;
-use readers::state::{State, Went};
+use heads::heads::{Head, decode};
+use readers::state::{self, State};
+use readers::walker::Walker;
+use refusals::refusal::Refusal;
 use tables::records::clear;
 
-// The refusal's number or 0; then the four record counts and the cursor at the finish, or the refusal's place.
+// What is entered: the version sheet, the payload, its reservations, and the trusted list.
 #[derive(Clone, Copy)]
-pub struct Outcome {
-    pub number: u64,
+pub struct Call<'a> {
+    pub sheet: &'a [u16],
+    pub payload: &'a [u8],
+    pub reservations: &'a [u32],
+    pub trusted: &'a [u8],
+}
+
+// What is lent to be written: the four tables, and working memory.
+#[derive(Drop)]
+pub struct Tables<'a> {
+    pub objects: &'a mut [u64],
+    pub slots: &'a mut [u64],
+    pub values: &'a mut [u64],
+    pub addresses: &'a mut [u64],
+    pub scratch: &'a mut [u64],
+}
+
+// An accepted payload: the four record counts, and the cursor at the finish.
+#[derive(Clone, Copy, Debug, PartialEq, Eq)]
+pub struct Graph {
     pub objects: u64,
     pub slots: u64,
     pub values: u64,
     pub addresses: u64,
     pub end: u64,
+}
+
+// Why a payload is refused, and where.
+#[derive(Clone, Copy, Debug, PartialEq, Eq)]
+pub struct Refused {
+    pub refusal: Refusal,
     pub place: u64,
 }
 
-fn refused(number: u64, place: u64) -> Outcome
-    ensures { answer result ≡ record { number = number; objects = 0; slots = 0; values = 0; addresses = 0; end = 0; place = place } }
-{
-    Outcome {
-        number,
-        objects: 0,
-        slots: 0,
-        values: 0,
-        addresses: 0,
-        end: 0,
-        place,
-    }
-}
+impl From<State> for Graph {
+    ghost from_gives = { λ s g. g ≡ graph_of s };
 
-fn outcome_of(went: Went) -> Outcome
-    ensures { (l : Lent) → answer result ≡ Call.answer_of (seen_went went l) }
-{
-    match went {
-        Went::Refused(n, q, _) => refused(n, q as u64),
-        Went::On(t) => Outcome {
-            number: 0,
-            objects: t.objects as u64,
-            slots: t.slots as u64,
-            values: t.values as u64,
-            addresses: t.addresses as u64,
-            end: t.at as u64,
-            place: 0,
-        },
-    }
-}
-
-fn clear_tables(objects: &mut [u64], slots: &mut [u64], values: &mut [u64], addresses: &mut [u64])
-    ensures { (objects.new ≡ replicate (length objects.old) 0) × (slots.new ≡ replicate (length slots.old) 0) × (values.new ≡ replicate (length values.old) 0) × (addresses.new ≡ replicate (length addresses.old) 0) }
-{
-    clear(objects);
-    clear(slots);
-    clear(values);
-    clear(addresses);
-}
-
-// The payload or the reservation list is over its limit.
-fn too_long(payload: &[u8], reservations: &[u32]) -> bool
-    ensures { (sheet trusted : List ℕ) → result ≡ Call.too_long (call_of sheet payload.now reservations.now trusted) }
-{
-    (16777216 < payload.len()) | (65536 < reservations.len())
-}
-
-// Clears the heads of the index of legacy addresses, the 256 numbers from place `size` on, as far as scratch has them: no record is entered yet.
-fn clear_heads(scratch: &mut [u64], size: usize)
-    ensures { (s : ℕ) → s < 256 → get_or (drop size scratch.new) s 0 ≡ 0 }
-{
-    if size < scratch.len() {
-        if scratch.len() - size < 256 {
-            clear(&mut scratch[size..]);
-        } else {
-            let end = size + 256;
-            clear(&mut scratch[size..end]);
+    fn from(s: State) -> Graph {
+        Graph {
+            objects: s.objects as u64,
+            slots: s.slots as u64,
+            values: s.values as u64,
+            addresses: s.addresses as u64,
+            end: s.at as u64,
         }
     }
 }
 
-// The walk of a payload over tables that are zero. Scratch may hold anything.
-fn walk_payload(
-    sheet: &[u16],
-    heads: &[u16; 512],
-    trusted: &[u8],
-    payload: &[u8],
-    objects: &mut [u64],
-    slots: &mut [u64],
-    values: &mut [u64],
-    addresses: &mut [u64],
-    scratch: &mut [u64],
-    k: u64,
-) -> Outcome
-    requires { Started (input sheet.now payload.now k trusted.now) heads.now objects.old slots.old values.old addresses.old }
-    ensures { Walked (Call.walk (input sheet.now payload.now k trusted.now) (Call.start (rooms_of objects.old slots.old values.old addresses.old) off)) result objects.new slots.new values.new addresses.new }
+impl From<state::Refused> for Refused {
+    ghost from_gives = { λ e r. r ≡ refused_of e };
+
+    fn from(e: state::Refused) -> Refused {
+        Refused {
+            refusal: e.refusal,
+            place: e.place as u64,
+        }
+    }
+}
+
+// A refusal before the walk.
+fn at_start(refusal: Refusal) -> Refused
+    ensures { result ≡ record { refusal = refusal; place = 0 } }
 {
-    clear_heads(scratch, payload.len());
-    let mut hot = [0u64; 25];
-    let mut cur = [0u32; 256];
-    let mut used = [0u32; 256];
+    Refused { refusal, place: 0 }
+}
+
+// The payload or the reservation list is over its limit. That a payload has bytes is known here, by its type.
+fn too_long(payload: &[u8], reservations: &[u32]) -> bool
+    ensures is { (sheet trusted : List ℕ) → result ≡ Definition.too_long (call_of sheet payload.now reservations.now trusted) }
+    ensures bytes { (i : ℕ) → get_or payload.now i 0 < 256 }
+{
+    16777216 < payload.len() || 65536 < reservations.len()
+}
+
+impl Tables<'_> {
+    // Every number of the four tables is 0.
+    fn clear(&mut self)
+        ensures zero { Cleared (rooms_in self.old) self.new.objects.now self.new.slots.now self.new.values.now self.new.addresses.now }
+        ensures same { SameTables self.old self.new }
+    {
+        clear(self.objects);
+        clear(self.slots);
+        clear(self.values);
+        clear(self.addresses);
+    }
+}
+
+// Clears the heads of the index of legacy addresses, its first 256 numbers, as far as it has them: no record is entered yet.
+fn clear_heads(index: &mut [u64])
+    ensures { (s : ℕ) → s < 256 → get_or index.new s 0 ≡ 0 }
+{
+    let end = index.len().min(256);
+    clear(&mut index[..end]);
+}
+
+// The walk of a payload over tables that are zero, which come by value, so that they and the parts of scratch can be lent at once. Scratch
+// may hold anything: its first part has a place for each byte of the payload, as far as it goes, and the rest is the index of legacy
+// addresses.
+fn walk_payload<'a>(
+    call: Call<'a>,
+    heads: &'a [Head; 256],
+    tables: Tables<'a>,
+) -> Result<Graph, Refused>
+    requires { Started (entered call) heads.now tables }
+    ensures { Walked (Definition.walk (Definition.input_of (entered call.entry)) (Definition.start (rooms_in tables.entry) off)) result tables.exit.0.now tables.exit.1.0.now tables.exit.1.1.0.now tables.exit.1.1.1.0.now }
+{
+    let Tables {
+        objects,
+        slots,
+        values,
+        addresses,
+        scratch,
+    } = tables;
+    let (pending, index) = scratch.split_at_mut(call.payload.len().min(scratch.len()));
+    clear_heads(index);
+    let mut w = Walker {
+        sheet: call.sheet,
+        heads,
+        trusted: call.trusted,
+        payload: call.payload,
+        spaces: spaces(call.reservations),
+        objects,
+        slots,
+        values,
+        addresses,
+        pending,
+        index,
+        hot: HotRing::new(),
+        alloc: LegacyAlloc::new(),
+    };
     let start = State {
         at: 0,
         objects: 0,
@@ -116,43 +158,34 @@ fn walk_payload(
         skip: 0,
         alignment: 0,
     };
-    let went = walk(
-        sheet, heads, trusted, payload, objects, slots, values, addresses, &mut hot, &mut cur,
-        &mut used, scratch, k, start,
-    );
-    outcome_of(went)
+    let ((), s) = walk(&mut w, start)?;
+    Ok(Graph::from(s))
 }
 
-// The object graph of a payload, in the four tables. `Reads` says what the outcome and the tables are, in refusal too; `Assures` says what is
-// guaranteed of an accepted payload under a plain sheet. Both hold for every length of scratch and whatever it holds; what it holds at the end is
-// not said.
-pub fn parse_with(
-    sheet: &[u16],
-    payload: &[u8],
-    reservations: &[u32],
-    trusted: &[u8],
-    objects: &mut [u64],
-    slots: &mut [u64],
-    values: &mut [u64],
-    addresses: &mut [u64],
-    scratch: &mut [u64],
-) -> Outcome
-    ensures reads { Reads (call_of sheet.now payload.now reservations.now trusted.now) (rooms_of objects.old slots.old values.old addresses.old) result objects.new slots.new values.new addresses.new }
-    ensures assured { Sheet.plain sheet.now ≡ true → result.number ≡ 0 → Assures (call_of sheet.now payload.now reservations.now trusted.now) (rooms_of objects.old slots.old values.old addresses.old) result objects.new slots.new values.new addresses.new }
+// The object graph of a payload, in the four tables. `Reads` says what the answer and the tables are, in refusal too; `Assures` says what
+// is guaranteed of an accepted payload under a plain sheet. Both hold for every length of scratch and whatever it holds; what it holds at
+// the end is not said. A refusal has a number above 0, and the tables that were lent are the ones that are written.
+pub fn parse_with(call: Call<'_>, tables: &mut Tables<'_>) -> Result<Graph, Refused>
+    ensures reads { Reads (entered call.entry) (rooms_in tables.old) (answer result) tables.new.objects.now tables.new.slots.now tables.new.values.now tables.new.addresses.now }
+    ensures assured { Sheet.plain call.entry.sheet.now ≡ true → (answer result).number ≡ 0 → Assures (entered call.entry) (rooms_in tables.old) (answer result) tables.new.objects.now tables.new.slots.now tables.new.values.now tables.new.addresses.now }
+    ensures refused { IfErr result (λ e. 0 < number_of e.refusal) }
+    ensures same { SameTables tables.old tables.new }
 {
-    clear_tables(objects, slots, values, addresses);
-    let Some(heads) = decode(sheet) else {
-        return refused(1, 0);
+    tables.clear();
+    let heads = decode(call.sheet).ok_or(at_start(Refusal::UnusableSheet))?;
+    if too_long(call.payload, call.reservations) {
+        return Err(at_start(Refusal::TooLong));
+    }
+    let lent = Tables {
+        objects: tables.objects,
+        slots: tables.slots,
+        values: tables.values,
+        addresses: tables.addresses,
+        scratch: tables.scratch,
     };
-    if too_long(payload, reservations) {
-        return refused(2, 0);
+    let graph = walk_payload(call, &heads, lent);
+    if graph.is_err() {
+        tables.clear();
     }
-    let k = spaces(reservations);
-    let outcome = walk_payload(
-        sheet, &heads, trusted, payload, objects, slots, values, addresses, scratch, k,
-    );
-    if outcome.number != 0 {
-        clear_tables(objects, slots, values, addresses);
-    }
-    outcome
+    graph
 }

@@ -6,7 +6,7 @@ ghost use Rattle.sheet.specs.Sheet as Sheet;
 ghost use Rattle.cache_graph.specs.Promise.{call_of, rooms_of, Reads, Assures};
 ghost use Rattle.dawichko.specs.Export.{outcome_of};
 
-use cache_graph::parse::parse_with;
+use cache_graph::parse::{Call, Tables, parse_with};
 
 // The object graph of a payload, in the four tables: 0 or the refusal's number. The outcome is the four record counts, the cursor at the
 // finish and the refusal's place.
@@ -26,17 +26,27 @@ pub extern "C" fn dawichko_graph(
     ensures reads { Reads (call_of sheet.now payload.now reservations.now trusted.now) (rooms_of objects.old slots.old values.old addresses.old) (outcome_of result outcome.new) objects.new slots.new values.new addresses.new }
     ensures assured { Sheet.plain sheet.now ≡ true → result ≡ 0 → Assures (call_of sheet.now payload.now reservations.now trusted.now) (rooms_of objects.old slots.old values.old addresses.old) (outcome_of result outcome.new) objects.new slots.new values.new addresses.new }
 {
-    let o = parse_with(
+    let call = Call {
         sheet,
         payload,
         reservations,
         trusted,
+    };
+    let mut tables = Tables {
         objects,
         slots,
         values,
         addresses,
         scratch,
-    );
-    *outcome = [o.objects, o.slots, o.values, o.addresses, o.end, o.place];
-    o.number
+    };
+    match parse_with(call, &mut tables) {
+        Ok(g) => {
+            *outcome = [g.objects, g.slots, g.values, g.addresses, g.end, 0];
+            0
+        }
+        Err(e) => {
+            *outcome = [0, 0, 0, 0, 0, e.place];
+            e.refusal.number()
+        }
+    }
 }

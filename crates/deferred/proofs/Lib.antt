@@ -1,3 +1,3 @@
-pub mod SlotsLaws
 pub mod ReadyLaws
+pub mod SlotsLaws
 pub mod EntryLaws

@@ -13,6 +13,7 @@ use Rattle.sheet.specs.Sheet.{word_bytes}
 use Rattle.tables.specs.declared.values.Fields.{Fields}
 use Rattle.tables.specs.Records.{room, written}
 use Rattle.alloc.specs.declared.legacy_alloc.LegacyAlloc.{LegacyAlloc}
+use Rattle.backref.specs.declared.hot_ring.HotRing.{HotRing}
 
 -- what a call is given and does not change: the version sheet, the payload, how many spaces have counters, and the trusted list
 pub record Input : Type 0 where
@@ -68,7 +69,7 @@ pub record Mem : Type 0 where
   pub slots : Table
   pub values : Table
   pub addresses : Table
-  pub hot : List ℕ
+  pub hot : HotRing
   pub pending : ℕ
   pub waiting : ℕ
   pub skip : ℕ
@@ -138,7 +139,7 @@ with_values t m =
     record
     { at = m.at; objects = m.objects; slots = m.slots; values = t; addresses = m.addresses; hot = m.hot; pending = m.pending; waiting = m.waiting; skip = m.skip; alignment = m.alignment; alloc = m.alloc; log = m.log }
 
-abbrev pub with_hot : List ℕ → Mem → Mem
+abbrev pub with_hot : HotRing → Mem → Mem
 with_hot h m =
     record
     { at = m.at; objects = m.objects; slots = m.slots; values = m.values; addresses = m.addresses; hot = h; pending = m.pending; waiting = m.waiting; skip = m.skip; alignment = m.alignment; alloc = m.alloc; log = m.log }

@@ -9,7 +9,7 @@ use Rattle.tables.specs.declared.values.Ref.{Ref}
 use Rattle.tables.specs.declared.values.Ref.TheVariants.{Object, Root, RoRef, Attached}
 use Rattle.tables.specs.declared.values.SlotValue.{SlotValue}
 use Rattle.tables.specs.declared.values.SlotValue.TheVariants.{Ref as IsRef, Repeat, RepeatPrev, Skip, StreamBytes, Raw as IsRaw, ClearedWeak, WeakRef, PendingRef}
-use Rattle.tables.specs.Values.{ref_fields, fields_of}
+use Rattle.tables.specs.Values.{fields_of}
 use Rattle.backref.specs.HotRing.{entered, hot_at}
 use Rattle.backref.specs.declared.legacy.BackrefError.TheVariants.{Cut, Unknown}
 use Rattle.backref.specs.Legacy.{Answer, backref_of}
@@ -28,7 +28,7 @@ refers r = give (IsRef r)
 
 -- back-references and kRootArray enter the hot ring
 abbrev pub refers_hot : Ref → Reader SlotValue
-refers_hot r m = got (IsRef r) (with_hot (entered m.hot (ref_fields r)) m)
+refers_hot r m = got (IsRef r) (with_hot (entered m.hot r) m)
 
 -- a plain index is below the object count (else refusal 8)
 unfoldable pub backref_to : ℕ → Reader SlotValue

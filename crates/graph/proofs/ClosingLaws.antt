@@ -1,58 +1,45 @@
 -- The closing section at each way out of the code. Assumes nothing.
-use mathlib.Core.Path.{◌≡◌, refl, sym, ◌∙◌}
-use mathlib.Core.Bool.{Bool, true, false, not, ◌&&◌, ◌||◌}
-use mathlib.Core.List.{List, []}
+use mathlib.Core.Path.{◌≡◌, refl, sym, subst, ◌∙◌}
+use mathlib.Core.Bool.{true, false}
+use mathlib.Core.List.{[]}
 use Prim.Native.Nat.{ℕ, suc, ◌+◌, ◌-◌, ◌<◌, ◌≤◌}
 use native.Mathlib.Omega.{arith}
 use borrow.Author.Tests.{le-leb, lt-leb, lt-ltb}
-use lib.ListN.{length}
+use lib.ListN.{length, get_or}
+use Rattle.std.specs.Prelude.{Ok}
 use Rattle.stream.specs.Bytes.{peek_at}
+use Rattle.heads.specs.Heads.{head_at}
 use Rattle.sheet.specs.Sheet.{is_legacy}
 use Rattle.sheet.specs.declared.tests.Closing.{Closing}
 use Rattle.sheet.specs.declared.tests.Closing.TheVariants.{Synchronize, Alignment, Deferred, Reference}
 use Rattle.sheet.specs.Tests.{closing_of}
 use Rattle.tables.specs.declared.values.SlotValue.{SlotValue}
 use Rattle.tables.specs.Values.{fields_of}
-use Rattle.definition.specs.Memory.{Input, dropped, value, Mem, Out, got, no, Reader, moved, aligned, tell, byte}
-use Rattle.definition.specs.Object.{peek}
+use Rattle.definition.specs.Memory.{Input, dropped, value, Mem, Out, got, no, Reader, tell, byte}
+use Rattle.definition.specs.Object.{peek, object}
 use Rattle.definition.specs.Reference.{ref_at}
-use Rattle.definition.specs.Closing.{entry, drop_reference, ends_legacy, after_entry, by_entry, entries, closing}
-use Rattle.laws.specs.Sound.{Onward, Kept}
-use Rattle.laws.specs.Steps.{Ends, onward_trans}
+use Rattle.definition.specs.Closing.{drop_reference, ends_legacy, after_entry, by_entry, entries, closing}
+use Rattle.laws.specs.Steps.{Ends}
 use Rattle.laws.specs.Keeps.{Reads}
 use Rattle.laws.specs.Leaves.{deferred_legacy}
 use Rattle.laws.specs.ClosingKeeps.{entry-ends, drop_reference_ends}
 use Rattle.laws.proofs.Fuel.{entries_fuel}
 use Rattle.readers.specs.declared.state.State.{State}
-use Rattle.readers.specs.Views.{Lent, mem}
+use Rattle.readers.specs.declared.walker.Walker.{Walker}
+use Rattle.readers.specs.Views.{Lent, mem, moved_to}
+use Rattle.readers.specs.Lent.{input_of, lent_of, Fixed}
 use Rattle.readers.proofs.ViewLaws.{then_got, then_no}
-use Rattle.walker.specs.Ready.{Index, Ready}
-use Rattle.walker.proofs.ReadyLaws.{Went, None, ready_after, moved_kept}
-use Rattle.deferred.proofs.ReadyLaws.{Law, law_went}
+use Rattle.leaves.specs.Leaf.{opens_at}
+use Rattle.levels.proofs.LevelLaws.{opens}
+use Rattle.walker.specs.Ready.{Ready, After}
+use Rattle.walker.proofs.ReadyLaws.{Went, None, moved_ready}
+use Rattle.walker.proofs.ReferenceLaws.{ref_object, space_low}
+use Rattle.objects.proofs.AnswerLaws.{fixed_on, same_input}
+use Rattle.deferred.proofs.ReadyLaws.{Law, law_went, went_ready}
 use Rattle.graph.specs.Driver.{one_entry, InLegacy}
 use Rattle.graph.proofs.PaddingLaws.{padding_from}
 
--- the code's tests of a refusal's number
-pub ends_test : (a b c : Bool) → (a && not b) && not c ≡ a && not (b || c)
-ends_test true true c = refl
-ends_test true false c = refl
-ends_test false b c = refl
-
--- the code's reading of the byte at the cursor
-pub closing_test : (v p : List ℕ) (at : ℕ) {b : ℕ} {r e : Closing} → b ≡ peek_at p at → r ≡ closing_of v b → r ≡ e → closing_of v (peek_at p at) ≡ e
-closing_test v p at eb er e = rw (← eb) (sym er ∙ e)
-
--- ---- an entry
-
-module _ (x : Input) {e : Closing} (m : Mem) where
-  pub one_deferred : {space : ℕ} {out : Out (Unit {0})} → e ≡ Deferred space → out ≡ entry x space m → out ≡ one_entry x e m
-  one_deferred g h = rw g h
-
-pub drops : (x : Input) (e : Closing) → ((space : ℕ) → e ≡ Deferred space → ⊥) → (m : Mem) → drop_reference x m ≡ one_entry x e m
-drops x Synchronize h m = refl
-drops x (Alignment a) h m = refl
-drops x (Deferred space) h m = absurd (h space refl)
-drops x Reference h m = refl
+-- ---- a reference that is dropped
 
 module _ (x : Input) (m : Mem) where
   pub drop_no : {n q : ℕ} {m1 : Mem} → no n q m1 ≡ ref_at x 65 m → no n q m1 ≡ drop_reference x m
@@ -63,7 +50,7 @@ module _ (x : Input) (m : Mem) where
 
 -- ---- the entries
 
-abbrev pub entries_left : Input → Reader (Unit {0})
+abbrev entries_left : Input → Reader (Unit {0})
 entries_left x m = entries x (length x.payload - m.at + 1) m
 
 module _ (x : Input) (m : Mem) where
@@ -85,7 +72,7 @@ module _ (x : Input) (m : Mem) where
     left_by = rw (one_more, lt-leb (length x.payload) m.at h, c)
 
 -- neither kSynchronize nor an alignment: an entry that holds references
-abbrev pub IsReading : Closing → Type 0
+abbrev IsReading : Closing → Type 0
 IsReading e = (e ≡ Synchronize → ⊥) × ((a : ℕ) → e ≡ Alignment a → ⊥)
 
 by_one : (x : Input) (k : Reader (Unit {0})) (e : Closing) → IsReading e → (m : Mem) → after_entry x k (one_entry x e m) ≡ by_entry x k e m
@@ -94,84 +81,123 @@ by_one x k (Alignment a) h m = absurd (h.1 a refl)
 by_one x k (Deferred space) h m = refl
 by_one x k Reference h m = refl
 
+-- the state with an alignment that stands, after a byte
+abbrev aligned_to : ℕ → State → State
+aligned_to a s =
+    record
+    { at = s.at + 1; objects = s.objects; slots = s.slots; values = s.values; addresses = s.addresses; pending = s.pending; waiting = s.waiting; skip = s.skip; alignment = a }
+
 -- what holds at the head of the loop over the entries
-pub record Loop (x : Input) (h : List ℕ) (m₀ m : Mem) (sc : List ℕ) : Type 0 where
-  pub ready : Ready x h m sc
-  pub same : entries_left x m ≡ entries_left x m₀
-  pub onward : Onward m₀ m
+pub record Loop (w₀ : Walker) (s₀ : State) (w : Walker) (s : State) : Type 0 where
+  pub ready : Ready w s
+  pub same : entries_left (input_of w) (mem s (lent_of w)) ≡ entries_left (input_of w₀) (mem s₀ (lent_of w₀))
+  pub fixed : Fixed w₀ w
 
-pub loop_start : {x : Input} {h sc : List ℕ} {m : Mem} → Ready x h m sc → Loop x h m m sc
-loop_start g = record { ready = g; same = refl; onward = omega arith }
+module _ {w₀ : Walker} {s₀ : State} {w : Walker} {s : State} (a : Loop w₀ s₀ w s) where
+  abbrev x : Input
+  x = input_of w
 
-module _ (x : Input) (h : List ℕ) (m₀ : Mem) (s : State) (l : Lent) (sc : List ℕ) (w : Loop x h m₀ (mem s l) sc) where
-  pub loop_end : length x.payload ≤ s.at → is_legacy x.sheet ≡ true → got tt (mem s l) ≡ entries_left x m₀
-  loop_end b y = left_end x (mem s l) b y ∙ w.same
+  abbrev m : Mem
+  m = mem s (lent_of w)
 
-  pub loop_cut : length x.payload ≤ s.at → is_legacy x.sheet ≡ false → no 13 (length x.payload) (mem s l) ≡ entries_left x m₀
-  loop_cut b y = left_cut x (mem s l) b y ∙ w.same
+  abbrev whole : Out (Unit {0})
+  whole = entries_left (input_of w₀) (mem s₀ (lent_of w₀))
 
-  module _ (b : s.at < length x.payload) where
-    pub loop_synchronize : closing_of x.sheet (peek x (mem s l)) ≡ Synchronize → got tt (moved (s.at + 1) (mem s l)) ≡ entries_left x m₀
+  same_payload : length w.payload.now ≡ length w₀.payload.now
+  same_payload = rw a.fixed.payload
+
+  module _ (l : length w₀.payload.now ≤ s.at) where
+    pub loop_end : is_legacy w.sheet.now ≡ true → got tt m ≡ whole
+    loop_end y = left_end x m (omega (arith, l, same_payload)) y ∙ a.same
+
+    pub loop_cut : is_legacy w.sheet.now ≡ false → no 13 (length w₀.payload.now) m ≡ whole
+    loop_cut y =
+        subst (λ n. no 13 n m ≡ whole) same_payload (left_cut x m (omega (arith, l, same_payload)) y ∙ a.same)
+
+  -- what the code takes the byte at the cursor for
+  module _ (l : s.at < length w₀.payload.now) {v : ℕ} {e : Closing} (ev : v ≡ peek_at w₀.payload.now s.at) (ee : e ≡ closing_of w.sheet.now v) where
+    b : s.at < length w.payload.now
+    b = omega (arith, l, same_payload)
+
+    c : closing_of w.sheet.now (peek_at w.payload.now s.at) ≡ e
+    c = rw (a.fixed.payload, ← ev) (sym ee)
+
+    pub loop_synchronize : e ≡ Synchronize → got tt (mem (moved_to (s.at + 1) s) (lent_of w)) ≡ whole
     unfolding byte
-    loop_synchronize c =
-        let z = left_by x (mem s l) b Synchronize c in
-        rw (lt-ltb s.at (length x.payload) b) at z ∙ w.same
+    loop_synchronize q =
+        let z = left_by x m b Synchronize (c ∙ q) in
+        rw (lt-ltb s.at (length w.payload.now) b) at z ∙ a.same
 
     -- an alignment
-    module _ (a : ℕ) (c : closing_of x.sheet (peek x (mem s l)) ≡ Alignment a) where
-      aligned_kept : Kept x (mem s l) (aligned a (moved (s.at + 1) (mem s l)))
-      aligned_kept =
-          let k = moved_kept w.ready b in
-          record { sound = omega (arith, k.sound); counted = record { chunk_low = k.counted.chunk_low; count_low = k.counted.count_low }; onward = omega arith }
-
-      left_aligned : entries x (length x.payload - s.at) (aligned a (moved (s.at + 1) (mem s l))) ≡ entries_left x (mem s l)
+    module _ {n : ℕ} (q : e ≡ Alignment n) where
+      left_aligned : entries x (length w.payload.now - s.at) (mem (aligned_to n s) (lent_of w)) ≡ entries_left x m
       unfolding byte
-      left_aligned = let z = left_by x (mem s l) b (Alignment a) c in rw (lt-ltb s.at (length x.payload) b) at z
+      left_aligned = let z = left_by x m b (Alignment n) (c ∙ q) in rw (lt-ltb s.at (length w.payload.now) b) at z
 
-      pub loop_aligned : Loop x h m₀ (aligned a (moved (s.at + 1) (mem s l))) sc
+      aligned_ready : Ready w (aligned_to n s)
+      aligned_ready =
+          let g = moved_ready a.ready b in
+          record { proper = g.proper; decoded = g.decoded; sound = omega (arith, g.sound); counted = record { chunk_low = g.counted.chunk_low; count_low = g.counted.count_low }; numbered = g.numbered; ascending = g.ascending; indexed = g.indexed; linked = g.linked }
+
+      pub loop_aligned : Loop w₀ s₀ w (aligned_to n s)
       loop_aligned =
-          let k = aligned_kept in
-          let fuel : entries_left x (aligned a (moved (s.at + 1) (mem s l))) ≡ entries x (length x.payload - s.at) (aligned a (moved (s.at + 1) (mem s l))) = entries_fuel w.ready.proper _ _ (aligned a (moved (s.at + 1) (mem s l))) k.sound k.counted (omega arith) (omega arith) in
-          record { ready = ready_after w.ready k w.ready.numbered w.ready.ascending (record { pending = w.ready.index.pending; linked = w.ready.index.linked }); same = fuel ∙ left_aligned ∙ w.same; onward = onward_trans w.onward k.onward }
+          let g = aligned_ready in
+          let fuel : entries_left x (mem (aligned_to n s) (lent_of w)) ≡ entries x (length w.payload.now - s.at) (mem (aligned_to n s) (lent_of w)) = entries_fuel g.proper _ _ (mem (aligned_to n s) (lent_of w)) g.sound g.counted (omega arith) (omega arith) in
+          record { ready = g; same = fuel ∙ left_aligned ∙ a.same; fixed = a.fixed }
 
     -- an entry that holds references
-    module _ (e : Closing) (c : closing_of x.sheet (peek x (mem s l)) ≡ e) (t : IsReading e) where
-      pub in_legacy : InLegacy x.sheet e
-      in_legacy space q = deferred_legacy x.sheet (peek x (mem s l)) space (c ∙ q)
+    module _ (t : IsReading e) where
+      pub in_legacy : InLegacy w.sheet.now e
+      in_legacy space q = deferred_legacy w.sheet.now (peek x m) space (c ∙ q)
 
-      one_law : Law x Reads (mem s l) (one_entry x e (mem s l))
+      one_law : Law x Reads m (one_entry x e m)
       one_law I W R g = go e in_legacy
         where
-          go : (e : Closing) → InLegacy x.sheet e → Ends x I (mem s l) (λ _. []) (Reads (mem s l)) (one_entry x e (mem s l))
-          go (Deferred space) q = entry-ends w.ready.proper R (q space refl) space g
-          go Reference q = drop_reference_ends w.ready.proper R g
-          go Synchronize q = drop_reference_ends w.ready.proper R g
-          go (Alignment a) q = drop_reference_ends w.ready.proper R g
+          go : (e : Closing) → InLegacy w.sheet.now e → Ends x I m (λ _. []) (Reads m) (one_entry x e m)
+          go (Deferred space) q = entry-ends a.ready.proper R (q space refl) space g
+          go Reference q = drop_reference_ends a.ready.proper R g
+          go Synchronize q = drop_reference_ends a.ready.proper R g
+          go (Alignment n) q = drop_reference_ends a.ready.proper R g
 
-      after : {out : Out (Unit {0})} {o : Out (Unit {0})} → o ≡ one_entry x e (mem s l) → out ≡ after_entry x (entries x (length x.payload - s.at)) o → out ≡ entries_left x m₀
+      after : {out : Out (Unit {0})} {o : Out (Unit {0})} → o ≡ one_entry x e m → out ≡ after_entry x (entries x (length w.payload.now - s.at)) o → out ≡ whole
       after {out} q f =
-          let z : out ≡ after_entry x (entries x (length x.payload - s.at)) (one_entry x e (mem s l)) = rw (← q) f in
-          z ∙ by_one x (entries x (length x.payload - s.at)) e t (mem s l) ∙ left_by x (mem s l) b e c ∙ w.same
+          let z : out ≡ after_entry x (entries x (length w.payload.now - s.at)) (one_entry x e m) = rw (← q) f in
+          z ∙ by_one x (entries x (length w.payload.now - s.at)) e t m ∙ left_by x m b e c ∙ a.same
 
-      module _ {n q : ℕ} {m1 : Mem} (f : no n q m1 ≡ one_entry x e (mem s l)) where
-        pub loop_fault_ends : ends_legacy x n ≡ true → got tt m1 ≡ entries_left x m₀
-        loop_fault_ends y = after f (rw y)
+      module _ {n q : ℕ} {m1 : Mem} (f : no n q m1 ≡ one_entry x e m) {w1 : Walker} (i : Fixed w w1) where
+        pub loop_fault_ends : ends_legacy (input_of w1) n ≡ true → got tt m1 ≡ whole
+        loop_fault_ends y = let z : ends_legacy x n ≡ true = rw i.sheet at y in after f (rw z)
 
-        pub loop_fault : ends_legacy x n ≡ false → no n q m1 ≡ entries_left x m₀
-        loop_fault y = after f (rw y)
+        pub loop_fault : ends_legacy (input_of w1) n ≡ false → no n q m1 ≡ whole
+        loop_fault y = let z : ends_legacy x n ≡ false = rw i.sheet at y in after f (rw z)
 
-      module _ {u : Unit {0}} {m1 : Mem} (f : got u m1 ≡ one_entry x e (mem s l)) where
-        entry_went : Went x (mem s l) (Reads (mem s l)) None u m1
-        entry_went = law_went w.ready Reads one_law f
+      module _ (w1 : Walker) {s1 : State} (f : got tt (mem s1 (lent_of w1)) ≡ one_entry x e m) where
+        entry_went : Went x m (Reads m) None (tt {0}) (mem s1 (lent_of w1))
+        entry_went = law_went a.ready.proper a.ready.sound a.ready.counted a.ready.numbered a.ready.ascending Reads one_law f
 
-        pub loop_reads : (s.at < m1.at) × (m1.at ≤ length x.payload)
+        loop_reads : (s.at < s1.at) × (s1.at ≤ length w.payload.now)
         loop_reads = (entry_went.more, entry_went.kept.sound.within)
 
-        pub loop_turn : {sc1 : List ℕ} → Index (length x.payload) m1.slots m1.addresses sc1 → Loop x h m₀ m1 sc1
-        loop_turn j =
+        pub loop_smaller : length w₀.payload.now - s1.at < length w₀.payload.now - s.at
+        loop_smaller = omega (arith, same_payload, loop_reads)
+
+        pub loop_turn : After w (Ok (tt {0}, s1)) w1 → Loop w₀ s₀ w1 s1
+        loop_turn i =
             let k = entry_went in
-            let fuel : entries_left x m1 ≡ entries x (length x.payload - s.at) m1 = entries_fuel w.ready.proper _ _ m1 k.kept.sound k.kept.counted (omega arith) (omega (arith, k.more, k.kept.sound.within)) in
-            record { ready = ready_after w.ready k.kept k.numbered k.ascending j; same = after f fuel; onward = onward_trans w.onward k.kept.onward }
+            let fuel : entries_left x (mem s1 (lent_of w1)) ≡ entries x (length w.payload.now - s.at) (mem s1 (lent_of w1)) = entries_fuel a.ready.proper _ _ (mem s1 (lent_of w1)) k.kept.sound k.kept.counted (omega arith) (omega (arith, k.more, k.kept.sound.within)) in
+            record { ready = went_ready a.ready i k; same = subst (λ x. entries_left x (mem s1 (lent_of w1)) ≡ whole) (sym (same_input i.fixed)) (after f fuel); fixed = fixed_on a.fixed i.fixed }
+
+-- a new object at the cursor, as a reference
+module _ {w : Walker} {s : State} (g : Ready w s) (h : opens_at w s.at ≡ true) where
+  pub object_inside : s.at < length w.payload.now
+  object_inside = (opens w s.at h).0
+
+  module _ {a : ℕ} (e : a ≡ (head_at w.heads.now (get_or w.payload.now s.at 0)).argument) (b : get_or w.payload.now s.at 0 < 256) where
+    pub object_space : a < 256
+    object_space = rw e (space_low g object_inside (get_or w.payload.now s.at 0) (refl, b) (opens w s.at h).1)
+
+    pub object_ref : {o : Out SlotValue} → o ≡ object (input_of w) (ref_at (input_of w) 64) a s.at (mem (moved_to (s.at + 1) s) (lent_of w)) → o ≡ ref_at (input_of w) 65 (mem s (lent_of w))
+    object_ref q = rw e at q ∙ ref_object g object_inside (get_or w.payload.now s.at 0) (refl, b) (opens w s.at h).1 0 (omega arith)
 
 -- ---- the section
 

@@ -1,5 +1,5 @@
 -- The parts of the driver that are a function of their own in the code. Assumes nothing: these are definitions.
-use Rattle.std.specs.Prelude.{◌≡◌, true, List, ℕ}
+use Rattle.std.specs.Prelude.{◌≡◌, true, List, ℕ, Ok, Err}
 use Rattle.sheet.specs.Sheet.{is_legacy}
 use Rattle.sheet.specs.declared.tests.Closing.{Closing}
 use Rattle.sheet.specs.declared.tests.Closing.TheVariants.{Synchronize, Alignment, Deferred, Reference}
@@ -10,9 +10,8 @@ use Rattle.definition.specs.Object.{object}
 use Rattle.definition.specs.Reference.{ref_at}
 use Rattle.definition.specs.Closing.{entry, drop_reference}
 use Rattle.definition.specs.Call.{top_space}
-use Rattle.readers.specs.declared.state.Step.{Step}
-use Rattle.readers.specs.declared.state.Step.TheVariants.{Got, Refused}
-use Rattle.readers.specs.Views.{Lent, mem}
+use Rattle.readers.specs.declared.walker.Walker.{Walker}
+use Rattle.readers.specs.Views.{Answer}
 use Rattle.walker.specs.Ready.{Ready}
 
 -- an entry that holds references: a deferred entry, or a reference whose value is dropped
@@ -30,7 +29,7 @@ InLegacy sheet e = (space : ℕ) → e ≡ Deferred space → is_legacy sheet �
 abbrev pub top_object : Input → Reader SlotValue
 top_object x = byte x >>= (λ b. choose (opens x.sheet b) (object x (ref_at x 64) (top_space x b) 0) (refuse_at 5 0))
 
--- with a value, what holds at the start of a reader holds again
-abbrev pub StepReady : Input → List ℕ → Step → Lent → List ℕ → Type 0
-StepReady x heads (Got v s) l scratch = Ready x heads (mem s l) scratch
-StepReady x heads (Refused n q s) l scratch = Unit {0}
+-- with an answer, what holds at the start of a reader holds again
+abbrev pub ReadyAfter : {A : Type 0} → Answer A → Walker → Type 0
+ReadyAfter (Ok r) w = Ready w r.1
+ReadyAfter (Err e) w = Unit {0}

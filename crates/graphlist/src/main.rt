@@ -5,7 +5,7 @@ ghost use Rattle.std.specs.Prelude.{◌<◌};
 
 mod files;
 
-use cache_graph::parse::parse_with;
+use cache_graph::parse::{Call, Tables, parse_with};
 use files::Input;
 use std::alloc::Global;
 use std::io::{BufWriter, Write};
@@ -55,29 +55,32 @@ fn list(out: &mut impl Write, alloc: Global, input: &Input) -> io::Result<()> {
     let mut values = vec![in alloc; 0u64; 196608]?;
     let mut addresses = vec![in alloc; 0u64; 163840]?;
     let mut scratch = vec![in alloc; 0u64; 8192]?;
-    let o = parse_with(
-        &input.sheet,
-        &input.payload,
-        &input.reservations,
-        &input.trusted,
-        &mut objects,
-        &mut slots,
-        &mut values,
-        &mut addresses,
-        &mut scratch,
-    );
-    if o.number != 0 {
-        return writeln!(out, "refused {} {}", o.number, o.place);
-    }
+    let call = Call {
+        sheet: &input.sheet,
+        payload: &input.payload,
+        reservations: &input.reservations,
+        trusted: &input.trusted,
+    };
+    let mut tables = Tables {
+        objects: &mut objects,
+        slots: &mut slots,
+        values: &mut values,
+        addresses: &mut addresses,
+        scratch: &mut scratch,
+    };
+    let g = match parse_with(call, &mut tables) {
+        Ok(g) => g,
+        Err(e) => return writeln!(out, "refused {} {}", e.refusal.number(), e.place),
+    };
     writeln!(
         out,
         "graph {} {} {} {} {}",
-        o.objects, o.slots, o.values, o.addresses, o.end
+        g.objects, g.slots, g.values, g.addresses, g.end
     )?;
-    records::<4>(out, "o", &objects, o.objects)?;
-    records::<6>(out, "s", &slots, o.slots)?;
-    records::<3>(out, "v", &values, o.values)?;
-    records::<5>(out, "d", &addresses, o.addresses)
+    records::<4>(out, "o", &objects, g.objects)?;
+    records::<6>(out, "s", &slots, g.slots)?;
+    records::<3>(out, "v", &values, g.values)?;
+    records::<5>(out, "d", &addresses, g.addresses)
 }
 
 fn main(rt: HostRuntime) -> io::Result<()> {

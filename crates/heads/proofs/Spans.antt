@@ -14,7 +14,8 @@ use Rattle.sheet.specs.Usable.{Usable}
 use Rattle.heads.specs.Heads.{Row, row, order, span_of, tests}
 use Rattle.heads.specs.Assigning.{span_bytes, family_number, row_at, IsRow}
 use Rattle.heads.specs.declared.order.Claim.{Claim}
-use Rattle.sheet.proofs.UsableSheet.{and_left, and_right, usable_gives}
+use Rattle.std.proofs.lemmas.Bool.{and_parts}
+use Rattle.sheet.proofs.UsableSheet.{usable_gives}
 
 abbrev Fits : List ℕ → Row → Type 0
 Fits v r = present v r.name ≡ true → tests v r.family ≡ true → number v r.name + span_of v r.span ≤ 256
@@ -25,8 +26,8 @@ is_narrow r = eqb r.span 1 && ltb r.name 56
 
 narrow : (v : List ℕ) → Usable v → (r : Row) → is_narrow r ≡ true → Fits v r
 narrow v u r e p t =
-    let n : r.span ≡ 1 = eqb-true r.span 1 (and_left (eqb r.span 1) (ltb r.name 56) e) in
-    let k : r.name < 56 = ltb-true r.name 56 (and_right (eqb r.span 1) (ltb r.name 56) e) in
+    let n : r.span ≡ 1 = eqb-true r.span 1 (and_parts (eqb r.span 1) (ltb r.name 56) e).0 in
+    let k : r.name < 56 = ltb-true r.name 56 (and_parts (eqb r.span 1) (ltb r.name 56) e).1 in
     rw n
     (⊎_elim (λ h. omega arith) (λ h. absurd (eqb-false (number v r.name) 65535 (not-true (eqb (number v r.name) 65535) p) h)) (u.numbers r.name k))
 

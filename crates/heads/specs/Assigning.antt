@@ -1,7 +1,9 @@
 -- What the functions that make the 256 answers promise each other; no part of the format. Assumes nothing: these are definitions.
 use Rattle.std.specs.Prelude.{◌≡◌, List, ℕ, ◌+◌, ◌<◌, ◌≤◌, length, get_or}
+use Rattle.heads.specs.declared.heads.Head.{Head}
+use Rattle.heads.specs.declared.kinds.Kind.{Kind}
 use Rattle.heads.specs.Kinds.{kind_number}
-use Rattle.heads.specs.Heads.{Row, row, order, span_of, by_spaces, by_mask, up_to_backref, always, legacy, modern, six_x, not_six_x, six_x_alone, not_six_x_alone, nothing, offset, from_one, from_two, and_seven, and_mask, argument_of}
+use Rattle.heads.specs.Heads.{head_at, Row, row, order, span_of, by_spaces, by_mask, up_to_backref, always, legacy, modern, six_x, not_six_x, six_x_alone, not_six_x_alone, nothing, offset, from_one, from_two, and_seven, and_mask, argument_of}
 use Rattle.heads.specs.declared.order.Claim.{Claim}
 use Rattle.heads.specs.declared.order.Span.{Span}
 use Rattle.heads.specs.declared.order.Span.TheVariants.{Bytes, Spaces, RootConstants, UpToBackref}
@@ -48,13 +50,9 @@ pub record IsRow (i : ℕ) (c : Claim) : Type 0 where
   pub kind : kind_number c.kind ≡ (row_at i).kind
   pub argument : argument_number c.argument ≡ (row_at i).argument
 
--- both numbers of a byte stay
-abbrev pub Same : List ℕ → List ℕ → ℕ → Type 0
-Same t after b = (get_or after b 0 ≡ get_or t b 0) × (get_or after (256 + b) 0 ≡ get_or t (256 + b) 0)
-
 -- n bytes from `first` on have this kind and their arguments, and all others stay
-pub record Assigned (t : List ℕ) (first n kind rule mask : ℕ) (after : List ℕ) : Type 0 where
+pub record Assigned (t : List Head) (first n : ℕ) (kind : Kind) (rule mask : ℕ) (after : List Head) : Type 0 where
   pub size : length after ≡ length t
-  pub inside : (b : ℕ) → first ≤ b → b < first + n → (get_or after b 0 ≡ kind) × (get_or after (256 + b) 0 ≡ argument_of mask rule first b)
-  pub below : (b : ℕ) → b < first → Same t after b
-  pub above : (b : ℕ) → first + n ≤ b → b < 256 → Same t after b
+  pub inside : (b : ℕ) → first ≤ b → b < first + n → head_at after b ≡ record { kind = kind; argument = argument_of mask rule first b }
+  pub below : (b : ℕ) → b < first → head_at after b ≡ head_at t b
+  pub above : (b : ℕ) → first + n ≤ b → b < 256 → head_at after b ≡ head_at t b

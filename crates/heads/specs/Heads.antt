@@ -1,9 +1,11 @@
 -- What a head byte means: the first name that lays hold of it, in the order in which the Rust's `parse_ref_inner` tests them.
 -- Assumes nothing: these are definitions.
-use Rattle.std.specs.Prelude.{◌≡◌, Bool, true, false, not, ◌&&◌, List, [], ◌∷◌, ℕ, ◌+◌, ◌-◌, ◌<◌, ltb, leb, eqb, length, get_or, Option, is_some, IfSome}
+use Rattle.std.specs.Prelude.{◌≡◌, Bool, true, false, not, ◌&&◌, List, [], ◌∷◌, ℕ, ◌+◌, ◌-◌, ◌<◌, ltb, leb, eqb, length, Option, is_some, IfSome, slice_index_or}
 use Rattle.std.specs.Int.Bits.{bit_and}
 use Rattle.sheet.specs.Names.{k_new_object, k_backref_with_skip, k_backref, k_next_chunk, k_alignment_prefix, k_hot_object, k_hot_object_with_skip, k_root_array, k_root_array_constants, k_root_array_constants_with_skip, k_read_only_heap_ref, k_attached_reference, k_builtin, k_external_reference, k_api_reference, k_internal_reference, k_internal_reference_encoded, k_deoptimizer_entry_plain, k_deoptimizer_entry_from_code, k_off_heap_backing_store, k_variable_raw_code, k_embedder_fields_data, k_off_heap_target, k_partial_snapshot_cache, k_startup_object_cache, k_read_only_object_cache, k_shared_heap_object_cache, k_register_pending_forward_ref, k_cleared_weak_reference, k_weak_prefix, k_indirect_pointer_prefix, k_protected_pointer_prefix, k_initialize_self_indirect_pointer, k_allocate_js_dispatch_entry, k_js_dispatch_entry, k_fixed_raw_data, k_variable_raw_data, k_skip, k_fixed_repeat, k_fixed_repeat_root, k_variable_repeat, k_variable_repeat_root, k_new_meta_map, k_new_contextless_meta_map, k_new_contextful_meta_map}
-use Rattle.heads.specs.Kinds.{no_meaning, new_object, backref, legacy_backref, legacy_backref_with_skip, next_chunk, alignment, hot, hot_with_skip, root_array, root_constant, root_constant_with_skip, read_only, attached, builtin, external, api, internal, deoptimizer, stream_bytes, embedder_fields, off_heap_target, cache, register_pending, cleared_weak, weak_prefix, pointer_prefix, dispatch_entry, fixed_raw, variable_raw, skip, fixed_repeat, fixed_repeat_root, repeat_previous, variable_repeat, variable_repeat_previous, variable_repeat_root, meta_map}
+use Rattle.heads.specs.declared.heads.Head.{Head as CodeHead}
+use Rattle.heads.specs.declared.kinds.Kind.TheVariants.{NoMeaning}
+use Rattle.heads.specs.Kinds.{kind_number, no_meaning, new_object, backref, legacy_backref, legacy_backref_with_skip, next_chunk, alignment, hot, hot_with_skip, root_array, root_constant, root_constant_with_skip, read_only, attached, builtin, external, api, internal, deoptimizer, stream_bytes, embedder_fields, off_heap_target, cache, register_pending, cleared_weak, weak_prefix, pointer_prefix, dispatch_entry, fixed_raw, variable_raw, skip, fixed_repeat, fixed_repeat_root, repeat_previous, variable_repeat, variable_repeat_previous, variable_repeat_root, meta_map}
 use Rattle.sheet.specs.Sheet.{pick_ℕ, number, present, pick_bool, number_of_spaces, root_mask, is_legacy, is_six_x, usable as isUsable}
 
 -- how many bytes a name lays hold of: so many, or by these three rules
@@ -180,13 +182,20 @@ first_of v (r ∷ rs) b =
 unfoldable pub head_of : List ℕ → ℕ → Head
 head_of v b = first_of v order b
 
--- the answers for the 256 bytes, kinds and then arguments, of a sheet
-pub record Heads (v t : List ℕ) : Type 0 where
-  pub size : length t ≡ 512
-  pub kind : (b : ℕ) → b < 256 → get_or t b 0 ≡ (head_of v b).kind
-  pub argument : (b : ℕ) → b < 256 → get_or t (256 + b) 0 ≡ (head_of v b).argument
+-- the answer for a byte: the code's kind and argument
+abbrev pub no_head : CodeHead
+no_head = record { kind = NoMeaning; argument = 0 }
+
+abbrev pub head_at : List CodeHead → ℕ → CodeHead
+head_at hs b = slice_index_or hs b no_head
+
+-- the answers for the 256 bytes of a sheet
+pub record Heads (v : List ℕ) (hs : List CodeHead) : Type 0 where
+  pub size : length hs ≡ 256
+  pub kind : (b : ℕ) → b < 256 → kind_number (head_at hs b).kind ≡ (head_of v b).kind
+  pub argument : (b : ℕ) → b < 256 → (head_at hs b).argument ≡ (head_of v b).argument
 
 -- what decoding a sheet gives: none exactly where the sheet is not usable, else the answers
-pub record Decoded (v : List ℕ) (r : Option (List ℕ)) : Type 0 where
+pub record Decoded (v : List ℕ) (r : Option (List CodeHead)) : Type 0 where
   pub usable : is_some r ≡ isUsable v
   pub heads : IfSome r (Heads v)

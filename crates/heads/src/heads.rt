@@ -1,8 +1,7 @@
 // What a reference with each head byte is: the 256 answers, made once for a sheet.
 ghost use Rattle.std.specs.Prelude.{◌≡◌, true, ◌+◌, ◌<◌, ◌≤◌, length, replicate};
 ghost use Rattle.sheet.specs.Sheet.{usable as isUsable};
-ghost use Rattle.heads.specs.Heads.{tests, argument_of, Heads, Decoded};
-ghost use Rattle.heads.specs.Kinds.{kind_number};
+ghost use Rattle.heads.specs.Heads.{tests, argument_of, no_head, Heads, Decoded};
 ghost use Rattle.heads.specs.Assigning.{span_bytes, family_number, argument_number, Assigned};
 
 use crate::kinds::Kind;
@@ -55,21 +54,30 @@ fn argument_of(mask: u64, argument: Argument, first: u64, b: u64) -> u64
     }
 }
 
+// What a reference with a head byte is, and its argument.
+#[derive(Clone, Copy)]
+pub struct Head {
+    pub kind: Kind,
+    pub argument: u16,
+}
+
 // n bytes from `first` on get this kind and their arguments.
-fn assign(heads: &mut [u16; 512], first: u64, n: u64, kind: Kind, argument: Argument, mask: u64)
-    requires { (first + n ≤ 256) × (length heads.old ≡ 512) }
-    ensures { Assigned heads.old first n (kind_number kind) (argument_number argument) mask heads.new }
+fn assign(heads: &mut [Head; 256], first: u64, n: u64, kind: Kind, argument: Argument, mask: u64)
+    requires { first + n ≤ 256 }
+    ensures { Assigned heads.old first n kind (argument_number argument) mask heads.new }
 {
     for b in first..first + n {
-        heads[b as usize] = kind.number();
-        heads[256 + b as usize] = argument_of(mask, argument, first, b) as u16;
+        heads[b as usize] = Head {
+            kind,
+            argument: argument_of(mask, argument, first, b) as u16,
+        };
     }
 }
 
 // The answers of a usable sheet. The rows are taken from the last to the first, so that the first that lays hold of a byte stays.
-fn claim_all(sheet: &[u16], heads: &mut [u16; 512])
+fn claim_all(sheet: &[u16], heads: &mut [Head; 256])
     requires sheet_value { isUsable sheet.now ≡ true }
-    requires heads_value { heads.old ≡ replicate 512 0 }
+    requires heads_value { heads.old ≡ replicate 256 no_head }
     ensures { Heads sheet.now heads.new }
 {
     let mask = root_mask(sheet);
@@ -82,14 +90,18 @@ fn claim_all(sheet: &[u16], heads: &mut [u16; 512])
     }
 }
 
-// What each head byte means under this sheet: 256 kinds, then 256 arguments. None where the sheet is not usable.
-pub fn decode(sheet: &[u16]) -> Option<[u16; 512]>
+// What each head byte means under this sheet. None where the sheet is not usable.
+pub fn decode(sheet: &[u16]) -> Option<[Head; 256]>
     ensures { Decoded sheet.now result }
 {
     if !usable(sheet) {
         return None;
     }
-    let mut heads = [0u16; 512];
+    let none = Head {
+        kind: Kind::NoMeaning,
+        argument: 0,
+    };
+    let mut heads = [none; 256];
     claim_all(sheet, &mut heads);
     Some(heads)
 }

@@ -11,7 +11,7 @@ use Rattle.sheet.specs.Sheet.{number, is_legacy}
 use Rattle.sheet.specs.declared.tests.Closing.{Closing}
 use Rattle.sheet.specs.declared.tests.Closing.TheVariants.{Synchronize, Alignment, Deferred, Reference}
 use Rattle.sheet.specs.Tests.{is_resolve, is_deferred, is_next_chunk, is_nop, closing_of}
-use Rattle.sheet.proofs.UsableSheet.{and_left}
+use Rattle.std.proofs.lemmas.Bool.{and_parts}
 use Rattle.tables.specs.declared.values.SlotValue.{SlotValue}
 use Rattle.definition.specs.Memory.{Input, Mem, Out, got, no, Reader, and_then, ◌>>=◌, ◌>>◌, choose, change, moved, aligned, byte, int}
 use Rattle.definition.specs.Slots.{resolved, place_item}
@@ -59,14 +59,14 @@ module _ {x : Input} (g : Proper x) where
   more_chunks space m = is_next_chunk x.sheet (peek x m) && eqb (peek_at x.payload (m.at + 1)) space
 
   chunk_inside : (space : ℕ) (m : Mem) → more_chunks space m ≡ true → m.at < length x.payload
-  chunk_inside space m e = tagged k_next_chunk (omega arith) m (and_left (is_next_chunk x.sheet (peek x m)) _ e)
+  chunk_inside space m e = tagged k_next_chunk (omega arith) m (and_parts (is_next_chunk x.sheet (peek x m)) _ e).0
 
   chunk_end : (space n : ℕ) (m : Mem) → left m ≤ 0 → chunk_changes x space n m ≡ got tt m
   unfolding chunk_changes
   chunk_end space zero m h = refl
   chunk_end space (suc n) m h = choose_no (more_chunks space m) _ _ (λ e. omega (arith, chunk_inside space m e))
 
-  pub chunk_fuel : (space n n' : ℕ) (m : Mem) → left m ≤ n → left m ≤ n' → chunk_changes x space n m ≡ chunk_changes x space n' m
+  chunk_fuel : (space n n' : ℕ) (m : Mem) → left m ≤ n → left m ≤ n' → chunk_changes x space n m ≡ chunk_changes x space n' m
   unfolding chunk_changes
   chunk_fuel space zero n' m h h' = sym (chunk_end space n' m h)
   chunk_fuel space (suc n) zero m h h' = chunk_end space (suc n) m h'
@@ -88,7 +88,7 @@ module _ {x : Input} (g : Proper x) where
   resolves_stop o zero m h = refl
   resolves_stop o (suc n) m h = choose_no (is_resolve x.sheet (peek x m)) _ _ (λ e. omega (arith, tagged k_resolve_pending_forward_ref (omega arith) m e))
 
-  pub resolves_fuel : (o n n' : ℕ) (m : Mem) → Sound x m → Counted m → left m ≤ n → left m ≤ n' → resolves x o n m ≡ resolves x o n' m
+  resolves_fuel : (o n n' : ℕ) (m : Mem) → Sound x m → Counted m → left m ≤ n → left m ≤ n' → resolves x o n m ≡ resolves x o n' m
   unfolding resolves
   resolves_fuel o zero n' m s c h h' = sym (resolves_stop o n' m h)
   resolves_fuel o (suc n) zero m s c h h' = resolves_stop o (suc n) m h'
@@ -164,7 +164,7 @@ module _ {x : Input} (g : Proper x) where
   padding_stop zero m h = refl
   padding_stop (suc n) m h = choose_yes (leb (length x.payload) m.at) _ _ (le-leb (length x.payload) m.at (omega arith))
 
-  pub padding_fuel : (n n' : ℕ) (m : Mem) → Sound x m → Counted m → left m ≤ n → left m ≤ n' → padding x n m ≡ padding x n' m
+  padding_fuel : (n n' : ℕ) (m : Mem) → Sound x m → Counted m → left m ≤ n → left m ≤ n' → padding x n m ≡ padding x n' m
   unfolding padding
   padding_fuel zero n' m s c h h' = sym (padding_stop n' m h)
   padding_fuel (suc n) zero m s c h h' = padding_stop (suc n) m h'

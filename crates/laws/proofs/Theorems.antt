@@ -58,7 +58,7 @@ module _ (x : Input) where
   held m T f (no n q m') h = h.1.kept
 
   -- of what a law says, what needs no invariant
-  pub holds_as : {A : Type 0} {m : Mem} {T : A → List Frame} {P Q : A → Mem → Type 0} {o : Out A} → Ends x Nothing m T P o → ((a : A) (m' : Mem) → P a m' → Q a m') → Holds x m Q o
+  holds_as : {A : Type 0} {m : Mem} {T : A → List Frame} {P Q : A → Mem → Type 0} {o : Out A} → Ends x Nothing m T P o → ((a : A) (m' : Mem) → P a m' → Q a m') → Holds x m Q o
   holds_as {m = m} {T} {o = o} e f = held m T f o e.result
 
   pub holds : {A : Type 0} {m : Mem} {T : A → List Frame} {P : A → Mem → Type 0} {o : Out A} → Ends x Nothing m T P o → Holds x m P o

@@ -6,7 +6,7 @@ use Prim.Native.Nat.{ℕ, zero, suc, ◌+◌, ◌-◌, ◌*◌, ◌<◌, max}
 use Rattle.std.proofs.Common.{arith, leb-false}
 use Rattle.sheet.specs.Names.{k_new_object}
 use Rattle.sheet.specs.Sheet.{pick_ℕ, is_legacy, number}
-use Rattle.sheet.proofs.UsableSheet.{and_left}
+use Rattle.std.proofs.lemmas.Bool.{and_parts}
 use Rattle.sheet.specs.declared.tests.Closing.{Closing}
 use Rattle.sheet.specs.declared.tests.Closing.TheVariants.{Synchronize, Alignment, Deferred, Reference}
 use Rattle.sheet.specs.Tests.{closing_of, is_nop, opens}
@@ -89,7 +89,7 @@ module _ {x : Input} {I : List Frame → Mem → Type 0} {W : Mem → SlotValue 
     after_ends P (got v m1) w = last w.0 (h m1 (here w.0)) (λ _ m2 w2 k2 _. tt)
     after_ends P (no n q m1) w =
         either (ends_legacy x n) _ _
-        (λ e. gives (record { kept = w.1.kept; has = R.on_fault w.0 m1 (and_left (is_legacy x.sheet) _ e) w.1.has; listed = tt }) tt)
+        (λ e. gives (record { kept = w.1.kept; has = R.on_fault w.0 m1 (and_parts (is_legacy x.sheet) _ e).0 w.1.has; listed = tt }) tt)
         (λ _. refuses w.1)
 
     by_entry_ends : {m : Mem} → Good x I [] m m → m.at < length x.payload → (c : Closing) → closing_of x.sheet (peek x m) ≡ c → Ends x I m (λ _. []) (Any m) (by_entry x k c m)

@@ -16,7 +16,8 @@ use Rattle.sheet.specs.Names.{k_deferred}
 use Rattle.sheet.specs.Sheet.{is_legacy, is_six_x, is_map_first, lo_space}
 use Rattle.sheet.specs.Usable.{Usable}
 use Rattle.sheet.specs.Tests.{is_resolve, is_deferred, is_next_chunk, alignment_of}
-use Rattle.sheet.proofs.UsableSheet.{usable_gives, and_right}
+use Rattle.std.proofs.lemmas.Bool.{and_parts}
+use Rattle.sheet.proofs.UsableSheet.{usable_gives}
 use Rattle.tables.specs.declared.values.SlotValue.{SlotValue}
 use Rattle.tables.specs.declared.values.SlotValue.TheVariants.{Ref as IsRef, Repeat, RepeatPrev, Skip, StreamBytes, Raw, ClearedWeak, WeakRef, PendingRef}
 use Rattle.tables.specs.declared.values.Fields.{Fields}
@@ -216,7 +217,7 @@ module _ {x : Input} {I : List Frame → Mem → Type 0} {W : Mem → SlotValue 
   chunk_keeps space zero h = law (λ S m w. gives w refl)
   chunk_keeps space (suc n) h =
       law {P = Besides} (λ S m w. either (is_next_chunk x.sheet (peek x m) && eqb (peek_at x.payload (m.at + 1)) space) _ _
-      (λ e. let l : m.at + 1 < length x.payload = space_inside g space (m.at + 1) h (and_right (is_next_chunk x.sheet (peek x m)) _ e) in
+      (λ e. let l : m.at + 1 < length x.payload = space_inside g space (m.at + 1) h (and_parts (is_next_chunk x.sheet (peek x m)) _ e).1 in
       let w1 = good_chunk w space (m.at + 2) (omega arith) (omega arith) in
       last w1 (by w1 (chunk_keeps space n h)) (λ _ m2 w2 k2 p. p))
       (λ _. gives w refl))

@@ -6,8 +6,6 @@ use Rattle.std.proofs.Math.Bool.{true, false}
 use borrow.Author.Tests.{ltb-true, ltb-false, leb-true, leb-false, eqb-true, eqb-false, not-true, not-false}
 use Rattle.std.proofs.lemmas.Nat.{and_le_l}
 use Rattle.std.proofs.Math.ListN.{length, get_or-eq_default}
-use Rattle.std.proofs.lemmas.List.Edits.{sets}
-use Rattle.std.proofs.Math.Seq.{length-sets}
 use Rattle.stream.specs.declared.putint.Int.{Int}
 use Rattle.stream.specs.Bytes.{peek_at, little_endian, raw_at, pick_range}
 use Rattle.stream.specs.PutInt.{pick_int, int_length, int_at}
@@ -19,8 +17,8 @@ use Rattle.heads.specs.Heads.{Row, order, argument_of, Head, claims, first_of, h
 use Rattle.sheet.specs.declared.tests.Closing.TheVariants.{Synchronize, Alignment, Deferred, Reference}
 use Rattle.sheet.specs.Tests.{in_span, alignment_of, pick_closing, is_entry, closing_of}
 use Rattle.sheet.specs.Usable.{Usable}
-use Rattle.sheet.proofs.UsableSheet.{and_left, and_right, or_cases}
-use Rattle.tables.specs.declared.values.Fields.{Fields}
+use Rattle.std.proofs.lemmas.Bool.{and_parts, or_cases}
+use Rattle.tables.specs.declared.values.Ref.{Ref}
 use Rattle.tables.specs.Records.{room}
 use Rattle.tables.proofs.RecordLaws.{written_length}
 use Rattle.alloc.specs.declared.legacy_alloc.LegacyAlloc.{LegacyAlloc}
@@ -30,7 +28,8 @@ use Rattle.alloc.specs.Resolve.{resolve_of, ordinal_from}
 use Rattle.alloc.specs.Fill.{fill_to_align}
 use Rattle.alloc.specs.Allocation.{advance_of, pick_alloc, next_chunk, Outcome, pick_outcome, placed, allocate_of}
 use Rattle.backref.specs.declared.legacy.BackrefError.TheVariants.{Cut, Unknown}
-use Rattle.backref.specs.HotRing.{next_place, entered}
+use Rattle.backref.specs.declared.hot_ring.HotRing.{HotRing}
+use Rattle.backref.specs.HotRing.{entered}
 use Rattle.backref.specs.Legacy.{Answer, pick_backref, numbered_as, by_number, by_place, with_int, index_of, unpacked, packed_backref, plain_backref, backref_of}
 
 -- ---- integers and raw ranges
@@ -89,8 +88,8 @@ module _ (v : List ℕ) (u : Usable v) where
 
   prefix_inside : (p : List ℕ) (at : ℕ) → in_span v k_alignment_prefix 3 (peek_at p at) ≡ true → at < length p
   prefix_inside p at e =
-      let low : number v k_alignment_prefix ≤ peek_at p at = leb-true _ _ (and_left (leb (number v k_alignment_prefix) (peek_at p at)) (ltb (peek_at p at) (number v k_alignment_prefix + 3)) e) in
-      let high : peek_at p at < number v k_alignment_prefix + 3 = ltb-true _ _ (and_right (leb (number v k_alignment_prefix) (peek_at p at)) (ltb (peek_at p at) (number v k_alignment_prefix + 3)) e) in
+      let low : number v k_alignment_prefix ≤ peek_at p at = leb-true _ _ (and_parts (leb (number v k_alignment_prefix) (peek_at p at)) (ltb (peek_at p at) (number v k_alignment_prefix + 3)) e).0 in
+      let high : peek_at p at < number v k_alignment_prefix + 3 = ltb-true _ _ (and_parts (leb (number v k_alignment_prefix) (peek_at p at)) (ltb (peek_at p at) (number v k_alignment_prefix + 3)) e).1 in
       peek-inside p at (λ z. here (present v k_alignment_prefix) refl z low high)
     where
       here : (t : Bool) → present v k_alignment_prefix ≡ t → peek_at p at ≡ 256 → number v k_alignment_prefix ≤ peek_at p at → peek_at p at < number v k_alignment_prefix + 3 → ⊥
@@ -107,11 +106,9 @@ module _ (v : List ℕ) (u : Usable v) where
 
 -- ---- the ring
 
-pub entered_length : (hot : List ℕ) (f : Fields) → length (entered hot f) ≡ length hot
+pub entered_length : (hot : HotRing) (r : Ref) → length (entered hot r).places ≡ length hot.places
 unfolding entered
-entered_length hot f =
-    length-set (sets hot (next_place hot * 3) (f.kind ∷ f.a ∷ f.b ∷ [])) 24 ((next_place hot + 1) % 8)
-    ∙ length-sets hot (next_place hot * 3) (f.kind ∷ f.a ∷ f.b ∷ [])
+entered_length hot r = length-set hot.places (hot.next % 8) (Some r)
 
 -- ---- legacy back-references
 
@@ -267,8 +264,8 @@ unfolding first_of
 first_argued v [] b h e = omega arith
 first_argued v (r ∷ rs) b h e =
     pick_head_case Argued (claims v r b) _ _
-    (record { bound = argument_bound (root_mask v) r.argument (number v r.name) b h; space = λ k. space_argument (root_mask v) r (number v r.name) b h (and_left (is_space r) (are_spaces rs) e) k })
-    (first_argued v rs b h (and_right (is_space r) (are_spaces rs) e))
+    (record { bound = argument_bound (root_mask v) r.argument (number v r.name) b h; space = λ k. space_argument (root_mask v) r (number v r.name) b h (and_parts (is_space r) (are_spaces rs) e).0 k })
+    (first_argued v rs b h (and_parts (is_space r) (are_spaces rs) e).1)
 
 pub head_argued : (v : List ℕ) (b : ℕ) → b < 256 → Argued (head_of v b)
 unfolding head_of
@@ -286,5 +283,5 @@ deferred_legacy v b space e = by (eqb (number v k_synchronize) b) (in_span v k_a
     by : (s a d : Bool) → is_entry v b ≡ d → pick_closing s Synchronize (pick_closing a (Alignment (b - number v k_alignment_prefix + 1)) (pick_closing d (Deferred (b - number v k_new_object)) Reference)) ≡ Deferred space → is_legacy v ≡ true
     by true a d q e = absurd (let z : ◌≡◌ {A = ℕ} 0 1 = cc in omega arith)
     by false true d q e = absurd (let z : ◌≡◌ {A = ℕ} 0 1 = cc in omega arith)
-    by false false true q e = and_left (is_legacy v) (not (present v k_new_meta_map)) (and_left (is_legacy v && not (present v k_new_meta_map)) (in_span v k_new_object (number_of_spaces v) b) q)
+    by false false true q e = (and_parts (is_legacy v) (not (present v k_new_meta_map)) (and_parts (is_legacy v && not (present v k_new_meta_map)) (in_span v k_new_object (number_of_spaces v) b) q).0).0
     by false false false q e = absurd (let z : ◌≡◌ {A = ℕ} 0 1 = cc in omega arith)

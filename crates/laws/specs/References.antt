@@ -15,7 +15,7 @@ use Rattle.tables.specs.declared.values.Ref.{Ref}
 use Rattle.tables.specs.declared.values.Ref.TheVariants.{Object, Root, RoRef, Attached}
 use Rattle.tables.specs.declared.values.SlotValue.{SlotValue}
 use Rattle.tables.specs.declared.values.SlotValue.TheVariants.{Ref as IsRef, RepeatPrev, Skip, StreamBytes, ClearedWeak}
-use Rattle.tables.specs.Values.{pick_ℕ, ref_fields, width_of}
+use Rattle.tables.specs.Values.{pick_ℕ, width_of}
 use Rattle.backref.specs.HotRing.{entered, hot_at}
 use Rattle.backref.specs.declared.legacy.BackrefError.TheVariants.{Cut, Unknown}
 use Rattle.backref.specs.Legacy.{Answer, backref_of}
@@ -63,10 +63,10 @@ module _ {x : Input} {I : List Frame → Mem → Type 0} {W : Mem → SlotValue 
   -- ---- references without others in them
 
   -- a reference that enters the ring
-  hot_ends : {S : List Frame} {m₀ m : Mem} → Good x I S m₀ m → (r : Ref) → W m (IsRef r) → {Q : SlotValue → Mem → Type 0} → Q (IsRef r) (with_hot (entered m.hot (ref_fields r)) m) → Ends x I m₀ (λ _. S) Q (refers_hot r m)
+  hot_ends : {S : List Frame} {m₀ m : Mem} → Good x I S m₀ m → (r : Ref) → W m (IsRef r) → {Q : SlotValue → Mem → Type 0} → Q (IsRef r) (with_hot (entered m.hot r) m) → Ends x I m₀ (λ _. S) Q (refers_hot r m)
   hot_ends w r h q = gives (good_entered R w r h) q
 
-  entered_has : {m : Mem} (r : Ref) → W m (IsRef r) → W (with_hot (entered m.hot (ref_fields r)) m) (IsRef r)
+  entered_has : {m : Mem} (r : Ref) → W m (IsRef r) → W (with_hot (entered m.hot r) m) (IsRef r)
   entered_has {m} r h = R.aside m _ (IsRef r) refl h
 
   pub refers_hot_keeps : (r : Ref) → GivenRef r → Keeping x I Gives (refers_hot r)

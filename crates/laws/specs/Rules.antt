@@ -12,7 +12,7 @@ use Rattle.tables.specs.declared.values.Ref.TheVariants.{Object, Root, RoRef, At
 use Rattle.tables.specs.declared.values.SlotValue.{SlotValue}
 use Rattle.tables.specs.declared.values.SlotValue.TheVariants.{Ref as IsRef, Repeat, RepeatPrev, Skip, StreamBytes, Raw as IsRaw, ClearedWeak, WeakRef, PendingRef}
 use Rattle.tables.specs.declared.values.Fields.{Fields}
-use Rattle.tables.specs.Values.{ref_fields, fields_of, width_of}
+use Rattle.tables.specs.Values.{fields_of, width_of}
 use Rattle.tables.specs.Records.{room, object_row, slot_row, value_row}
 use Rattle.alloc.specs.Allocation.{Outcome, allocate_of}
 use Rattle.backref.specs.HotRing.{entered, hot_at}
@@ -135,7 +135,7 @@ pub record Rules (x : Input) (I : List Frame → Mem → Type 0) (W : Mem → Sl
   -- a with-skip amount is read
   pub on_amount : (S : List Frame) (m : Mem) (n : ℕ) → Sound x m → I S m → HeadOf x with_amount → n < 2 ^ 30 → I S (with_skip (m.skip + n) m)
   -- a reference enters the ring
-  pub on_enter : (S : List Frame) (m : Mem) (r : Ref) → Sound x m → I S m → W m (IsRef r) → I S (with_hot (entered m.hot (ref_fields r)) m)
+  pub on_enter : (S : List Frame) (m : Mem) (r : Ref) → Sound x m → I S m → W m (IsRef r) → I S (with_hot (entered m.hot r) m)
   -- values
   pub aside : (m m' : Mem) (v : SlotValue) → Aside m m' → W m v → W m' v
   pub on_given : (S : List Frame) (m : Mem) (v : SlotValue) → I S m → Given x v → W m v

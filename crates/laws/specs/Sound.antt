@@ -23,7 +23,7 @@ pub record Sound (x : Input) (m : Mem) : Type 0 where
   pub slots_fit : Within 6 m.slots
   pub values_fit : Within 3 m.values
   pub addresses_fit : Within 5 m.addresses
-  pub ring : length m.hot ≡ 25
+  pub ring : length m.hot.places ≡ 8
   pub chunks : length m.alloc.cur ≡ 256
   pub offsets : length m.alloc.used ≡ 256
   pub skip_low : m.skip ≤ m.at * 2 ^ 30

@@ -6,11 +6,11 @@ use Rattle.tables.specs.declared.values.Ref.{Ref}
 use Rattle.tables.specs.declared.values.SlotValue.{SlotValue}
 use Rattle.tables.specs.declared.values.SlotValue.TheVariants.{Ref as IsRef}
 use Rattle.tables.specs.declared.values.Fields.{Fields}
-use Rattle.tables.specs.Values.{ref_fields}
 use Rattle.tables.specs.Records.{room, field, object_row, slot_row, value_row, written}
 use Rattle.tables.proofs.RecordLaws.{record_end, written_length, written_same, written_else, set_else}
 use Rattle.alloc.specs.declared.legacy_alloc.LegacyAlloc.{LegacyAlloc}
 use Rattle.alloc.specs.Allocation.{Outcome}
+use Rattle.backref.specs.declared.hot_ring.HotRing.{HotRing}
 use Rattle.backref.specs.HotRing.{entered}
 use Rattle.definition.specs.Memory.{Input, Event, Table, table, Mem, Out, got, no, Reader, and_then, choose, moved, with_objects, with_slots, with_values, with_hot, with_pending, with_skip, with_alloc, aligned, noted, added, append}
 use Rattle.definition.specs.Slots.{counted}
@@ -141,7 +141,7 @@ module _ {x : Input} {m₀ m : Mem} (w : Kept x m₀ m) where
         onward = omega (arith, w.onward);
       }
 
-  pub kept_hot : (h : List ℕ) → length h ≡ length m.hot → Kept x m₀ (with_hot h m)
+  pub kept_hot : (h : HotRing) → length h.places ≡ length m.hot.places → Kept x m₀ (with_hot h m)
   kept_hot h e =
       record {
         sound = omega (arith, w.sound);
@@ -254,8 +254,8 @@ module _ {x : Input} {I : List Frame → Mem → Type 0} {W : Mem → SlotValue 
   pub good_moved : (at : ℕ) → m.at ≤ at → at ≤ length x.payload → Good x I S m₀ (moved at m)
   good_moved at h l = record { kept = kept_moved w.kept at h l; has = R.on_move S m at w.kept.sound w.has h l; listed = w.listed }
 
-  pub good_entered : (r : Ref) → W m (IsRef r) → Good x I S m₀ (with_hot (entered m.hot (ref_fields r)) m)
-  good_entered r v = record { kept = kept_hot w.kept _ (entered_length m.hot (ref_fields r)); has = R.on_enter S m r w.kept.sound w.has v; listed = w.listed }
+  pub good_entered : (r : Ref) → W m (IsRef r) → Good x I S m₀ (with_hot (entered m.hot r) m)
+  good_entered r v = record { kept = kept_hot w.kept _ (entered_length m.hot r); has = R.on_enter S m r w.kept.sound w.has v; listed = w.listed }
 
   pub good_aligned : (a : ℕ) → Good x I S m₀ (aligned a m)
   good_aligned a = record { kept = kept_aligned w.kept a; has = R.on_aligned S m a w.has; listed = w.listed }

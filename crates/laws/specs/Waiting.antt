@@ -7,7 +7,7 @@ use Rattle.std.proofs.Math.Bool.{true, false}
 use Prim.Native.Nat.{ℕ, zero, suc, ◌+◌, ◌-◌, ◌<◌, ◌≤◌}
 use native.Mathlib.Omega.{arith}
 use borrow.Author.Tests.{eqb-true, eqb-false, eq-eqb, ne_eqb}
-use Rattle.sheet.proofs.UsableSheet.{and_left, and_right}
+use Rattle.std.proofs.lemmas.Bool.{and_parts}
 use Rattle.tables.specs.declared.values.Fields.{Fields}
 use Rattle.tables.specs.Values.{pick_ℕ}
 use Rattle.tables.specs.Records.{room, field, slot_row, written, filled}
@@ -92,7 +92,7 @@ count_less st st' j (suc n) h y w s =
 
 module _ (st : List ℕ) (number : ℕ) where
   said : (k : ℕ) → waits_for st number k ≡ true → (Waiting st k) × (field 6 st k 3 ≡ number)
-  said k e = (eqb-true _ _ (and_left (eqb (field 6 st k 5) 1) (eqb (field 6 st k 3) number) e), eqb-true _ _ (and_right (eqb (field 6 st k 5) 1) (eqb (field 6 st k 3) number) e))
+  said k e = (eqb-true _ _ (and_parts (eqb (field 6 st k 5) 1) (eqb (field 6 st k 3) number) e).0, eqb-true _ _ (and_parts (eqb (field 6 st k 5) 1) (eqb (field 6 st k 3) number) e).1)
 
   -- what the search finds waits under the number
   pub waiter_found : (n k : ℕ) → waiter st number n ≡ suc k → (k < n) × (Waiting st k) × (field 6 st k 3 ≡ number)

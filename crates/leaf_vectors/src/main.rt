@@ -59,8 +59,8 @@ fn smis(rt: &impl Print) -> io::Result<()> {
 }
 
 // Sheet A of document 01.
-fn sheet_a() -> [u16; 58] {
-    let mut sheet = [ABSENT; 58];
+fn sheet_a() -> [u16; SHEET_LENGTH] {
+    let mut sheet = [ABSENT; SHEET_LENGTH];
     sheet[K_NEW_OBJECT] = 0x00;
     sheet[K_BACKREF] = 0x08;
     sheet[K_READ_ONLY_HEAP_REF] = 0x09;
@@ -88,7 +88,8 @@ fn show_heads(rt: &impl Print, sheet: &[u16], bytes: &[u8]) -> io::Result<()> {
     if let Some(heads) = decode(sheet) {
         for &byte in bytes {
             let b = usize::from(byte);
-            println!(rt; "head {} {}", heads[b], heads[256 + b])?;
+            let head = heads[b];
+            println!(rt; "head {} {}", head.kind as u64, head.argument)?;
         }
     }
     Ok(())

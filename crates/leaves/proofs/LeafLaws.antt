@@ -2,49 +2,57 @@
 use mathlib.Core.Path.{◌≡◌, refl, sym, ap, subst, ◌∙◌}
 use mathlib.Core.Bool.{Bool, true, false}
 use mathlib.Core.List.{List}
-use Prim.Native.Nat.{ℕ, ◌+◌, ◌*◌, ◌^◌, ◌<◌, ◌≤◌}
+use mathlib.Core.Logic.{⊎_elim}
+use Prim.Native.Nat.{ℕ, ◌+◌, ◌*◌, ◌/◌, ◌^◌, ◌<◌, ◌≤◌}
 use native.Mathlib.Nat.{mul-le-mul, le_of_lt}
 use native.Mathlib.Omega.{arith}
 use borrow.Author.Tests.{lt-ltb}
 use lib.ListN.{length, get_or, set}
-use Rattle.std.specs.Prelude.{Some, Ok}
+use Rattle.std.specs.Prelude.{Option, Some, None, Ok, Err}
+use Rattle.std.specs.Result.{result_ok}
 use Rattle.stream.specs.Bytes.{raw_at}
 use Rattle.stream.specs.declared.putint.Int.{Int}
 use Rattle.stream.specs.PutInt.{int_at}
-use Rattle.sheet.specs.Sheet.{word_bytes}
+use Rattle.sheet.specs.Sheet.{word_bytes, usable}
+use Rattle.sheet.proofs.UsableSheet.{usable_gives}
+use Rattle.heads.specs.Heads.{head_at, Heads}
+use Rattle.heads.specs.declared.heads.Head.{Head}
+use Rattle.heads.specs.Kinds.{kind_number}
 use Rattle.tables.specs.declared.values.Ref.{Ref}
-use Rattle.tables.specs.declared.values.Ref.TheVariants.{Object, Root, RoRef, Attached}
+use Rattle.tables.specs.declared.values.Ref.TheVariants.{Object, Root, RoRef}
 use Rattle.tables.specs.declared.values.SlotValue.{SlotValue}
 use Rattle.tables.specs.declared.values.SlotValue.TheVariants.{Ref as IsRef, Raw as IsRaw}
-use Rattle.tables.specs.Values.{ref_fields, triple}
+use Rattle.tables.specs.Values.{fields_of, width_of}
 use Rattle.tables.specs.Records.{room, field, slot_row, written, pick_table, Put}
-use Rattle.backref.specs.HotRing.{entered, hot_at}
+use Rattle.backref.specs.declared.hot_ring.HotRing.{HotRing}
+use Rattle.backref.specs.HotRing.{hot_at}
 use Rattle.backref.specs.declared.legacy.Backref.{Backref}
 use Rattle.backref.specs.Legacy.{Answer, backref_of}
-use Rattle.definition.specs.Memory.{Input, word, Mem, got, moved, with_hot, int, Reader}
-use Rattle.definition.specs.Slots.{keep_item, place_item}
-use Rattle.definition.specs.Reference.{backref_to, refers, refers_hot, by_head}
+use Rattle.definition.specs.Memory.{Input, word, Mem, got, moved, int, byte, Reader}
+use Rattle.definition.specs.Slots.{add_slot, waits_of, keep_item, place_item}
+use Rattle.definition.specs.Reference.{backref_to, refers, refers_hot, by_head, reference}
 use Rattle.readers.specs.declared.state.State.{State}
-use Rattle.readers.specs.Views.{Lent, input, mem, hot_is}
+use Rattle.readers.specs.declared.walker.Walker.{Walker}
+use Rattle.readers.specs.Views.{Lent, input, mem, hot_is, slots_is, objects_is, moved_to}
+use Rattle.readers.specs.Lent.{input_of, lent_of}
+use Rattle.readers.proofs.HeadFacts.{head_fits}
 use Rattle.readers.proofs.ViewLaws.{then_got}
 use Rattle.readers.proofs.SimpleLaws.{backref_in, hot_is_lem, legacy_to, raw_to}
 use Rattle.leaves.specs.declared.leaf.Leaf.{Leaf}
-use Rattle.leaves.specs.Leaf.{ring, value_of, entering, Entered, Stands, Found, FoundIn, Placed}
+use Rattle.leaves.specs.Leaf.{ring_with, ring, after, Stands, Found, LeafAt, FoundIn, placed_in}
 
--- nothing is said of none
-pub none_found : (p hot : List ℕ) (objects ts at kind a : ℕ) (r : Leaf) → r.kind ≡ 0 → Found p hot objects ts at kind a r
-none_found p hot objects ts at kind a r e h = absurd (h e)
-
--- what holds at a key holds of what is the key
-pub found_kind : (p hot : List ℕ) (objects ts at a : ℕ) (r : Leaf) {kind key : ℕ} → kind ≡ key → Found p hot objects ts at key a r → Found p hot objects ts at kind a r
-found_kind p hot objects ts at a r e f = subst (λ (k : ℕ). Found p hot objects ts at k a r) (sym e) f
+-- a reference that is one word wide
+abbrev one_word : Ref → ℕ → ℕ → Bool → Leaf
+one_word r next ts enters = record { value = IsRef r; width = ts; next = next; enters = enters }
 
 -- what is right in every sheet is right in one
-pub found_in : (v p dt hot : List ℕ) (objects n alignment ts at kind a : ℕ) (r : Leaf) → Found p hot objects ts at kind a r → FoundIn v p dt hot objects n alignment ts at kind a r
-found_in v p dt hot objects n alignment ts at kind a r f h tr sp tag s l ew ea eo _ _ _ = f h v tr sp tag s l ew ea eo
+pub found_in : (w : Walker) (s : State) (ts at kind a : ℕ) (r : Option Leaf) → Found w.payload.now w.hot s.objects ts at kind a r → FoundIn w s ts at kind a r
+found_in w s ts at kind a (Some r) f = λ tag ew. f w.sheet.now w.trusted.now w.spaces tag (moved_to at s) (lent_of w) ew refl refl
+found_in w s ts at kind a None f = tt
 
-pub none-found_in : (v p dt hot : List ℕ) (objects n alignment ts at kind a : ℕ) (r : Leaf) → r.kind ≡ 0 → FoundIn v p dt hot objects n alignment ts at kind a r
-none-found_in v p dt hot objects n alignment ts at kind a r e = found_in v p dt hot objects n alignment ts at kind a r (none_found p hot objects ts at kind a r e)
+-- what holds at a kind holds of what is that kind
+pub found_kind : (p : List ℕ) (hot : HotRing) (objects ts at a : ℕ) (r : Option Leaf) {kind key : ℕ} → kind ≡ key → Found p hot objects ts at key a r → Found p hot objects ts at kind a r
+found_kind p hot objects ts at a r e f = subst (λ (k : ℕ). Found p hot objects ts at k a r) (sym e) f
 
 -- a reference is a slot of one word
 module _ (x : Input) (r : Ref) where
@@ -53,101 +61,134 @@ module _ (x : Input) (r : Ref) where
   ref_kept o done m = refl
 
 -- an integer at the cursor
-pub int_got : (x : Input) (m : Mem) {i : Int} → int_at x.payload m.at ≡ Some i → got i.value (moved (m.at + i.count) m) ≡ int x m
+int_got : (x : Input) (m : Mem) {i : Int} → int_at x.payload m.at ≡ Some i → got i.value (moved (m.at + i.count) m) ≡ int x m
 unfolding int
 int_got x m e = rw e
 
--- a reference that enters the ring has the value and the fields of the reference
-pub entering_value : (r : Ref) (next ts : ℕ) → (ref_fields r).kind ≤ 3 → value_of (entering r next ts) ≡ IsRef r
-entering_value (Object i) next ts h = refl
-entering_value (Root i) next ts h = refl
-entering_value (RoRef c o) next ts h = refl
-entering_value (Attached i) next ts h = let z : ⊥ = omega (arith, h) in absurd z
+-- a hot head's argument is a place of the ring
+pub place_low : {v : List ℕ} {hs : List Head} → Heads v hs → (b : ℕ) → b < 256 → kind_number (head_at hs b).kind ≡ 7 → (head_at hs b).argument < 8
+place_low {v} h b l e = rw (h.argument b l) ((head_fits v b l).place (sym (h.kind b l) ∙ e))
 
--- and is that reference where it was read so
-entering_stands : (x : Input) (tag kind a : ℕ) (s : State) (l : Lent) (r : Ref) (next ts : ℕ) (leaf : Leaf) → leaf ≡ entering r next ts → value_of leaf ≡ IsRef r → word x ≡ ts
-    → ((inner : Reader SlotValue) → got (IsRef r) (with_hot (entered l.hot (ref_fields r)) (moved next (mem s l))) ≡ by_head x inner tag kind a (mem s l))
-    → Stands x tag kind a s l leaf
-entering_stands x tag kind a s l r next ts leaf e v ew read =
-    record { value = IsRef r; is = λ inner. rw e (read inner); fields = rw e; width = rw (e, ew); kept = ref_kept x r; waits = refl; valued = v }
+-- a reference that was read so, as a leaf
+ref_stands : (x : Input) (tag kind a : ℕ) (s : State) (l : Lent) (r : Ref) (next ts : ℕ) (enters : Bool) → word x ≡ ts
+    → ((inner : Reader SlotValue) → got (IsRef r) (mem (moved_to next s) (hot_is (ring_with enters (IsRef r) l.hot) l)) ≡ by_head x inner tag kind a (mem s l))
+    → Stands x tag kind a s l (one_word r next ts enters)
+ref_stands x tag kind a s l r next ts enters ew read =
+    record { is = read; width = sym ew; narrow = λ few. omega (arith, few, ew); kept = ref_kept x r; waits = refl }
 
-pub words_small : {n w : ℕ} → n < 2 ^ 30 → w ≤ 8 → n * w < 2 ^ 64
-words_small h l = let z = mul-le-mul (le_of_lt h) l in omega (arith, z)
+-- a usable sheet's words have 4 or 8 bytes
+pub words_low : (v : List ℕ) {w : ℕ} → usable v ≡ true → w ≡ word_bytes v → (0 < w) × (w ≤ 8)
+words_low v u e = ⊎_elim (λ f. (omega (arith, e, f), omega (arith, e, f))) (λ f. (omega (arith, e, f), omega (arith, e, f))) (usable_gives v u).word
 
-module _ (p hots : List ℕ) (objects ts at : ℕ) where
-  pub root_found : (i : ℕ) → Found p hots objects ts at 10 i (record { kind = 2; a = i; b = 0; width = ts; next = at; enters = false })
+narrow_words : {n w : ℕ} → n < 65536 → w ≤ 8 → n * w < 2 ^ 20
+narrow_words h l = let z = mul-le-mul (le_of_lt h) l in omega (arith, z)
+
+module _ (p : List ℕ) (hots : HotRing) (objects ts at : ℕ) where
+  pub root_found : (i : ℕ) → Found p hots objects ts at 10 i (Some (one_word (Root i) at ts false))
   unfolding by_head
-  root_found i h v tr sp tag s l ew ea eo =
-      record { value = IsRef (Root i); is = λ inner. rw (← ea); fields = refl; width = sym ew; kept = ref_kept (input v p sp tr) (Root i); waits = refl; valued = refl }
+  root_found i v tr sp tag s l ew ea eo =
+      ref_stands (input v p sp tr) tag 10 i s (hot_is hots l) (Root i) at ts false ew (λ inner. rw (← ea))
 
-  module _ (place : ℕ) where
-    hot-found : (r : Ref) (k i : ℕ) → value_of (record { kind = k; a = i; b = 0; width = ts; next = at; enters = false }) ≡ IsRef r → record { kind = k; a = i; b = 0 } ≡ ref_fields r → Some r ≡ hot_at hots place → Found p hots objects ts at 7 place (record { kind = k; a = i; b = 0; width = ts; next = at; enters = false })
-    unfolding by_head
-    hot-found r k i y f e h v tr sp tag s l ew ea eo =
-        record { value = IsRef r; is = λ inner. rw (← ea) (hot_is_lem (mem s (hot_is hots l)) place e refl); fields = f; width = sym ew; kept = ref_kept (input v p sp tr) r; waits = refl; valued = y }
-
-    module _ (k i : ℕ) (ek : k ≡ get_or hots (place * 3) 0) (ei : i ≡ get_or hots (place * 3 + 1) 0) where
-      pub hot_object : k ≡ 1 → Found p hots objects ts at 7 place (record { kind = k; a = i; b = 0; width = ts; next = at; enters = false })
-      unfolding hot_at
-      hot_object z = hot-found (Object i) k i (rw z) (rw z) (rw (← ek, z, ← ei))
-
-      pub hot_root : k ≡ 2 → Found p hots objects ts at 7 place (record { kind = k; a = i; b = 0; width = ts; next = at; enters = false })
-      unfolding hot_at
-      hot_root z = hot-found (Root i) k i (rw z) (rw z) (rw (← ek, z, ← ei))
-
-  pub back_found : (i : Int) (a : ℕ) → Some i ≡ int_at p at → i.value < objects → (leaf : Leaf) → Entered (Object i.value) (at + i.count) ts leaf → Found p hots objects ts at 2 a leaf
+  pub hot_found : (place : ℕ) {h : Option Ref} → h ≡ hot_at hots place → (r : Ref) → h ≡ Some r → Found p hots objects ts at 7 place (Some (one_word r at ts false))
   unfolding by_head
-  back_found i a e b leaf q h v tr sp tag s l ew ea eo =
+  hot_found place e r k v tr sp tag s l ew ea eo =
+      ref_stands (input v p sp tr) tag 7 place s (hot_is hots l) r at ts false ew (λ inner. rw (← ea) (hot_is_lem (mem s (hot_is hots l)) place e k))
+
+  pub back_found : (i : Int) (a : ℕ) → int_at p at ≡ Some i → i.value < objects → Found p hots objects ts at 2 a (Some (one_word (Object i.value) (at + i.count) ts true))
+  unfolding by_head
+  back_found i a e b v tr sp tag s l ew ea eo =
       let x = input v p sp tr in
       let m : Mem = mem s (hot_is hots l) in
-      let g : got i.value (moved (s.at + i.count) m) ≡ int x m = int_got x m (ap (int_at p) ea ∙ sym e) in
-      entering_stands x tag 2 a s (hot_is hots l) (Object i.value) (at + i.count) ts leaf (q h).0 (q h).1 ew (λ inner. rw (← ea) (then_got backref_to g (backref_in (moved (s.at + i.count) m) i.value (rw eo b) refl)))
+      let g : got i.value (moved (s.at + i.count) m) ≡ int x m = int_got x m (ap (int_at p) ea ∙ e) in
+      ref_stands x tag 2 a s (hot_is hots l) (Object i.value) (at + i.count) ts true ew
+      (λ inner. rw (← ea) (then_got backref_to g (backref_in (moved (s.at + i.count) m) i.value (rw eo b))))
 
-  pub root_array_found : (i : Int) (a : ℕ) → Some i ≡ int_at p at → (leaf : Leaf) → Entered (Root i.value) (at + i.count) ts leaf → Found p hots objects ts at 9 a leaf
+  pub root_array_found : (i : Int) (a : ℕ) → int_at p at ≡ Some i → Found p hots objects ts at 9 a (Some (one_word (Root i.value) (at + i.count) ts true))
   unfolding by_head
-  root_array_found i a e leaf q h v tr sp tag s l ew ea eo =
+  root_array_found i a e v tr sp tag s l ew ea eo =
       let x = input v p sp tr in
       let m : Mem = mem s (hot_is hots l) in
-      let g : got i.value (moved (s.at + i.count) m) ≡ int x m = int_got x m (ap (int_at p) ea ∙ sym e) in
-      entering_stands x tag 9 a s (hot_is hots l) (Root i.value) (at + i.count) ts leaf (q h).0 (q h).1 ew (λ inner. rw (← ea) (then_got (λ i. refers_hot (Root i)) g refl))
+      let g : got i.value (moved (s.at + i.count) m) ≡ int x m = int_got x m (ap (int_at p) ea ∙ e) in
+      ref_stands x tag 9 a s (hot_is hots l) (Root i.value) (at + i.count) ts true ew (λ inner. rw (← ea) (then_got (λ i. refers_hot (Root i)) g refl))
 
-  pub read_only_found : (c o : Int) (a : ℕ) → Some c ≡ int_at p at → Some o ≡ int_at p (at + c.count) → Found p hots objects ts at 12 a (record { kind = 3; a = c.value; b = o.value; width = ts; next = at + c.count + o.count; enters = false })
+  pub read_only_found : (c o : Int) (a : ℕ) → int_at p at ≡ Some c → int_at p (at + c.count) ≡ Some o → Found p hots objects ts at 12 a (Some (one_word (RoRef c.value o.value) (at + c.count + o.count) ts false))
   unfolding by_head
-  read_only_found c o a e g h v tr sp tag s l ew ea eo =
+  read_only_found c o a e g v tr sp tag s l ew ea eo =
       let x = input v p sp tr in
       let m : Mem = mem s (hot_is hots l) in
       let m₁ : Mem = moved (s.at + c.count) m in
-      let q : got c.value m₁ ≡ int x m = int_got x m (ap (int_at p) ea ∙ sym e) in
-      let q₁ : got o.value (moved (s.at + c.count + o.count) m₁) ≡ int x m₁ = int_got x m₁ (ap (λ (at : ℕ). int_at p (at + c.count)) ea ∙ sym g) in
-      record { value = IsRef (RoRef c.value o.value); is = λ inner. rw (← ea) (then_got (λ c. λ m. _) q (then_got (λ o. refers (RoRef c.value o)) q₁ refl)); fields = refl; width = sym ew; kept = ref_kept x (RoRef c.value o.value); waits = refl; valued = refl }
+      let q : got c.value m₁ ≡ int x m = int_got x m (ap (int_at p) ea ∙ e) in
+      let q₁ : got o.value (moved (s.at + c.count + o.count) m₁) ≡ int x m₁ = int_got x m₁ (ap (λ (at : ℕ). int_at p (at + c.count)) ea ∙ g) in
+      ref_stands x tag 12 a s (hot_is hots l) (RoRef c.value o.value) (at + c.count + o.count) ts false ew
+      (λ inner. rw (← ea) (then_got (λ c. λ m. _) q (then_got (λ o. refers (RoRef c.value o)) q₁ refl)))
 
-  pub raw_found : (n end : ℕ) → Some end ≡ raw_at p at (n * ts) → Found p hots objects ts at 28 n (record { kind = 5; a = at; b = n * ts; width = n * ts; next = end; enters = false })
+  pub raw_found : (n end : ℕ) → n < 65536 → raw_at p at (n * ts) ≡ Some end → Found p hots objects ts at 28 n (Some (record { value = IsRaw (record { off = at; len = n * ts; advances = true }); width = n * ts; next = end; enters = false }))
   unfolding by_head place_item
-  raw_found n end e h v tr sp tag s l ew ea eo =
+  raw_found n end low e v tr sp tag s l ew ea eo =
       let x = input v p sp tr in
       let m : Mem = mem s (hot_is hots l) in
-      record { value = IsRaw (record { off = at; len = n * ts; advances = true }); is = λ inner. rw (← ea, ← ew) (raw_to x (n * word_bytes v) true m refl (rw (ea, ew) (sym e))); fields = refl; width = refl; kept = λ o done m. refl; waits = refl; valued = refl }
+      record { is = λ inner. rw (← ea, ← ew) (raw_to x (n * word_bytes v) true m refl (rw (ea, ew) e)); width = refl; narrow = λ few. narrow_words low (rw ew at few); kept = λ o done m. refl; waits = refl }
+
+-- what an answer has, where it has something
+pub answer_ok : (b : Answer) (r : Backref) → result_ok b ≡ Some r → b ≡ Ok r
+answer_ok (Ok q) r e = let z : q ≡ r = cc in rw z
+answer_ok (Err q) r e = absurd (let z : ◌≡◌ {A = ℕ} 0 1 = cc in omega arith)
 
 -- a legacy back-reference
-pub legacy-found : (v p dt hots : List ℕ) (objects n alignment ts at space : ℕ) {b : Answer} → b ≡ backref_of v p dt n alignment space at → (r : Backref) → b ≡ Ok r → (leaf : Leaf) → Entered r.target r.next ts leaf → {kind : ℕ} → kind ≡ 3 → FoundIn v p dt hots objects n alignment ts at kind space leaf
+pub legacy_found : (w : Walker) (s : State) (ts at space : ℕ) {b : Answer} → b ≡ backref_of w.sheet.now w.payload.now w.addresses.now s.addresses s.alignment space at → (r : Backref) → b ≡ Ok r
+    → FoundIn w s ts at 3 space (Some (one_word r.target r.next ts true))
 unfolding by_head
-legacy-found v p dt hots objects n alignment ts at space {b} e r k leaf q ek h tr sp tag s l ew ea eo en el ed =
-    let x = input v p sp tr in
-    let m : Mem = mem s (hot_is hots l) in
-    let g : b ≡ backref_of v p l.addresses s.addresses s.alignment space s.at = rw (ed, en, el, ea) e in
-    rw ek (entering_stands x tag 3 space s (hot_is hots l) r.target r.next ts leaf (q h).0 (q h).1 ew (λ inner. legacy_to x space m g (rw k refl) k))
+legacy_found w s ts at space {b} e r k tag ew =
+    ref_stands (input_of w) tag 3 space (moved_to at s) (lent_of w) r.target r.next ts true ew (λ inner. legacy_to (input_of w) space (mem (moved_to at s) (lent_of w)) e k)
+
+-- ---- a leaf as a reference
+
+-- a head at the cursor, read as a reference
+head_read : (w : Walker) (s : State) (l : Lent) (inner : Reader SlotValue) → Heads w.sheet.now w.heads.now → s.at < length w.payload.now → get_or w.payload.now s.at 0 < 256
+    → by_head (input_of w) inner s.at (kind_number (head_at w.heads.now (get_or w.payload.now s.at 0)).kind) (head_at w.heads.now (get_or w.payload.now s.at 0)).argument (mem (moved_to (s.at + 1) s) l) ≡ reference (input_of w) inner (mem s l)
+unfolding reference byte
+head_read w s l inner h b c = rw (lt-ltb s.at (length w.payload.now) b, h.kind (get_or w.payload.now s.at 0) c, h.argument (get_or w.payload.now s.at 0) c)
+
+module _ (w : Walker) (at objects ts : ℕ) (r : Leaf) (decoded : Heads w.sheet.now w.heads.now) (words : ts ≡ word_bytes w.sheet.now) (found : LeafAt w at objects ts (Some r)) where
+  pub leaf_read : (inner : Reader SlotValue) (s : State) (l : Lent) → s.at ≡ at → s.objects ≡ objects → l.hot ≡ w.hot → got r.value (mem (after r s) (hot_is (ring r l.hot) l)) ≡ reference (input_of w) inner (mem s l)
+  leaf_read inner s l ea eo eh =
+      let stands = rw (← eh) at (found.1 w.sheet.now w.trusted.now w.spaces s.at (moved_to (s.at + 1) s) l (sym words) (ap (λ (i : ℕ). i + 1) ea) eo) in
+      stands.is inner ∙ rw (← ea) (head_read w s l inner decoded (rw ea found.0.0) (rw ea found.0.1))
 
 -- ---- its slot
+
+-- the state after a leaf's slot
+abbrev pub stepped : Leaf → State → State
+stepped r s =
+    record
+    { at = r.next; objects = s.objects; slots = s.slots + 1; values = s.values; addresses = s.addresses; pending = s.pending; waiting = s.waiting; skip = 0; alignment = s.alignment }
+
+-- a leaf's slot is that of an item with its value
+slot_kept : (x : Input) (o done : ℕ) (s : State) (l : Lent) (r : Leaf) {w : ℕ} → word x ≡ w → r.width ≡ width_of w r.value → 0 ≡ waits_of r.value → s.slots < room 6 l.slots → {ot st : List ℕ} → st ≡ written l.slots s.slots (slot_row o ((done + s.skip) / w) (fields_of r.value) 0) → ot ≡ set l.objects (o * 4 + 3) (field 4 l.objects o 3 + 1)
+    → got (done + s.skip + r.width) (mem (stepped r s) (objects_is ot (slots_is st l))) ≡ keep_item x o done r.value (mem (after r s) l)
+unfolding keep_item add_slot
+slot_kept x o done s l r ew eb ez b es eo =
+    let z : s.waiting + 0 ≡ s.waiting = omega arith in
+    rw (ew, ← ez, lt-ltb s.slots (room 6 l.slots) b, es, eo, z, eb)
+
+-- a leaf at the cursor as an item of object o
+module _ (w : Walker) (s : State) (ts : ℕ) (r : Leaf) (decoded : Heads w.sheet.now w.heads.now) (words : ts ≡ word_bytes w.sheet.now) (in_payload : s.at < length w.payload.now) (small : get_or w.payload.now s.at 0 < 256)
+    (found : FoundIn w s ts (s.at + 1) (kind_number (head_at w.heads.now (get_or w.payload.now s.at 0)).kind) (head_at w.heads.now (get_or w.payload.now s.at 0)).argument (Some r)) where
+  abbrev is : Stands (input_of w) s.at (kind_number (head_at w.heads.now (get_or w.payload.now s.at 0)).kind) (head_at w.heads.now (get_or w.payload.now s.at 0)).argument (moved_to (s.at + 1) s) (lent_of w) r
+  is = found s.at (sym words)
+
+  pub item_narrow : ts ≤ 8 → r.width < 2 ^ 20
+  item_narrow few = is.narrow (rw words at few)
+
+  pub item_read : (o done : ℕ) (ot st : List ℕ) (hot : HotRing) → s.slots < room 6 w.slots.now → st ≡ written w.slots.now s.slots (slot_row o ((done + s.skip) / ts) (fields_of r.value) 0) → ot ≡ set w.objects.now (o * 4 + 3) (field 4 w.objects.now o 3 + 1) → hot ≡ ring r w.hot → (inner : Reader SlotValue)
+      → got (done + s.skip + r.width) (mem (stepped r s) (objects_is ot (slots_is st (hot_is hot (lent_of w))))) ≡ placed_in (input_of w) (reference (input_of w) inner) o done (mem s (lent_of w))
+  item_read o done ot st hot b es eo eh inner =
+      let m : Mem = mem (after r s) (hot_is (ring r w.hot) (lent_of w)) in
+      let read : got r.value m ≡ reference (input_of w) inner (mem s (lent_of w)) = is.is inner ∙ head_read w s (lent_of w) inner decoded in_payload small in
+      let k : got (done + s.skip + r.width) (mem (stepped r s) (objects_is ot (slots_is st (hot_is (ring r w.hot) (lent_of w))))) ≡ keep_item (input_of w) o done r.value m =
+      slot_kept (input_of w) o done s (hot_is (ring r w.hot) (lent_of w)) r (sym words) (is.width ∙ ap (λ (k : ℕ). width_of k r.value) (sym words)) is.waits b es eo in
+      rw eh (then_got (place_item (input_of w) o done) read (k ∙ is.kept o done m))
 
 -- a record for which there is room is put
 pub room_put : {t : List ℕ} {n : ℕ} {row : List ℕ} {r : Bool} {after : List ℕ} → Put t n row r after → n < room (length row) t → after ≡ written t n row
 room_put {t} {n} {row} p b = p.table ∙ ap (λ b. pick_table b (written t n row) t) (lt-ltb n (room (length row) t) b)
-
--- where no leaf was found, or its record had no room, all stays
-pub none-placed : (n o index : ℕ) (r : Leaf) (objects slots hot : List ℕ) → r.kind ≡ 0 → {slots' : List ℕ} → slots' ≡ slots → Placed n o index r objects slots hot objects slots' hot
-none-placed n o index r objects slots hot e s =
-    record { none = λ _. (refl, s, refl); roomy = λ h. absurd (h e); slot = λ h. absurd (h e); count = λ h. absurd (h e); rings = λ h. absurd (h e) }
-
-pub some_placed : (n o index : ℕ) (r : Leaf) (objects slots hot objects' slots' hot' : List ℕ) → (r.kind ≡ 0 → ⊥) → n < room 6 slots → slots' ≡ written slots n (slot_row o index (triple r.kind r.a r.b) 0) → objects' ≡ set objects (o * 4 + 3) (field 4 objects o 3 + 1) → hot' ≡ ring r hot → Placed n o index r objects slots hot objects' slots' hot'
-some_placed n o index r objects slots hot objects' slots' hot' h b s c g =
-    record { none = λ e. absurd (h e); roomy = λ _. b; slot = λ _. s; count = λ _. c; rings = λ _. g }

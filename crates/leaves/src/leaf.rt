@@ -1,372 +1,242 @@
-// The commonest references that hold no other, read without a state, so that a slot with one of them costs little: a root, a hot place, a
-// back-reference (in an item a legacy one too), a read-only reference and fixed raw data. What is refused is left to the readers of every reference.
-ghost use Rattle.std.specs.Prelude.{true, ◌&&◌, ◌≡◌, List, ℕ, ◌+◌, ◌*◌, ◌^◌, ◌<◌, ◌≤◌, ltb, eqb, length, get_or, drop};
-ghost use Rattle.sheet.specs.Sheet.{usable};
-ghost use Rattle.tables.specs.Records.{room, field};
-ghost use Rattle.address_index.specs.Links.{Linked};
-ghost use Rattle.address_index.specs.Sorted.{Sorted};
-ghost use Rattle.definition.specs.Memory.{got};
-ghost use Rattle.readers.specs.Views.{Lent, mem, seen, hot_is};
-ghost use Rattle.leaves.specs.Leaf.{HeadsFit, ring_with, ring, after, value_of, Entered, Found, FoundIn, Placed};
+// The commonest references that hold no other, read without the readers of every reference, so that a slot with one of them costs little: a
+// root, a hot place, a back-reference (in an item a legacy one too), a read-only reference and fixed raw data. What is refused is left to the
+// readers of every reference.
 
-use address_index::resolve::AddressIndex;
-use backref::hot_ring::add_fields;
-use backref::legacy::LegacyReader;
-use readers::parts::index_start;
-use readers::state::{State, Step};
+ghost use Rattle.std.specs.Prelude.{true, ◌≡◌, List, ℕ, ◌+◌, ◌*◌, ◌^◌, ◌<◌, ◌≤◌, length, get_or, IfSome, IsNone};
+ghost use Rattle.sheet.specs.Sheet.{word_bytes};
+ghost use Rattle.heads.specs.Heads.{head_at, Heads};
+ghost use Rattle.heads.specs.Kinds.{kind_number};
+ghost use Rattle.tables.specs.Records.{field};
+ghost use Rattle.tables.specs.declared.values.SlotValue.{SlotValue};
+ghost use Rattle.tables.specs.declared.values.SlotValue.TheVariants.{Ref as IsRef};
+ghost use Rattle.backref.specs.declared.hot_ring.HotRing.{HotRing};
+ghost use Rattle.definition.specs.Memory.{Reader, got};
+ghost use Rattle.definition.specs.Reference.{reference as referenceOf};
+ghost use Rattle.readers.specs.Views.{mem};
+ghost use Rattle.readers.specs.Lent.{input_of, lent_of, Kept, Addressed};
+ghost use Rattle.leaves.specs.Leaf.{Found, LeafAt, FoundIn, StaysInOrder, opens_at, placed_in, ring_with};
+
+use backref::hot_ring::HotRing;
+use heads::heads::Head;
+use heads::kinds::Kind;
+use readers::simple::find_backref;
+use readers::state::State;
+use readers::walker::Walker;
 use stream::bytes::{byte, raw};
 use stream::putint::putint;
 use tables::records::{add_slot, count_slot};
-use tables::values::{Fields, Raw, Ref, SlotValue, fields_of};
+use tables::values::{Raw, Ref, SlotValue, fields_of};
 
-// Kind, a and b of a slot, its width, the cursor after it, and whether it enters the hot ring. Kind 0: none of these references, or
-// one to refuse.
+// A value, its width as an item, the cursor after it, and whether it enters the hot ring.
 #[derive(Clone, Copy)]
 pub struct Leaf {
-    pub kind: u64,
-    pub a: u64,
-    pub b: u64,
+    pub value: SlotValue,
     pub width: u64,
     pub next: usize,
     pub enters: bool,
 }
 
-// No leaf.
-pub fn none() -> Leaf
-    ensures { result.kind ≡ 0 }
+// A reference, which is one word wide.
+fn reference(r: Ref, next: usize, word: u64, enters: bool) -> Leaf
+    ensures { result ≡ record { value = IsRef r; width = word; next = next; enters = enters } }
 {
     Leaf {
-        kind: 0,
-        a: 0,
-        b: 0,
-        width: 0,
-        next: 0,
-        enters: false,
-    }
-}
-
-// A root by its head.
-fn root_leaf(i: u64, next: usize, word: u64) -> Leaf
-    ensures { (p hot : List ℕ) (objects : ℕ) → Found p hot objects word next 10 i result }
-{
-    Leaf {
-        kind: 2,
-        a: i,
-        b: 0,
+        value: SlotValue::Ref(r),
         width: word,
         next,
-        enters: false,
+        enters,
     }
 }
 
-// An object or a root at a place of the hot ring.
-fn hot_leaf(hot: &[u64; 25], place: usize, next: usize, word: u64) -> Leaf
+// A reference at a place of the hot ring.
+fn hot_leaf(hot: &HotRing, place: usize, next: usize, word: u64) -> Option<Leaf>
     requires { place < 8 }
     ensures { (p : List ℕ) (objects : ℕ) → Found p hot.now objects word next 7 place result }
 {
-    let kind = hot[place * 3];
-    let a = hot[place * 3 + 1];
-    if kind != 1 {
-        if kind != 2 {
-            return none();
-        }
-    }
-    Leaf {
-        kind,
-        a,
-        b: 0,
-        width: word,
-        next,
-        enters: false,
-    }
-}
-
-// A reference that enters the ring: an object, a root or a read-only place.
-fn entering(r: Ref, next: usize, word: u64) -> Leaf
-    ensures { Entered r next word result }
-{
-    let f = fields_of(SlotValue::Ref(r));
-    if 3 < f.kind {
-        return none();
-    }
-    Leaf {
-        kind: f.kind,
-        a: f.a,
-        b: f.b,
-        width: word,
-        next,
-        enters: true,
-    }
+    let r = hot.get(place)?;
+    Some(reference(r, next, word, false))
 }
 
 // An object by plain index, which enters the ring.
-fn back_leaf(p: &[u8], at: usize, objects: usize, word: u64) -> Leaf
-    ensures { (hot : List ℕ) (i : ℕ) → Found p.now hot objects word at 2 i result }
+fn back_leaf(p: &[u8], at: usize, objects: usize, word: u64) -> Option<Leaf>
+    ensures { (hot : HotRing) (i : ℕ) → Found p.now hot objects word at 2 i result }
 {
-    let Some(i) = putint(p, at) else {
-        return none();
-    };
+    let i = putint(p, at)?;
     if objects as u64 <= i.value as u64 {
-        return none();
+        return None;
     }
-    entering(Ref::Object(i.value as u64), at + i.count, word)
+    Some(reference(Ref::Object(i.value as u64), at + i.count, word, true))
 }
 
 // A root by integer, which enters the ring.
-fn root_array_leaf(p: &[u8], at: usize, word: u64) -> Leaf
-    ensures { (hot : List ℕ) (objects i : ℕ) → Found p.now hot objects word at 9 i result }
+fn root_array_leaf(p: &[u8], at: usize, word: u64) -> Option<Leaf>
+    ensures { (hot : HotRing) (objects i : ℕ) → Found p.now hot objects word at 9 i result }
 {
-    let Some(i) = putint(p, at) else {
-        return none();
-    };
-    entering(Ref::Root(i.value as u64), at + i.count, word)
+    let i = putint(p, at)?;
+    Some(reference(Ref::Root(i.value as u64), at + i.count, word, true))
 }
 
 // A read-only reference.
-fn read_only_leaf(p: &[u8], at: usize, word: u64) -> Leaf
-    ensures { (hot : List ℕ) (objects i : ℕ) → Found p.now hot objects word at 12 i result }
+fn read_only_leaf(p: &[u8], at: usize, word: u64) -> Option<Leaf>
+    ensures { (hot : HotRing) (objects i : ℕ) → Found p.now hot objects word at 12 i result }
 {
-    let Some(chunk) = putint(p, at) else {
-        return none();
-    };
+    let chunk = putint(p, at)?;
     let next = at + chunk.count;
-    let Some(offset) = putint(p, next) else {
-        return none();
-    };
-    Leaf {
-        kind: 3,
-        a: chunk.value as u64,
-        b: offset.value as u64,
-        width: word,
-        next: next + offset.count,
-        enters: false,
-    }
+    let offset = putint(p, next)?;
+    let end = next + offset.count;
+    Some(reference(
+        Ref::RoRef(chunk.value as u64, offset.value as u64),
+        end,
+        word,
+        false,
+    ))
 }
 
 // Fixed raw data of n words.
-fn raw_leaf(p: &[u8], at: usize, n: u64, word: u64) -> Leaf
+fn raw_leaf(p: &[u8], at: usize, n: u64, word: u64) -> Option<Leaf>
     requires { (n < 65536) × (word ≤ 8) }
-    ensures { (hot : List ℕ) (objects : ℕ) → Found p.now hot objects word at 28 n result }
+    ensures { (hot : HotRing) (objects : ℕ) → Found p.now hot objects word at 28 n result }
 {
     let bytes = n * word;
-    let Some(end) = raw(p, at, bytes as usize) else {
-        return none();
-    };
-    Leaf {
-        kind: 5,
-        a: at as u64,
-        b: bytes,
+    let next = raw(p, at, bytes as usize)?;
+    Some(Leaf {
+        value: SlotValue::Raw(Raw {
+            off: at as u64,
+            len: bytes,
+            advances: true,
+        }),
         width: bytes,
-        next: end,
+        next,
         enters: false,
+    })
+}
+
+// The leaf that a head begins, after which the cursor stands.
+fn leaf_of(w: &Walker, head: Head, at: usize, objects: usize, word: u64) -> Option<Leaf>
+    requires { (word ≤ 8) × (kind_number head.kind ≡ 7 → head.argument < 8) }
+    ensures { Found w.now.payload.now w.now.hot objects word at (kind_number head.kind) head.argument result }
+{
+    let p = w.payload;
+    let a = head.argument as u64;
+    match head.kind {
+        Kind::Backref => back_leaf(p, at, objects, word),
+        Kind::Hot => hot_leaf(&w.hot, a as usize, at, word),
+        Kind::RootArray => root_array_leaf(p, at, word),
+        Kind::RootConstant => Some(reference(Ref::Root(a), at, word, false)),
+        Kind::ReadOnly => read_only_leaf(p, at, word),
+        Kind::FixedRaw => raw_leaf(p, at, a, word),
+        _ => None,
     }
 }
 
-// What stands at the cursor.
-pub fn leaf_at(
-    h: &[u16; 512],
-    p: &[u8],
-    hot: &[u64; 25],
-    at: usize,
-    objects: usize,
-    word: u64,
-) -> Leaf
-    requires { (word ≤ 8) × HeadsFit h.now }
-    ensures at_in_bounds { (result.kind ≡ 0 → ⊥) → (at < length p.now) × (get_or p.now at 0 < 256) }
-    ensures found { Found p.now hot.now objects word (at + 1) (get_or h.now (get_or p.now at 0) 0) (get_or h.now (256 + get_or p.now at 0) 0) result }
+// What stands at a place, where there are so many objects.
+pub fn leaf_at(w: &Walker, at: usize, objects: usize, word: u64) -> Option<Leaf>
+    requires { (word ≤ 8) × Heads w.now.sheet.now w.now.heads.now }
+    ensures { LeafAt w.now at objects word result }
 {
-    if p.len() <= at {
-        return none();
+    if w.payload.len() <= at {
+        return None;
     }
-    let b = byte(p, at) as usize;
-    let kind = h[b] as u64;
-    let a = h[256 + b] as u64;
-    let next = at + 1;
-    match kind {
-        2 => back_leaf(p, next, objects, word),
-        7 => {
-            if a < 8 {
-                return hot_leaf(hot, a as usize, next, word);
-            }
-            none()
-        }
-        9 => root_array_leaf(p, next, word),
-        10 => root_leaf(a, next, word),
-        12 => read_only_leaf(p, next, word),
-        28 => raw_leaf(p, next, a, word),
-        _ => none(),
-    }
+    let head = w.heads[byte(w.payload, at) as usize];
+    leaf_of(w, head, at + 1, objects, word)
 }
 
-// A legacy back-reference, which enters the ring. Its search needs the address records and their index.
-fn legacy_leaf<'a>(
-    v: &'a [u16],
-    h: &[u16; 512],
-    p: &'a [u8],
-    dt: &'a [u64],
-    sc: &'a [u64],
-    at: usize,
-    n: usize,
-    alignment: u64,
-    word: u64,
-) -> Leaf
-    requires n_bound { (n ≤ room 5 dt.now) × (usable v.now ≡ true) × HeadsFit h.now }
-    requires linked { Linked dt.now n (drop (length p.now) sc.now) × Sorted dt.now n }
-    ensures at_in_bounds { (result.kind ≡ 0 → ⊥) → (at < length p.now) × (get_or p.now at 0 < 256) }
-    ensures found { (hot : List ℕ) (objects : ℕ) → FoundIn v.now p.now dt.now hot objects n alignment word (at + 1) (get_or h.now (get_or p.now at 0) 0) (get_or h.now (256 + get_or p.now at 0) 0) result }
+// A legacy back-reference to a space, which enters the ring. The cursor stands after its head.
+fn legacy_leaf(w: &Walker, s: State, at: usize, space: u64, word: u64) -> Option<Leaf>
+    requires addressed { Addressed w.now s.addresses }
+    ensures { FoundIn w.now s word at 3 space result }
 {
-    if p.len() <= at {
-        return none();
-    }
-    let b = byte(p, at) as usize;
-    if h[b] != 3 {
-        return none();
-    }
-    let space = h[256 + b] as u64;
-    let start = index_start(p, sc);
-    let reader = LegacyReader {
-        sheet: v,
-        payload: p,
-        addresses: AddressIndex {
-            table: dt,
-            links: &sc[start..],
-            count: n,
-        },
-        alignment,
-        space,
-    };
-    match reader.backref_at(at + 1) {
-        Ok(found) => entering(found.target, found.next, word),
-        Err(_) => none(),
-    }
-}
-
-// A new object stands at the cursor: the commonest of what is no leaf, so that it is looked for first.
-pub fn opens_object(h: &[u16; 512], p: &[u8], at: usize) -> bool
-    ensures { result ≡ ltb at (length p.now) && eqb (get_or h.now (get_or p.now at 0) 0) 1 }
-{
-    if p.len() <= at {
-        return false;
-    }
-    let b = byte(p, at) as usize;
-    h[b] == 1
+    let b = find_backref(w, s, space, at).ok()?;
+    Some(reference(b.target, b.next, word, true))
 }
 
 // What stands at the cursor, a legacy back-reference too.
-fn any_leaf(
-    v: &[u16],
-    h: &[u16; 512],
-    p: &[u8],
-    dt: &[u64],
-    sc: &[u64],
-    hot: &[u64; 25],
-    at: usize,
-    objects: usize,
-    n: usize,
-    alignment: u64,
-    word: u64,
-) -> Leaf
-    requires word_bound { (word ≤ 8) × HeadsFit h.now }
-    requires n_bound { (n ≤ room 5 dt.now) × (usable v.now ≡ true) }
-    requires linked { Linked dt.now n (drop (length p.now) sc.now) × Sorted dt.now n }
-    ensures at_in_bounds { (result.kind ≡ 0 → ⊥) → (at < length p.now) × (get_or p.now at 0 < 256) }
-    ensures found { FoundIn v.now p.now dt.now hot.now objects n alignment word (at + 1) (get_or h.now (get_or p.now at 0) 0) (get_or h.now (256 + get_or p.now at 0) 0) result }
+fn any_leaf(w: &Walker, s: State, word: u64) -> Option<Leaf>
+    requires decoded { (word ≤ 8) × Heads w.now.sheet.now w.now.heads.now }
+    requires addressed { Addressed w.now s.addresses }
+    ensures there { IfSome result (λ _. (s.at < length w.now.payload.now) × (get_or w.now.payload.now s.at 0 < 256)) }
+    ensures found { FoundIn w.now s word (s.at + 1) (kind_number (head_at w.now.heads.now (get_or w.now.payload.now s.at 0)).kind) (head_at w.now.heads.now (get_or w.now.payload.now s.at 0)).argument result }
 {
-    if opens_object(h, p, at) {
-        return none();
+    if w.payload.len() <= s.at {
+        return None;
     }
-    let leaf = leaf_at(h, p, hot, at, objects, word);
-    if leaf.kind != 0 {
-        return leaf;
-    }
-    legacy_leaf(v, h, p, dt, sc, at, n, alignment, word)
-}
-
-// The ring after a leaf: where it enters, with its fields.
-pub fn enter(hot: &mut [u64; 25], enters: bool, f: Fields)
-    ensures { hot.new ≡ ring_with enters f hot.old }
-{
-    if enters {
-        add_fields(hot, f);
+    let head = w.heads[byte(w.payload, s.at) as usize];
+    match head.kind {
+        Kind::NewObject => None,
+        Kind::LegacyBackref => legacy_leaf(w, s, s.at + 1, head.argument as u64, word),
+        _ => leaf_of(w, head, s.at + 1, s.objects, word),
     }
 }
 
-// The value that it stands for.
-pub fn value_of(leaf: Leaf) -> SlotValue
-    ensures { result ≡ value_of leaf }
+// A new object stands at a place: the commonest of what is no leaf, so that it is looked for first.
+pub fn opens_object(w: &Walker, at: usize) -> bool
+    ensures { result ≡ opens_at w.now at }
 {
-    let kind = leaf.kind;
-    match kind {
-        1 => SlotValue::Ref(Ref::Object(leaf.a)),
-        2 => SlotValue::Ref(Ref::Root(leaf.a)),
-        3 => SlotValue::Ref(Ref::RoRef(leaf.a, leaf.b)),
-        _ => SlotValue::Raw(Raw {
-            off: leaf.a,
-            len: leaf.b,
-            advances: true,
-        }),
+    if w.payload.len() <= at {
+        return false;
+    }
+    let head = w.heads[byte(w.payload, at) as usize];
+    head.kind == Kind::NewObject
+}
+
+// The ring after a leaf.
+pub fn enter(hot: &mut HotRing, leaf: Leaf)
+    ensures { hot.new ≡ ring_with leaf.enters leaf.value hot.old }
+{
+    if leaf.enters {
+        if let SlotValue::Ref(r) = leaf.value {
+            hot.add(r);
+        }
     }
 }
 
-// The same as a reference that was read.
-pub fn take_leaf(hot: &mut [u64; 25], s: State, leaf: Leaf) -> Step
-    ensures { (l : Lent) → seen result (hot_is hot.new l) ≡ got (value_of leaf) (mem (after leaf s) (hot_is (ring leaf hot.old) l)) }
+// A leaf at the cursor as a reference that is read.
+pub fn take_leaf(w: &mut Walker, s: State, word: u64) -> Option<(SlotValue, State)>
+    requires { (word ≡ word_bytes w.old.sheet.now) × (word ≤ 8) × Heads w.old.sheet.now w.old.heads.now }
+    ensures read { IfSome result (λ r. (inner : Reader SlotValue) → got r.0 (mem r.1 (lent_of w.new)) ≡ referenceOf (input_of w.old) inner (mem s (lent_of w.old))) }
+    ensures none { IsNone result → lent_of w.new ≡ lent_of w.old }
+    ensures order { StaysInOrder w.old s result w.new }
+    ensures kept { Kept w.old w.new }
 {
-    let f = Fields {
-        kind: leaf.kind,
-        a: leaf.a,
-        b: leaf.b,
-    };
-    enter(hot, leaf.enters, f);
-    let mut t = s;
-    t.at = leaf.next;
-    Step::Got(value_of(leaf), t)
+    let leaf = leaf_at(w, s.at, s.objects, word)?;
+    enter(&mut w.hot, leaf);
+    let t = State { at: leaf.next, ..s };
+    Some((leaf.value, t))
 }
 
-// A leaf as an item of object o, which has a slot record at this index then: that leaf. Kind 0 where none stands at the cursor, where the record
-// has no room, and at the last level, where a reference is refused; then nothing is changed.
+// A leaf at the cursor as an item of object o, `done` bytes of which have been read: the bytes read then. None where no leaf stands there,
+// where its slot record has no room, and at the last level, where a reference is refused; then nothing is changed.
 pub fn place_leaf(
-    v: &[u16],
-    h: &[u16; 512],
-    p: &[u8],
-    dt: &[u64],
-    sc: &[u64],
-    objects: &mut [u64],
-    slots: &mut [u64],
-    hot: &mut [u64; 25],
-    at: usize,
-    count: usize,
-    n: usize,
+    w: &mut Walker,
+    s: State,
     o: usize,
-    index: u64,
-    addresses: usize,
-    alignment: u64,
+    done: u64,
     word: u64,
     d: usize,
-) -> Leaf
-    requires word_bound { (word ≤ 8) × HeadsFit h.now }
-    requires o_bound { (field 4 objects.old o 3 < 2 ^ 63) × (addresses ≤ room 5 dt.now) × (usable v.now ≡ true) }
-    requires linked { Linked dt.now addresses (drop (length p.now) sc.now) × Sorted dt.now addresses }
-    ensures d_bound { (result.kind ≡ 0 → ⊥) → (d < 64) × (at < length p.now) × (get_or p.now at 0 < 256) }
-    ensures found { FoundIn v.now p.now dt.now hot.old count addresses alignment word (at + 1) (get_or h.now (get_or p.now at 0) 0) (get_or h.now (256 + get_or p.now at 0) 0) result }
-    ensures placed { Placed n o index result objects.old slots.old hot.old objects.new slots.new hot.new }
+) -> Option<(u64, State)>
+    requires decoded { (word ≡ word_bytes w.old.sheet.now) × Heads w.old.sheet.now w.old.heads.now × Addressed w.old s.addresses }
+    requires bounds { (field 4 w.old.objects.now o 3 < 2 ^ 63) × (done < 2 ^ 60) × (s.skip < 2 ^ 60) }
+    ensures read { IfSome result (λ r. (d < 64) × ((inner : Reader SlotValue) → got r.0 (mem r.1 (lent_of w.new)) ≡ placed_in (input_of w.old) (referenceOf (input_of w.old) inner) o done (mem s (lent_of w.old)))) }
+    ensures none { IsNone result → lent_of w.new ≡ lent_of w.old }
+    ensures order { StaysInOrder w.old s result w.new }
+    ensures kept { Kept w.old w.new }
 {
     if 64 <= d {
-        return none();
+        return None;
     }
-    let leaf = any_leaf(v, h, p, dt, sc, hot, at, count, addresses, alignment, word);
-    if leaf.kind == 0 {
-        return leaf;
+    let leaf = any_leaf(w, s, word)?;
+    let start = done + s.skip;
+    let f = fields_of(leaf.value);
+    if !add_slot(w.slots, s.slots, o as u64, start / word, f, 0) {
+        return None;
     }
-    let f = Fields {
-        kind: leaf.kind,
-        a: leaf.a,
-        b: leaf.b,
+    count_slot(w.objects, o as u64);
+    enter(&mut w.hot, leaf);
+    let t = State {
+        at: leaf.next,
+        slots: s.slots + 1,
+        skip: 0,
+        ..s
     };
-    if !add_slot(slots, n, o as u64, index, f, 0) {
-        return none();
-    }
-    count_slot(objects, o as u64);
-    enter(hot, leaf.enters, f);
-    leaf
+    Some((start + leaf.width, t))
 }

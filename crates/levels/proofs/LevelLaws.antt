@@ -1,35 +1,46 @@
--- What is known of an object that begins, and of one that was put into a slot. Assumes nothing.
-use mathlib.Core.Path.{◌≡◌, refl, sym, ◌∙◌}
-use mathlib.Core.Bool.{Bool, true, false, true≢false, ◌&&◌}
-use mathlib.Core.List.{List}
-use Prim.Native.Nat.{ℕ, ◌+◌, ◌*◌, ◌<◌}
-use borrow.Author.Tests.{ltb-true, ltb-false, eqb-true}
-use lib.Dec.{ltb, eqb}
-use lib.ListN.{length, get_or, set}
-use Rattle.stream.specs.Bytes.{peek_at}
-use Rattle.sheet.specs.Names.{k_deferred}
-use Rattle.sheet.specs.Sheet.{number}
-use Rattle.sheet.proofs.UsableSheet.{and_left, and_right}
-use Rattle.tables.specs.Values.{triple}
-use Rattle.tables.specs.Records.{field, slot_row, Put}
-use Rattle.readers.proofs.ViewLaws.{put_full, put_done, put_below}
-use Rattle.levels.specs.Level.{Begins, ObjectPlaced}
+-- What is known of an object that begins, and of one that becomes a slot. Assumes nothing.
+use Rattle.std.specs.Prelude.{◌≡◌, refl, Bool, true, false, ◌&&◌, List, ℕ, ◌+◌, ◌*◌, ◌/◌, ◌<◌, ltb, eqb, length, get_or, set}
+use Rattle.std.proofs.Common.{arith, sym, ◌∙◌, ltb-true, eqb-true}
+use Rattle.std.proofs.lemmas.Bool.{and_parts}
+use Rattle.heads.specs.Kinds.{kind_number, new_object}
+use Rattle.heads.specs.Heads.{head_at}
+use Rattle.tables.specs.declared.values.SlotValue.TheVariants.{Ref as IsRef}
+use Rattle.tables.specs.declared.values.Ref.TheVariants.{Object}
+use Rattle.tables.specs.declared.values.Fields.{Fields}
+use Rattle.tables.specs.Values.{fields_of}
+use Rattle.tables.specs.Records.{room, field, slot_row, written, has_room, Put}
+use Rattle.definition.specs.Memory.{Input, word, got, no}
+use Rattle.definition.specs.Slots.{add_slot, keep_item, place_item}
+use Rattle.readers.specs.declared.state.State.{State}
+use Rattle.readers.specs.declared.walker.Walker.{Walker}
+use Rattle.readers.specs.Views.{Lent, mem, objects_is, slots_is}
+use Rattle.readers.proofs.ViewLaws.{put_full, put_done}
+use Rattle.leaves.specs.Leaf.{opens_at}
+use Rattle.levels.specs.Level.{Begins}
 
 -- a new object stands at the cursor
-pub opens : (h p : List ℕ) (at : ℕ) → ltb at (length p) && eqb (get_or h (get_or p at 0) 0) 1 ≡ true → (at < length p) × (get_or h (get_or p at 0) 0 ≡ 1)
-opens h p at e =
-    let a : Bool = ltb at (length p) in
-    let b : Bool = eqb (get_or h (get_or p at 0) 0) 1 in
-    (ltb-true at (length p) (and_left a b e), eqb-true _ 1 (and_right a b e))
+pub opens : (w : Walker) (at : ℕ) → opens_at w at ≡ true → (at < length w.payload.now) × (kind_number (head_at w.heads.now (get_or w.payload.now at 0)).kind ≡ new_object)
+opens w at e =
+    let a : Bool = ltb at (length w.payload.now) in
+    let b : Bool = eqb (kind_number (head_at w.heads.now (get_or w.payload.now at 0)).kind) new_object in
+    (ltb-true at (length w.payload.now) (and_parts a b e).0, eqb-true _ new_object (and_parts a b e).1)
 
-pub begins : (v h p : List ℕ) (at d kept : ℕ) → d < 64 → kept < 8 → {b : ℕ} {t : Bool} → b ≡ peek_at p at → t ≡ eqb (number v k_deferred) b → t ≡ false → ltb at (length p) && eqb (get_or h (get_or p at 0) 0) 1 ≡ true → Begins v h p at d kept
-begins v h p at d kept ld lk eb et e f =
-    let z = opens h p at f in
-    record { inside = z.0; kind = z.1; not_deferred = rw (← eb) (sym et ∙ e); deep = ld; roomy = lk }
+-- the state after the slot of an object
+abbrev after_slot : State → State
+after_slot s =
+    record
+    { at = s.at; objects = s.objects; slots = s.slots + 1; values = s.values; addresses = s.addresses; pending = s.pending; waiting = s.waiting; skip = 0; alignment = s.alignment }
 
-module _ {n o index child : ℕ} {r : Bool} {objects slots slots' : List ℕ} (q : Put slots n (slot_row o index (triple 1 child 0) 0) r slots') where
-  pub object_full : r ≡ false → ObjectPlaced n o index child false objects slots objects slots'
-  object_full e = record { full = λ _. (ltb-false n _ (put_full q e).0, refl, (put_full q e).1); placed = λ f. absurd (true≢false (sym f)) }
+module _ (x : Input) (o done child : ℕ) (s : State) (l : Lent) {w : ℕ} (ew : word x ≡ w) {b : Bool} {f : Fields} {st : List ℕ} (ef : f ≡ fields_of (IsRef (Object child))) (p : Put l.slots s.slots (slot_row o ((done + s.skip) / w) f 0) b st) where
+  -- where there is no room for it
+  pub object_full : b ≡ false → no 3 s.at (mem s (slots_is st l)) ≡ place_item x o done (IsRef (Object child)) (mem s l)
+  unfolding place_item keep_item add_slot
+  object_full e = let q = put_full p e in rw (q.0, q.1)
 
-  pub object_placed : r ≡ true → {objects' : List ℕ} → objects' ≡ set objects (o * 4 + 3) (field 4 objects o 3 + 1) → ObjectPlaced n o index child true objects slots objects' slots'
-  object_placed e eo = record { full = λ f. absurd (true≢false f); placed = λ _. (put_below q e, (put_done q e).1, eo) }
+  pub object_placed : b ≡ true → {ot : List ℕ} → ot ≡ set l.objects (o * 4 + 3) (field 4 l.objects o 3 + 1)
+      → got (done + s.skip + w) (mem (after_slot s) (objects_is ot (slots_is st l))) ≡ place_item x o done (IsRef (Object child)) (mem s l)
+  unfolding place_item keep_item add_slot
+  object_placed e eo =
+      let z : s.waiting + 0 ≡ s.waiting = omega arith in
+      let q = put_done p e in
+      rw (ew, q.0, q.1, ef, eo, z)

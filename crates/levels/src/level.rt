@@ -1,67 +1,35 @@
 // Objects within objects, read in one loop: each is a level, and those around the current one are kept until it is full.
-ghost use Rattle.std.specs.Prelude.{true, ◌≡◌, ◌+◌, ◌^◌, ◌<◌, length, get_or};
+
+ghost use Rattle.std.specs.Prelude.{true, ◌≡◌, ℕ, ◌+◌, ◌^◌, ◌<◌, ◌≤◌, length, get_or};
+ghost use Rattle.heads.specs.Heads.{head_at};
 ghost use Rattle.tables.specs.Records.{field};
-ghost use Rattle.definition.specs.Memory.{got};
-ghost use Rattle.readers.specs.Views.{Lent, mem, seen_count};
-ghost use Rattle.leaves.specs.Leaf.{HeadsFit};
-ghost use Rattle.levels.specs.Level.{seen_item, unread_at, Begins, ObjectPlaced};
+ghost use Rattle.tables.specs.declared.values.Ref.TheVariants.{Object};
+ghost use Rattle.tables.specs.declared.values.SlotValue.TheVariants.{Ref as IsRef};
+ghost use Rattle.definition.specs.Memory.{Input, word as word_of};
+ghost use Rattle.definition.specs.Slots.{place_item};
+ghost use Rattle.readers.specs.Views.{mem, seen};
+ghost use Rattle.readers.specs.Lent.{lent_of, Kept};
+ghost use Rattle.levels.specs.Level.{unread_at, Begins};
 
 use leaves::leaf::opens_object;
-use readers::state::{Count, State};
+use readers::state::{Answer, State};
+use readers::walker::Walker;
+use refusals::refusal::Refusal;
 use sheet::names::K_DEFERRED;
 use sheet::tests::is_tag;
 use stream::bytes::{byte, peek};
 use tables::records::{add_slot, count_slot};
-use tables::values::Fields;
+use tables::values::{Ref, SlotValue, fields_of};
 
 // An object that is being read: its number, its bytes and how many of them have been read, where its head stands, and its space. Nothing read: its
 // size and map are still to come.
-#[derive(Clone, Copy)]
+#[derive(Clone, Copy, Default)]
 pub struct Level {
     pub object: usize,
     pub size: u64,
     pub done: u64,
     pub tag: usize,
     pub space: u64,
-}
-
-// What reading an item gave: the bytes of its object that have been read then, or a refusal's number and place.
-#[derive(Clone, Copy)]
-pub struct Item {
-    pub went: bool,
-    pub number: u64,
-    pub place: usize,
-    pub done: u64,
-    pub state: State,
-}
-
-// An item was read.
-pub fn read(done: u64, state: State) -> Item
-    ensures { (l : Lent) → seen_item result l ≡ got done (mem state l) }
-{
-    Item {
-        went: true,
-        number: 0,
-        place: 0,
-        done,
-        state,
-    }
-}
-
-// The same as another answer. In numbers it stays out of memory where a call is compiled into its caller.
-pub fn item_of(answer: Count) -> Item
-    ensures { (l : Lent) → seen_item result l ≡ seen_count answer l }
-{
-    match answer {
-        Count::Is(done, state) => read(done, state),
-        Count::Refused(number, place, state) => Item {
-            went: false,
-            number,
-            place,
-            done: 0,
-            state,
-        },
-    }
 }
 
 // An object of which nothing has been read but its head.
@@ -77,51 +45,45 @@ pub fn unread(tag: usize, space: u64) -> Level
     }
 }
 
-// A new object stands at the cursor, as an item of one at depth d, and there is room to keep one more level.
-pub fn begins_object(v: &[u16], h: &[u16; 512], p: &[u8], at: usize, d: usize, kept: usize) -> bool
-    ensures { result ≡ true → Begins v.now h.now p.now at d kept }
+// A new object that stands at the cursor, as an item of one at depth d, where there is room to keep one more level.
+pub fn begins_object(w: &Walker, at: usize, d: usize, kept: usize) -> bool
+    ensures { result ≡ true → Begins w.now at d kept }
 {
-    if 64 <= d {
+    if 64 <= d || 8 <= kept {
         return false;
     }
-    if 8 <= kept {
+    if is_tag(w.sheet, K_DEFERRED, peek(w.payload, at)) {
         return false;
     }
-    if is_tag(v, K_DEFERRED, peek(p, at)) {
-        return false;
-    }
-    opens_object(h, p, at)
+    opens_object(w, at)
 }
 
 // That object.
-pub fn child_at(h: &[u16; 512], p: &[u8], at: usize) -> Level
-    requires { (at < length p.now) × HeadsFit h.now }
-    ensures { (result ≡ unread_at at (get_or h.now (256 + get_or p.now at 0) 0)) × (get_or p.now at 0 < 256) }
+pub fn child_at(w: &Walker, at: usize) -> Level
+    requires { at < length w.now.payload.now }
+    ensures { (result ≡ unread_at at (head_at w.now.heads.now (get_or w.now.payload.now at 0)).argument) × (get_or w.now.payload.now at 0 < 256) }
 {
-    let b = byte(p, at) as usize;
-    unread(at, h[256 + b] as u64)
+    let head = w.heads[byte(w.payload, at) as usize];
+    unread(at, head.argument as u64)
 }
 
-// An object that is full, as slot record n of object o, at this index. False: the record has no room, and nothing is changed.
-pub fn put_object(
-    objects: &mut [u64],
-    slots: &mut [u64],
-    n: usize,
-    o: usize,
-    index: u64,
-    child: usize,
-) -> bool
-    requires { field 4 objects.old o 3 < 2 ^ 63 }
-    ensures { ObjectPlaced n o index child result objects.old slots.old objects.new slots.new }
+// An object that is full, as an item of the one around it: the bytes of that which have been read then.
+pub fn put_object(w: &mut Walker, s: State, outer: Level, child: usize, word: u64) -> Answer<u64>
+    requires { (field 4 w.old.objects.now outer.object 3 < 2 ^ 63) × (0 < word) × (outer.done + s.skip + word < 2 ^ 64) }
+    ensures is { (x : Input) → word_of x ≡ word → seen result (lent_of w.new) ≡ place_item x outer.object outer.done (IsRef (Object child)) (mem s (lent_of w.old)) }
+    ensures kept { Kept w.old w.new }
 {
-    let f = Fields {
-        kind: 1,
-        a: child as u64,
-        b: 0,
-    };
-    if !add_slot(slots, n, o as u64, index, f, 0) {
-        return false;
+    let o = outer.object as u64;
+    let start = outer.done + s.skip;
+    let f = fields_of(SlotValue::Ref(Ref::Object(child as u64)));
+    if !add_slot(w.slots, s.slots, o, start / word, f, 0) {
+        return Err(s.refused(Refusal::NoRoom));
     }
-    count_slot(objects, o as u64);
-    true
+    count_slot(w.objects, o);
+    let t = State {
+        slots: s.slots + 1,
+        skip: 0,
+        ..s
+    };
+    Ok((start + word, t))
 }

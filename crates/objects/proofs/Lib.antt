@@ -1,3 +1,4 @@
+pub mod AnswerLaws
 pub mod HeadLaws
 pub mod MapLaws
 pub mod MapSteps

@@ -10,7 +10,7 @@ use borrow.Author.Tests.{eqb-true, eqb-false, eq-eqb, ne_eqb}
 use lib.Dec.{eqb}
 use lib.ListN.{set, length-set}
 use lib.Seq.{get_or-set_same, get_or-set_other}
-use Rattle.sheet.proofs.UsableSheet.{and_left, and_right}
+use Rattle.std.proofs.lemmas.Bool.{and_parts}
 use Rattle.tables.specs.declared.values.Fields.{Fields}
 use Rattle.tables.specs.Records.{room, field, slot_row, written, filled}
 use Rattle.tables.proofs.RecordLaws.{written_same, written_else, filled_same, filled_else}
@@ -47,7 +47,7 @@ module _ (st : List ℕ) (n i : ℕ) where
 
   waits_said : waits_for st n i ≡ true → (field 6 st i 5 ≡ 1) × (field 6 st i 3 ≡ n)
   waits_said e =
-      (eqb-true (field 6 st i 5) 1 (and_left (eqb (field 6 st i 5) 1) (eqb (field 6 st i 3) n) e), eqb-true (field 6 st i 3) n (and_right (eqb (field 6 st i 5) 1) (eqb (field 6 st i 3) n) e))
+      (eqb-true (field 6 st i 5) 1 (and_parts (eqb (field 6 st i 5) 1) (eqb (field 6 st i 3) n) e).0, eqb-true (field 6 st i 3) n (and_parts (eqb (field 6 st i 5) 1) (eqb (field 6 st i 3) n) e).1)
 
   waits_same : (st' : List ℕ) → field 6 st' i 5 ≡ field 6 st i 5 → field 6 st' i 3 ≡ field 6 st i 3 → waits_for st' n i ≡ waits_for st n i
   waits_same st' e f = rw (e, f)
@@ -55,15 +55,15 @@ module _ (st : List ℕ) (n i : ℕ) where
 -- ---- the first c slots
 
 module _ (st : List ℕ) (n c : ℕ) where
-  pub waiter_no : waits_for st n c ≡ false → waiter st n (suc c) ≡ waiter st n c
+  waiter_no : waits_for st n c ≡ false → waiter st n (suc c) ≡ waiter st n c
   unfolding waiter
   waiter_no e = rw e
 
-  pub waiter_yes : waits_for st n c ≡ true → waiter st n (suc c) ≡ suc c
+  waiter_yes : waits_for st n c ≡ true → waiter st n (suc c) ≡ suc c
   unfolding waiter
   waiter_yes e = rw e
 
-  pub waiter_zero : waiter st n 0 ≡ 0
+  waiter_zero : waiter st n 0 ≡ 0
   unfolding waiter
   waiter_zero = refl
 
@@ -147,7 +147,7 @@ module _ (st : List ℕ) (c o i : ℕ) (f : Fields) (w : ℕ) where
       plain-waiter : (n : ℕ) → waiter after n (suc c) ≡ waiter st n c
       plain-waiter n = waiter_no after n c (waits_off after n c plain_off) ∙ row_waiter n
 
-      pub added-plain : (n : ℕ) → waiter after n (c + 1) ≡ waiter st n c
+      added-plain : (n : ℕ) → waiter after n (c + 1) ≡ waiter st n c
       added-plain n = rw (add-one c) (plain-waiter n)
 
       pub indexed_plain : (sc : List ℕ) → Indexed st c sc → Indexed after (c + 1) sc
@@ -158,10 +158,10 @@ module _ (st : List ℕ) (c o i : ℕ) (f : Fields) (w : ℕ) where
       added_yes : waiter after f.a (suc c) ≡ suc c
       added_yes = waiter_yes after f.a c (waits_on after f.a c (row_waits ∙ on) row_number)
 
-      pub added_own : waiter after f.a (c + 1) ≡ c + 1
+      added_own : waiter after f.a (c + 1) ≡ c + 1
       added_own = rw (add-one c) added_yes
 
-      pub added_others : (n : ℕ) → n ≢ f.a → waiter after n (c + 1) ≡ waiter st n c
+      added_others : (n : ℕ) → n ≢ f.a → waiter after n (c + 1) ≡ waiter st n c
       added_others n ne = rw (add-one c) (waiter_no after n c (waits_other after n c (λ e. ne (sym e ∙ row_number))) ∙ row_waiter n)
 
       pub indexed_waits : (sc : List ℕ) → Indexed st c sc → Indexed after (c + 1) (set sc f.a (c + 1))
@@ -197,7 +197,7 @@ module _ (st : List ℕ) (c : ℕ) (fits : c ≤ room 6 st) (n j o : ℕ) (e : w
       (λ ne. fill_same st j o m i ne))
 
   module _ {pending waiting : ℕ} (w : Waits st c pending waiting) where
-    pub filled_gone : waiter (filled st j o) n c ≡ 0
+    filled_gone : waiter (filled st j o) n c ≡ 0
     filled_gone =
         waiter_none (filled st j o) n c (λ i l. same_or _ i j
         (λ y. rw y (fill_off st j o below n))

@@ -1,8 +1,11 @@
 -- What follows an object's map, as the code reads it. Assumes nothing: these are definitions.
-use Rattle.std.specs.Prelude.{Bool, ℕ, ◌-◌, length}
+use Rattle.std.specs.Prelude.{◌≡◌, Bool, ℕ, ◌-◌, length}
 use Rattle.sheet.specs.Sheet.{is_legacy, is_map_first}
 use Rattle.tables.specs.declared.values.SlotValue.{SlotValue}
 use Rattle.definition.specs.Memory.{Input, Reader, ◌>>◌, choose, give, change, aligned}
+use Rattle.readers.specs.declared.walker.Walker.{Walker}
+use Rattle.readers.specs.Views.{addresses_is, alloc_is}
+use Rattle.readers.specs.Lent.{lent_of, Fixed}
 use Rattle.definition.specs.Object.{alignment_byte, chunk_changes, allocate, flags, keep_map}
 
 -- after the map of object o: what `read_map` does when the map has been read
@@ -20,3 +23,9 @@ is_flagged x v = flags x v
 
 abbrev pub map_kept : Input → ℕ → SlotValue → Reader (Unit {0})
 map_kept x o v = keep_map x o v
+
+-- of all that is lent, an address record, the counters and the index alone may change
+pub record AddressAlone (w w' : Walker) : Type 0 where
+  pub fixed : Fixed w w'
+  pub lent : lent_of w' ≡ addresses_is w'.addresses.now (alloc_is w'.alloc (lent_of w))
+  pub pending : w'.pending.now ≡ w.pending.now

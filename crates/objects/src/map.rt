@@ -1,18 +1,24 @@
 // What follows an object's map: legacy allocation, the flag of a trusted map, and slot 0.
-ghost use Rattle.std.specs.Prelude.{true, ◌≡◌, List, ℕ, ◌+◌, ◌-◌, ◌*◌, ◌^◌, ◌<◌, ◌≤◌, length, get_or, take, drop, OnOk, OnErr};
+
+ghost use Rattle.std.specs.Prelude.{true, ◌≡◌, List, ℕ, ◌+◌, ◌-◌, ◌*◌, ◌^◌, ◌<◌, ◌≤◌, length, get_or, OnOk, OnErr, IfErr, IfSome, IsNone};
 ghost use Rattle.sheet.specs.Sheet.{usable};
 ghost use Rattle.tables.specs.Records.{room, field};
-ghost use Rattle.alloc.specs.Allocation.{seen, allocate_of};
-ghost use Rattle.address_index.specs.Links.{space_of, Linked};
-ghost use Rattle.definition.specs.Object.{allocate, chunk_changes};
-ghost use Rattle.readers.specs.Views.{Lent, input, mem, seen_went, objects_is, slots_is, addresses_is, counters_is};
-ghost use Rattle.objects.specs.Index.{WentLinked};
-ghost use Rattle.objects.specs.Map.{after_map, map_kept, is_flagged};
+ghost use Rattle.alloc.specs.Allocation.{allocate_of, seen as allocated};
+ghost use Rattle.address_index.specs.Links.{space_of, Linked, Roomy};
+ghost use Rattle.address_index.specs.Entries.{IsEntry};
+ghost use Rattle.refusals.specs.Numbers.{number_of};
+ghost use Rattle.definition.specs.Memory.{got, aligned};
+ghost use Rattle.definition.specs.Object.{alignment_byte, chunk_changes, allocate, flag_object};
+ghost use Rattle.readers.specs.Views.{Lent, input, mem, seen};
+ghost use Rattle.readers.specs.Lent.{input_of, lent_of, Fixed, Kept};
+ghost use Rattle.objects.specs.Index.{LinkedAfter};
+ghost use Rattle.objects.specs.Map.{after_map, is_flagged, map_kept, AddressAlone};
 
 use crate::item::push_slot;
-use address_index::links::enter;
-use alloc::legacy_alloc::{Request, allocate, next_chunk};
-use readers::state::{Count, State, Went};
+use address_index::links::{Entry, add_entry, entry_of, has_room};
+use alloc::legacy_alloc::{Request, place};
+use readers::state::{Answer, State};
+use readers::walker::Walker;
 use refusals::refusal::Refusal;
 use sheet::names::K_NEXT_CHUNK;
 use sheet::numbers::{legacy, map_first, word_bytes};
@@ -21,207 +27,172 @@ use stream::bytes::peek;
 use tables::records::set_raw_len;
 use tables::values::{Ref, SlotValue, fields_of};
 
-// Address record n enters the index in the second part of scratch, which starts at `size`.
-fn enter_record(addresses: &[u64], scratch: &mut [u64], size: usize, n: usize)
-    requires { (n < room 5 addresses.now) × (space_of addresses.now n < 256) × Linked addresses.now n (drop size scratch.old) }
-    ensures linked { Linked addresses.now (n + 1) (drop size scratch.new) }
-    ensures front { take size scratch.new ≡ take size scratch.old }
+// What the index keeps of address record n, where it has room for it.
+fn new_entry(w: &Walker, n: usize) -> Option<Entry>
+    requires { (n < room 5 w.now.addresses.now) × (space_of w.now.addresses.now n < 256) × Linked w.now.addresses.now n w.now.index.now }
+    ensures some { IfSome result (λ e. Roomy n w.now.index.now × IsEntry w.now.addresses.now n w.now.index.now e) }
+    ensures none { IsNone result → length w.now.index.now < 256 + (n + 1) * 3 }
 {
-    if size <= scratch.len() {
-        enter(addresses, &mut scratch[size..], n);
+    if !has_room(w.index, n) {
+        return None;
+    }
+    Some(entry_of(w.addresses, w.index, n))
+}
+
+// Address record n enters the index, where the index has room for it.
+fn enter_record(w: &mut Walker, n: usize)
+    requires { (n < room 5 w.old.addresses.now) × (space_of w.old.addresses.now n < 256) × Linked w.old.addresses.now n w.old.index.now }
+    ensures linked { Linked w.new.addresses.now (n + 1) w.new.index.now }
+    ensures rest { Fixed w.old w.new × (lent_of w.new ≡ lent_of w.old) × (w.new.pending.now ≡ w.old.pending.now) }
+{
+    if let Some(entry) = new_entry(w, n) {
+        add_entry(w.index, n, entry);
     }
 }
 
-// Address record n and its entry in the index, which is in the second part of scratch, from `size` on: the alignment that is pending then.
-// Where it is refused, nothing changes.
-pub fn allocate_record(
-    addresses: &mut [u64],
-    scratch: &mut [u64],
-    size: usize,
-    cur: &[u32; 256],
-    used: &mut [u32; 256],
-    spaces: u64,
-    n: usize,
-    want: Request,
-) -> Result<u64, Refusal>
-    requires { (want.space < 256) × (want.word ≤ 8) × Linked addresses.old n (drop size scratch.old) }
-    ensures addresses_after { seen want.alignment result (record { cur = cur.now; used = used.new }) addresses.new ≡ allocate_of addresses.old n spaces want (record { cur = cur.now; used = used.old }) }
-    ensures linked { OnOk result (Linked addresses.new (n + 1) (drop size scratch.new)) }
-    ensures front { take size scratch.new ≡ take size scratch.old }
-    ensures kept { OnErr result (scratch.new ≡ scratch.old) }
+// Address record n and its entry in the index: the alignment that is pending then. Refused, nothing changes.
+pub fn allocate_record(w: &mut Walker, n: usize, want: Request) -> Result<u64, Refusal>
+    requires { (want.space < 256) × (want.word ≤ 8) × Linked w.old.addresses.now n w.old.index.now }
+    ensures is { allocated want.alignment result w.new.alloc w.new.addresses.now ≡ allocate_of w.old.addresses.now n w.old.spaces want w.old.alloc }
+    ensures linked { OnOk result (Linked w.new.addresses.now (n + 1) w.new.index.now) }
+    ensures refused { OnErr result ((lent_of w.new ≡ lent_of w.old) × (w.new.index.now ≡ w.old.index.now)) }
+    ensures some { IfErr result (λ r. 0 < number_of r) }
+    ensures rest { AddressAlone w.old w.new }
 {
-    let alignment = allocate(cur, used, addresses, n, spaces, want)?;
-    enter_record(addresses, scratch, size, n);
-    Ok(alignment)
+    let i = want.space as usize;
+    let spaces = w.spaces;
+    let used = w.alloc.used[i];
+    let chunk = w.alloc.cur[i];
+    let placed = place(w.addresses, n, spaces, want, used, chunk)?;
+    w.alloc.used[i] = placed.free;
+    enter_record(w, n);
+    Ok(placed.alignment)
 }
 
 // An address record of object o, and its entry in the index.
-fn allocate_object(
-    sheet: &[u16],
-    addresses: &mut [u64],
-    scratch: &mut [u64],
-    size: usize,
-    cur: &mut [u32; 256],
-    used: &mut [u32; 256],
-    spaces: u64,
-    s: State,
-    space: u64,
-    bytes: u64,
-    o: u64,
-) -> Went
-    requires sheet_value { (usable sheet.now ≡ true) × (space < 256) × (bytes < 2 ^ 33) }
-    requires linked_2 { Linked addresses.old s.addresses (drop size scratch.old) }
-    ensures by_index { (p tr : List ℕ) (l : Lent) → seen_went result (addresses_is addresses.new (counters_is cur.new used.new l)) ≡ allocate (input sheet.now p spaces tr) space bytes o (mem s (addresses_is addresses.old (counters_is cur.old used.old l))) }
-    ensures linked { WentLinked result addresses.new (drop size scratch.new) }
-    ensures front { take size scratch.new ≡ take size scratch.old }
+fn allocate_object(w: &mut Walker, s: State, space: u64, bytes: u64, o: u64) -> Answer<()>
+    requires sheet_value { (usable w.old.sheet.now ≡ true) × (space < 256) × (bytes < 2 ^ 33) }
+    requires linked_before { Linked w.old.addresses.now s.addresses w.old.index.now }
+    ensures is { seen result (lent_of w.new) ≡ allocate (input_of w.old) space bytes o (mem s (lent_of w.old)) }
+    ensures linked { LinkedAfter result w.new.addresses.now w.new.index.now }
+    ensures rest { Fixed w.old w.new × (w.new.pending.now ≡ w.old.pending.now) }
 {
     let want = Request {
         space,
         size: bytes,
         object: o,
         alignment: s.alignment,
-        word: word_bytes(sheet),
+        word: word_bytes(w.sheet),
     };
-    let n = s.addresses;
-    let at = s.at;
-    match allocate_record(addresses, scratch, size, cur, used, spaces, n, want) {
-        Err(r) => Went::Refused(r.number(), at, s),
+    match allocate_record(w, s.addresses, want) {
         Ok(alignment) => {
-            let mut t = s;
-            t.addresses = n + 1;
-            t.alignment = alignment;
-            Went::On(t)
+            let t = State {
+                addresses: s.addresses + 1,
+                alignment,
+                ..s
+            };
+            Ok(((), t))
         }
+        Err(refusal) => Err(s.refused(refusal)),
     }
 }
 
 // Chunk changes at the cursor, as long as they name this space.
-fn chunk_changes(
-    sheet: &[u16],
-    p: &[u8],
-    cur: &mut [u32; 256],
-    used: &mut [u32; 256],
-    spaces: u64,
-    s: State,
-    space: u64,
-) -> State
-    requires { (space < 256) × (s.at ≤ length p.now) × (get_or cur.old space 0 ≤ s.at) × (length p.now ≤ 16777216) }
-    ensures by_index { (tr : List ℕ) (l : Lent) → seen_went (Went.On result) (counters_is cur.new used.new l) ≡ chunk_changes (input sheet.now p.now spaces tr) space (length p.now - s.at) (mem s (counters_is cur.old used.old l)) }
+fn chunk_changes(w: &mut Walker, s: State, space: u64) -> State
+    requires { (space < 256) × (s.at ≤ length w.old.payload.now) × (get_or w.old.alloc.cur space 0 ≤ s.at) × (length w.old.payload.now ≤ 16777216) }
+    ensures is { got tt (mem result (lent_of w.new)) ≡ chunk_changes (input_of w.old) space (length w.old.payload.now - s.at) (mem s (lent_of w.old)) }
     ensures records { result.addresses ≡ s.addresses }
+    ensures kept { Kept w.old w.new }
+    ensures addresses { w.new.addresses.now ≡ w.old.addresses.now }
 {
+    let p = w.payload;
+    let spaces = w.spaces;
     let mut t = s;
-    loop {
-        let at = t.at;
-        if !is_tag(sheet, K_NEXT_CHUNK, peek(p, at)) {
-            return t;
-        }
-        if peek(p, at + 1) != space {
-            return t;
-        }
-        next_chunk(cur, used, spaces, space);
-        t.at = at + 2;
+    while is_tag(w.sheet, K_NEXT_CHUNK, peek(p, t.at)) && peek(p, t.at + 1) == space {
+        w.alloc.next_chunk(spaces, space);
+        t.at += 2;
+    }
+    t
+}
+
+// After a map that comes first: the alignment of a prefix at the cursor, or the one that stood before the map.
+#[tactic(auto, using(crate::proofs::MapLaws::prefix_there))]
+fn pass_prefix(w: &Walker, s: State, before: u64) -> State
+    requires { (usable w.now.sheet.now ≡ true) × (s.at ≤ length w.now.payload.now) }
+    ensures is { (l : Lent) → got tt (mem result l) ≡ alignment_byte (input_of w.now) (aligned before (mem s l)) }
+    ensures place { (s.at ≤ result.at) × (result.at ≤ length w.now.payload.now) × (result.addresses ≡ s.addresses) }
+{
+    let a = alignment(w.sheet, peek(w.payload, s.at));
+    if a == 0 {
+        return State {
+            alignment: before,
+            ..s
+        };
+    }
+    State {
+        at: s.at + 1,
+        alignment: a,
+        ..s
     }
 }
 
 // After an object's map: where the map comes first, alignment, chunk changes and allocation; in other legacy sheets allocation. The
 // alignment that stood before a map that comes first is not the map's.
 pub fn after_map(
-    sheet: &[u16],
-    p: &[u8],
-    addresses: &mut [u64],
-    scratch: &mut [u64],
-    cur: &mut [u32; 256],
-    used: &mut [u32; 256],
-    spaces: u64,
+    w: &mut Walker,
     s: State,
     before: u64,
     space: u64,
     bytes: u64,
     o: u64,
-) -> Went
-    requires sheet_value { (usable sheet.now ≡ true) × (space < 256) × (bytes < 2 ^ 33) × (s.at ≤ length p.now) × (length p.now ≤ 16777216) }
-    requires space_bound { (get_or cur.old space 0 ≤ s.at) × Linked addresses.old s.addresses (drop (length p.now) scratch.old) }
-    ensures by_index { (tr : List ℕ) (l : Lent) → seen_went result (addresses_is addresses.new (counters_is cur.new used.new l)) ≡ after_map (input sheet.now p.now spaces tr) before space bytes o (mem s (addresses_is addresses.old (counters_is cur.old used.old l))) }
-    ensures linked { WentLinked result addresses.new (drop (length p.now) scratch.new) }
-    ensures front { take (length p.now) scratch.new ≡ take (length p.now) scratch.old }
+) -> Answer<()>
+    requires sheet_value { (usable w.old.sheet.now ≡ true) × (space < 256) × (bytes < 2 ^ 33) × (s.at ≤ length w.old.payload.now) × (length w.old.payload.now ≤ 16777216) }
+    requires linked_before { (get_or w.old.alloc.cur space 0 ≤ s.at) × Linked w.old.addresses.now s.addresses w.old.index.now }
+    ensures is { seen result (lent_of w.new) ≡ after_map (input_of w.old) before space bytes o (mem s (lent_of w.old)) }
+    ensures linked { LinkedAfter result w.new.addresses.now w.new.index.now }
+    ensures rest { Fixed w.old w.new × (w.new.pending.now ≡ w.old.pending.now) }
 {
-    if !legacy(sheet) {
-        return Went::On(s);
+    if !legacy(w.sheet) {
+        return Ok(((), s));
     }
-    if !map_first(sheet) {
-        return allocate_object(
-            sheet,
-            addresses,
-            scratch,
-            p.len(),
-            cur,
-            used,
-            spaces,
-            s,
-            space,
-            bytes,
-            o,
-        );
+    if !map_first(w.sheet) {
+        return allocate_object(w, s, space, bytes, o);
     }
-    let mut t = s;
-    t.alignment = before;
-    let at = t.at;
-    let a = alignment(sheet, peek(p, at));
-    if a != 0 {
-        t.alignment = a;
-        t.at = at + 1;
-    }
-    let u = chunk_changes(sheet, p, cur, used, spaces, t, space);
-    allocate_object(
-        sheet,
-        addresses,
-        scratch,
-        p.len(),
-        cur,
-        used,
-        spaces,
-        u,
-        space,
-        bytes,
-        o,
-    )
+    let t = pass_prefix(w, s, before);
+    let u = chunk_changes(w, t, space);
+    allocate_object(w, u, space, bytes, o)
 }
 
 // A map that is a root which the trusted list flags.
 pub fn is_flagged(trusted: &[u8], v: SlotValue) -> bool
     ensures { (sh p : List ℕ) (sp : ℕ) → result ≡ is_flagged (input sh p sp trusted.now) v }
 {
-    let SlotValue::Ref(r) = v else {
+    let SlotValue::Ref(Ref::Root(i)) = v else {
         return false;
     };
-    let Ref::Root(i) = r else {
-        return false;
-    };
-    if i < trusted.len() as u64 {
-        let k = i as usize;
-        trusted[k] != 0
-    } else {
-        false
+    i < trusted.len() as u64 && trusted[i as usize] != 0
+}
+
+// The object is flagged where its map is trusted.
+#[tactic(auto, unfolding(definition::specs::Object::flag_object))]
+fn flag_object(w: &mut Walker, o: usize, v: SlotValue)
+    requires { o < room 4 w.old.objects.now }
+    ensures is { (s : State) → got tt (mem s (lent_of w.new)) ≡ flag_object (input_of w.old) o v (mem s (lent_of w.old)) }
+    ensures count { field 4 w.new.objects.now o 3 ≡ field 4 w.old.objects.now o 3 }
+    ensures kept { Kept w.old w.new }
+{
+    if is_flagged(w.trusted, v) {
+        set_raw_len(w.objects, o);
     }
 }
 
 // Slot 0 is the map, and the object is flagged where the map is trusted.
-pub fn keep_map(
-    trusted: &[u8],
-    objects: &mut [u64],
-    slots: &mut [u64],
-    s: State,
-    o: usize,
-    v: SlotValue,
-) -> Went
-    requires { (o < room 4 objects.old) × (field 4 objects.old o 3 < 2 ^ 62) × (s.waiting < 2 ^ 63) }
-    ensures { (sh p : List ℕ) (sp : ℕ) (l : Lent) → seen_went result (objects_is objects.new (slots_is slots.new l)) ≡ map_kept (input sh p sp trusted.now) o v (mem s (objects_is objects.old (slots_is slots.old l))) }
+pub fn keep_map(w: &mut Walker, s: State, o: usize, v: SlotValue) -> Answer<()>
+    requires { (o < room 4 w.old.objects.now) × (field 4 w.old.objects.now o 3 < 2 ^ 62) × (s.waiting < 2 ^ 63) }
+    ensures is { seen result (lent_of w.new) ≡ map_kept (input_of w.old) o v (mem s (lent_of w.old)) }
+    ensures kept { Kept w.old w.new }
 {
-    if is_flagged(trusted, v) {
-        set_raw_len(objects, o);
-    }
-    match push_slot(objects, slots, s, o as u64, 0, fields_of(v), 0) {
-        Count::Refused(n, q, t) => Went::Refused(n, q, t),
-        Count::Is(_, t) => Went::On(t),
-    }
+    flag_object(w, o, v);
+    let (_, t) = push_slot(w, s, o as u64, 0, fields_of(v), 0)?;
+    Ok(((), t))
 }

@@ -1,30 +1,31 @@
-// Pending forward references: the index in scratch, the search, and the resolves after an object's map.
-ghost use Rattle.std.specs.Prelude.{◌≡◌, true, List, ℕ, ◌-◌, ◌<◌, ◌≤◌, length, set, take, drop};
+// Pending forward references: their places in scratch, the search, and the resolves after an object's map.
+
+ghost use Rattle.std.specs.Prelude.{true, ◌≡◌, ℕ, ◌-◌, ◌<◌, ◌≤◌, length, set};
 ghost use Rattle.sheet.specs.Sheet.{usable};
 ghost use Rattle.tables.specs.Records.{room};
+ghost use Rattle.definition.specs.Memory.{with_pending};
 ghost use Rattle.definition.specs.Slots.{waits_for, waiter, renumbered, resolved};
 ghost use Rattle.definition.specs.Object.{resolves as resolvesFrom};
 ghost use Rattle.laws.specs.Waiting.{Waits};
-ghost use Rattle.readers.specs.Views.{Lent, input, mem, seen_went, slots_is};
-ghost use Rattle.objects.specs.Index.{Entry, Indexed, WentIndexed};
+ghost use Rattle.readers.specs.Views.{Lent, mem, seen};
+ghost use Rattle.readers.specs.Lent.{input_of, lent_of, Kept};
+ghost use Rattle.objects.specs.Index.{Entry, Indexed, IndexedAfter};
+ghost use Rattle.address_index.specs.Links.{counted};
 
 use readers::ints::read_int;
-use readers::state::{Count, State, Went};
+use readers::state::{Answer, State};
+use readers::walker::Walker;
 use sheet::names::K_RESOLVE_PENDING_FORWARD_REF;
 use sheet::tests::is_tag;
 use stream::bytes::peek;
 use tables::records::fill_slot;
 
-// x at place i of the first part of scratch, which ends at `size`, where scratch has that place.
-pub fn note(scratch: &mut [u64], size: usize, i: u64, x: u64)
-    ensures scratch_after { take size scratch.new ≡ set (take size scratch.old) i x }
-    ensures rest { drop size scratch.new ≡ drop size scratch.old }
+// x at place i of the places for pending numbers, where there is that place.
+pub fn note(pending: &mut [u64], i: u64, x: u64)
+    ensures { pending.new ≡ set pending.old i x }
 {
-    if i < size as u64 {
-        if i < scratch.len() as u64 {
-            let k = i as usize;
-            scratch[k] = x;
-        }
+    if i < pending.len() as u64 {
+        pending[i as usize] = x;
     }
 }
 
@@ -36,110 +37,93 @@ fn waits_for(slots: &[u64], number: u64, k: usize) -> bool
     (slots[k * 6 + 5] == 1) & (slots[k * 6 + 3] == number)
 }
 
-// The newest of n slots that waits under a number, counted from 1, or 0: a search.
-fn find_waiter(slots: &[u64], number: u64, n: usize) -> u64
+// The newest of n slots that waits under a number: a search.
+#[tactic(auto, using(crate::proofs::ResolveLaws::last_waiter), unfolding(definition::specs::Slots::waiter))]
+fn find_waiter(slots: &[u64], number: u64, n: usize) -> Option<usize>
     requires { n ≤ room 6 slots.now }
-    ensures { result ≡ waiter slots.now number n }
+    ensures { counted result ≡ waiter slots.now number n }
 {
-    let mut i = n;
-    while 0 < i {
-        if waits_for(slots, number, i - 1) {
-            return i as u64;
+    for k in (0..n).rev() {
+        if waits_for(slots, number, k) {
+            return Some(k);
         }
-        i -= 1;
     }
-    0
+    None
 }
 
-// The same, from k, which stands under the number in the index. Where no slot waits under it, k may be anything; so it counts only if the slot
-// that it names waits.
-fn confirmed(slots: &[u64], number: u64, n: usize, k: u64) -> u64
+// The same, from k, which stands under the number in scratch. Where no slot waits under it, k may be anything; so it counts only if the
+// slot that it names waits.
+fn confirmed(slots: &[u64], number: u64, n: usize, k: u64) -> Option<usize>
     requires { (n ≤ room 6 slots.now) × Entry slots.now n number k }
-    ensures { result ≡ waiter slots.now number n }
+    ensures { counted result ≡ waiter slots.now number n }
 {
-    if k == 0 {
-        return 0;
+    if k == 0 || (n as u64) < k {
+        return None;
     }
-    if (n as u64) < k {
-        return 0;
+    let slot = (k - 1) as usize;
+    if waits_for(slots, number, slot) {
+        Some(slot)
+    } else {
+        None
     }
-    let waits = waits_for(slots, number, (k - 1) as usize);
-    if waits { k } else { 0 }
 }
 
-// The same, by the index where it has room; and with no search under a number that was not given out, or where no slot waits.
-fn lookup(slots: &[u64], scratch: &[u64], size: usize, s: State, number: u64) -> u64
-    requires { (s.slots ≤ room 6 slots.now) × Indexed slots.now s.slots (take size scratch.now) × Waits slots.now s.slots s.pending s.waiting }
-    ensures { result ≡ waiter slots.now number s.slots }
+// The same, by scratch where it has a place; and with no search under a number that was not given out, or where no slot waits.
+fn lookup(w: &Walker, s: State, number: u64) -> Option<usize>
+    requires { (s.slots ≤ room 6 w.now.slots.now) × Indexed w.now.slots.now s.slots w.now.pending.now × Waits w.now.slots.now s.slots s.pending s.waiting }
+    ensures { counted result ≡ waiter w.now.slots.now number s.slots }
 {
     if s.pending <= number {
-        return 0;
+        return None;
     }
-    if number < size as u64 {
-        if number < scratch.len() as u64 {
-            let k = number as usize;
-            return confirmed(slots, number, s.slots, scratch[k]);
-        }
+    if number < w.pending.len() as u64 {
+        return confirmed(w.slots, number, s.slots, w.pending[number as usize]);
     }
     if s.waiting == 0 {
-        return 0;
+        return None;
     }
-    find_waiter(slots, number, s.slots)
+    find_waiter(w.slots, number, s.slots)
 }
 
-// The next pending number: where no slot waits, numbering returns to 0.
-fn renumber(pending: u64, waiting: u64) -> u64
-    ensures { result ≡ renumbered pending waiting }
+// The state with so many slots that wait: where none does, numbering returns to 0.
+fn with_waiting(s: State, waiting: u64) -> State
+    ensures { (l : Lent) → mem result l ≡ with_pending (renumbered s.pending waiting) waiting (mem s l) }
 {
-    if waiting == 0 { 0 } else { pending }
+    let pending = if waiting == 0 { 0 } else { s.pending };
+    State {
+        pending,
+        waiting,
+        ..s
+    }
 }
 
 // A resolve of a number, after the map of object o.
-fn resolve(slots: &mut [u64], scratch: &[u64], size: usize, s: State, number: u64, o: u64) -> State
-    requires { (s.slots ≤ room 6 slots.old) × Indexed slots.old s.slots (take size scratch.now) × Waits slots.old s.slots s.pending s.waiting }
-    ensures l_after { (l : Lent) → mem result (slots_is slots.new l) ≡ resolved number o (mem s (slots_is slots.old l)) }
-    ensures index { Indexed slots.new result.slots (take size scratch.now) }
+fn resolve(w: &mut Walker, s: State, number: u64, o: u64) -> State
+    requires { (s.slots ≤ room 6 w.old.slots.now) × Indexed w.old.slots.now s.slots w.old.pending.now × Waits w.old.slots.now s.slots s.pending s.waiting }
+    ensures is { mem result (lent_of w.new) ≡ resolved number o (mem s (lent_of w.old)) }
+    ensures index { Indexed w.new.slots.now result.slots w.new.pending.now }
+    ensures kept { Kept w.old w.new }
 {
-    let k = lookup(slots, scratch, size, s, number);
-    let mut t = s;
-    if k == 0 {
-        t.pending = renumber(s.pending, s.waiting);
-        return t;
-    }
-    fill_slot(slots, (k - 1) as usize, o);
-    t.waiting = s.waiting - 1;
-    t.pending = renumber(s.pending, s.waiting - 1);
-    t
+    let Some(k) = lookup(w, s, number) else {
+        return with_waiting(s, s.waiting);
+    };
+    fill_slot(w.slots, k, o);
+    with_waiting(s, s.waiting - 1)
 }
 
 // Resolves as long as they stand at the cursor.
-pub fn resolves(
-    sheet: &[u16],
-    p: &[u8],
-    slots: &mut [u64],
-    scratch: &[u64],
-    s: State,
-    o: u64,
-) -> Went
-    requires sheet_value { usable sheet.now ≡ true }
-    requires at_in_bounds { (s.at ≤ length p.now) × (s.slots ≤ room 6 slots.old) × Indexed slots.old s.slots (take (length p.now) scratch.now) × Waits slots.old s.slots s.pending s.waiting }
-    ensures by_index { (tr : List ℕ) (sp : ℕ) (l : Lent) → seen_went result (slots_is slots.new l) ≡ resolvesFrom (input sheet.now p.now sp tr) o (length p.now - s.at) (mem s (slots_is slots.old l)) }
-    ensures index { WentIndexed result slots.new (take (length p.now) scratch.now) }
+pub fn resolves(w: &mut Walker, s: State, o: u64) -> Answer<()>
+    requires usable { (usable w.old.sheet.now ≡ true) × (s.at ≤ length w.old.payload.now) }
+    requires waits { (s.slots ≤ room 6 w.old.slots.now) × Indexed w.old.slots.now s.slots w.old.pending.now × Waits w.old.slots.now s.slots s.pending s.waiting }
+    ensures is { seen result (lent_of w.new) ≡ resolvesFrom (input_of w.old) o (length w.old.payload.now - s.at) (mem s (lent_of w.old)) }
+    ensures index { IndexedAfter result w.new.slots.now w.new.pending.now }
+    ensures kept { Kept w.old w.new }
 {
-    let mut cur = s;
-    loop {
-        let at = cur.at;
-        if !is_tag(sheet, K_RESOLVE_PENDING_FORWARD_REF, peek(p, at)) {
-            return Went::On(cur);
-        }
-        cur.at = at + 1;
-        match read_int(p, cur) {
-            Count::Refused(n, q, t) => {
-                return Went::Refused(n, q, t);
-            }
-            Count::Is(number, t) => {
-                cur = resolve(slots, scratch, p.len(), t, number, o);
-            }
-        }
+    let p = w.payload;
+    let mut t = s;
+    while is_tag(w.sheet, K_RESOLVE_PENDING_FORWARD_REF, peek(p, t.at)) {
+        let (number, u) = read_int(p, State { at: t.at + 1, ..t })?;
+        t = resolve(w, u, number, o);
     }
+    Ok(((), t))
 }

@@ -1,45 +1,52 @@
 -- An object whose map is a leaf, opened without the readers of every reference. Assumes nothing: these are definitions.
-use Rattle.std.specs.Prelude.{◌≡◌, true, false, List, ℕ, ◌+◌, ◌*◌, ◌^◌, ◌<◌, length, get_or, set, take, drop, Some}
+use Rattle.std.specs.Prelude.{◌≡◌, false, true, List, ℕ, ◌+◌, ◌*◌, ◌^◌, ◌<◌, Option, Some, None}
 use Rattle.stream.specs.PutInt.{int_at}
-use Rattle.sheet.specs.Sheet.{is_legacy, is_six_x, is_map_first}
-use Rattle.tables.specs.Values.{triple}
-use Rattle.tables.specs.Records.{room, field, object_row, slot_row, written}
+use Rattle.sheet.specs.Sheet.{is_six_x, is_map_first, is_legacy}
+use Rattle.tables.specs.declared.values.SlotValue.{SlotValue}
 use Rattle.alloc.specs.declared.legacy_alloc.Request.{Request}
 use Rattle.alloc.specs.Allocation.{outcome, allocate_of}
 use Rattle.address_index.specs.Links.{Linked}
-use Rattle.definition.specs.Object.{flags}
+use Rattle.definition.specs.Memory.{Input, word, Reader, ◌>>=◌, ◌>>◌, give}
+use Rattle.definition.specs.Object.{flags, read_map, keep_map}
+use Rattle.readers.specs.declared.state.State.{State}
+use Rattle.readers.specs.declared.walker.Walker.{Walker}
 use Rattle.readers.specs.Views.{input}
+use Rattle.readers.specs.Lent.{lent_of}
 use Rattle.leaves.specs.declared.leaf.Leaf.{Leaf}
-use Rattle.leaves.specs.Leaf.{ring, value_of, Found}
-use Rattle.opened_leaves.specs.declared.opening.Opened.{Opened}
+use Rattle.leaves.specs.Leaf.{LeafAt}
+use Rattle.objects.specs.Head.{opening}
+use Rattle.objects.specs.Map.{AddressAlone}
 
--- the size stands at a place and the map after it, a leaf that sets no flag; no byte of a large object stands between them, and nothing
+-- an object's head, its map with what follows it, but its resolves: its declared bytes
+abbrev pub opened : Input → Reader SlotValue → ℕ → ℕ → ℕ → Reader ℕ
+opened x r space tag o =
+    opening x space tag
+    >>= (λ words. read_map x r space (words * word x) o >>= keep_map x o >> give (words * word x))
+
+-- the size stands at the cursor and the map after it, a leaf that sets no flag; no byte of a large object stands between them, and nothing
 -- but an allocation follows the map, no resolve either
-pub record MapAt (v h tr p hot : List ℕ) (at count ts : ℕ) (r : Opened) : Type 0 where
-  pub no_large_byte : is_six_x v ≡ false
-  pub not_first : is_map_first v ≡ false
-  pub sized : Some (record { value = r.words; count = r.size }) ≡ int_at p at
-  pub small : r.words < 2 ^ 30
-  pub there : (at + r.size < length p) × (get_or p (at + r.size) 0 < 256)
-  pub found : Found p hot count ts (at + r.size + 1) (get_or h (get_or p (at + r.size) 0) 0) (get_or h (256 + get_or p (at + r.size) 0) 0) r.map
-  pub unflagged : (sh q : List ℕ) (sp : ℕ) → flags (input sh q sp tr) (value_of r.map) ≡ false
+pub record MapAt (w : Walker) (s : State) (ts words : ℕ) (map : Leaf) : Type 0 where
+  pub no_large_byte : is_six_x w.sheet.now ≡ false
+  pub not_first : is_map_first w.sheet.now ≡ false
+  pub count : ℕ
+  pub sized : Some (record { value = words; count = count }) ≡ int_at w.payload.now s.at
+  pub small : words < 2 ^ 30
+  pub leaf : LeafAt w (s.at + count) (s.objects + 1) ts (Some map)
+  pub unflagged : (sh q : List ℕ) (sp : ℕ) → flags (input sh q sp w.trusted.now) map.value ≡ false
 
--- the records of object o and of its map, slot n, and the ring
-pub record Opens (tag o n bytes : ℕ) (map : Leaf) (objects slots hot objects' slots' hot' : List ℕ) : Type 0 where
-  pub object_room : o < room 4 objects
-  pub slot_room : n < room 6 slots
-  pub object : objects' ≡ set (written objects o (object_row bytes tag)) (o * 4 + 3) (field 4 (written objects o (object_row bytes tag)) o 3 + 1)
-  pub slot : slots' ≡ written slots n (slot_row o 0 (triple map.kind map.a map.b) 0)
-  pub rings : hot' ≡ ring map hot
+-- the state with so many address records and this alignment
+abbrev pub addressed : ℕ → ℕ → State → State
+addressed n a s =
+    record
+    { at = s.at; objects = s.objects; slots = s.slots; values = s.values; addresses = n; pending = s.pending; waiting = s.waiting; skip = s.skip; alignment = a }
 
--- in a legacy sheet address record n, which is in the index then; so many records and this alignment after it
-pub record Addressed (v : List ℕ) (spaces n size : ℕ) (want : Request) (cur : List ℕ) (records alignment : ℕ) (addresses used scratch addresses' used' scratch' : List ℕ) : Type 0 where
-  pub plain : is_legacy v ≡ false → (addresses' ≡ addresses) × (used' ≡ used) × (records ≡ n) × (alignment ≡ want.alignment)
-  pub legacy : is_legacy v ≡ true → (outcome 0 alignment (record { cur = cur; used = used' }) addresses' ≡ allocate_of addresses n spaces want (record { cur = cur; used = used })) × (records ≡ n + 1)
-  pub linked : Linked addresses' records (drop size scratch')
-  pub front : take size scratch' ≡ take size scratch
+-- in a legacy sheet an address record, which is in the index then; in others nothing changes, and where it is refused neither
+pub record Given (w : Walker) (s : State) (want : Request) (t : State) (w' : Walker) : Type 0 where
+  pub alone : AddressAlone w w'
+  pub plain : is_legacy w.sheet.now ≡ false → (t ≡ s) × (lent_of w' ≡ lent_of w) × (w'.index.now ≡ w.index.now)
+  pub legacy : is_legacy w.sheet.now ≡ true → (t ≡ addressed (s.addresses + 1) t.alignment s) × (outcome 0 t.alignment w'.alloc w'.addresses.now ≡ allocate_of w.addresses.now s.addresses w.spaces want w.alloc)
+  pub linked : Linked w'.addresses.now t.addresses w'.index.now
 
--- all stays
-abbrev pub Unopened : List ℕ → List ℕ → List ℕ → List ℕ → List ℕ → List ℕ → List ℕ → List ℕ → List ℕ → List ℕ → List ℕ → List ℕ → Type 0
-Unopened objects slots addresses hot used scratch objects' slots' addresses' hot' used' scratch' =
-    (objects' ≡ objects) × (slots' ≡ slots) × (addresses' ≡ addresses) × (hot' ≡ hot) × (used' ≡ used) × (scratch' ≡ scratch)
+abbrev pub AddressGiven : Walker → State → Request → Option State → Walker → Type 0
+AddressGiven w s want (Some t) w' = Given w s want t w'
+AddressGiven w s want None w' = AddressAlone w w' × (lent_of w' ≡ lent_of w) × (w'.index.now ≡ w.index.now)

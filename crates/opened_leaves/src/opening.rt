@@ -1,195 +1,90 @@
 // Objects whose map is a leaf, opened without the readers of every reference.
-ghost use Rattle.std.specs.Prelude.{true, false, ◌≡◌, ℕ, ◌+◌, ◌*◌, ◌^◌, ◌<◌, ◌≤◌, length, drop};
+
+ghost use Rattle.std.specs.Prelude.{true, ◌≡◌, ℕ, ◌+◌, ◌*◌, ◌^◌, ◌<◌, ◌≤◌, IfSome, IsNone};
 ghost use Rattle.sheet.specs.Sheet.{usable, word_bytes};
-ghost use Rattle.tables.specs.Records.{room};
+ghost use Rattle.heads.specs.Heads.{Heads};
+ghost use Rattle.tables.specs.declared.values.SlotValue.{SlotValue};
 ghost use Rattle.address_index.specs.Links.{Linked};
-ghost use Rattle.leaves.specs.Leaf.{HeadsFit};
-ghost use Rattle.opened_leaves.specs.Opening.{MapAt, Opens, Addressed, Unopened};
+ghost use Rattle.definition.specs.Memory.{Reader, got};
+ghost use Rattle.definition.specs.Reference.{reference};
+ghost use Rattle.readers.specs.Views.{mem};
+ghost use Rattle.readers.specs.Lent.{input_of, lent_of, Fixed};
+ghost use Rattle.objects.specs.Index.{Indexed};
+ghost use Rattle.opened_leaves.specs.Opening.{opened, MapAt, AddressGiven};
 
 use alloc::legacy_alloc::Request;
-use leaves::leaf::{Leaf, enter, leaf_at, none, value_of};
+use leaves::leaf::{Leaf, enter, leaf_at};
 use objects::map::{allocate_record, is_flagged};
 use readers::state::State;
-use sheet::numbers::{legacy, map_first, six_x, word_bytes};
+use readers::walker::Walker;
+use sheet::numbers::{legacy, map_first, six_x};
 use stream::putint::putint;
 use tables::records::{add_object, add_slot, count_slot};
-use tables::values::Fields;
+use tables::values::fields_of;
 
-// An object whose map is a leaf: its size in words, how many bytes that integer has, and the map; with the address records that there are then, and
-// the alignment that is pending. Kind 0 of the map: none.
-#[derive(Clone, Copy)]
-pub struct Opened {
-    pub words: u64,
-    pub size: usize,
-    pub map: Leaf,
-    pub records: usize,
-    pub alignment: u64,
-}
-
-// Whether an object has its address, the address records that there are then, and the alignment that is pending.
-#[derive(Clone, Copy)]
-struct Address {
-    given: bool,
-    records: usize,
-    alignment: u64,
-}
-
-// No object.
-fn unopened() -> Opened
-    ensures { result.map.kind ≡ 0 }
+// The size in words and the map of an object after whose head the cursor stands, where the map is a leaf that is not flagged. Where a large object has
+// a byte after its size, and where its map comes first, it is left to others. The address is `open_leaf`'s, and the resolves are the caller's.
+fn map_at(w: &Walker, s: State, word: u64) -> Option<(u64, Leaf)>
+    requires { (word ≤ 8) × Heads w.now.sheet.now w.now.heads.now × (s.objects < 2 ^ 63) }
+    ensures { IfSome result (λ r. MapAt w.now s word r.0 r.1) }
 {
-    let map = none();
-    Opened {
-        words: 0,
-        size: 0,
-        map,
-        records: 0,
-        alignment: 0,
+    if six_x(w.sheet) || map_first(w.sheet) {
+        return None;
     }
+    let size = putint(w.payload, s.at)?;
+    let map = leaf_at(w, s.at + size.count, s.objects + 1, word)?;
+    if is_flagged(w.trusted, map.value) {
+        return None;
+    }
+    Some((size.value as u64, map))
 }
 
-// The size of an object and its map, where the map is a leaf that is not flagged. Where a large object has a byte after its size, and where its
-// map comes first, it is left to others. The address is `open_leaf`'s, and the resolves are the caller's.
-fn map_at(
-    v: &[u16],
-    h: &[u16; 512],
-    tr: &[u8],
-    p: &[u8],
-    hot: &[u64; 25],
-    at: usize,
-    count: usize,
-    word: u64,
-) -> Opened
-    requires { (word ≤ 8) × HeadsFit h.now }
-    ensures { (result.map.kind ≡ 0 → ⊥) → MapAt v.now h.now tr.now p.now hot.now at count word result }
+// In a legacy sheet an address record for what is wanted; in others an object has none. Where it is refused, nothing is changed.
+fn give_address(w: &mut Walker, s: State, want: Request) -> Option<State>
+    requires { (want.space < 256) × (want.word ≤ 8) × (want.alignment ≡ s.alignment) × Linked w.old.addresses.now s.addresses w.old.index.now }
+    ensures { AddressGiven w.old s want result w.new }
 {
-    if six_x(v) {
-        return unopened();
+    if !legacy(w.sheet) {
+        return Some(s);
     }
-    if map_first(v) {
-        return unopened();
-    }
-    let Some(i) = putint(p, at) else {
-        return unopened();
-    };
-    let map = leaf_at(h, p, hot, at + i.count, count, word);
-    if is_flagged(tr, value_of(map)) {
-        return unopened();
-    }
-    Opened {
-        words: i.value as u64,
-        size: i.count,
-        map,
-        records: 0,
-        alignment: 0,
-    }
-}
-
-// In a legacy sheet address record n, for what is wanted; in others an object has none. Where it is refused, nothing is changed.
-fn give_address(
-    v: &[u16],
-    dt: &mut [u64],
-    sc: &mut [u64],
-    size: usize,
-    c: &[u32; 256],
-    u: &mut [u32; 256],
-    k: u64,
-    n: usize,
-    want: Request,
-) -> Address
-    requires { (want.space < 256) × (want.word ≤ 8) × Linked dt.old n (drop size sc.old) }
-    ensures dt_unchanged { result.given ≡ false → (dt.new ≡ dt.old) × (u.new ≡ u.old) × (sc.new ≡ sc.old) }
-    ensures given { result.given ≡ true → Addressed v.now k n size want c.now result.records result.alignment dt.old u.old sc.old dt.new u.new sc.new }
-{
-    if !legacy(v) {
-        return Address {
-            given: true,
-            records: n,
-            alignment: want.alignment,
-        };
-    }
-    match allocate_record(dt, sc, size, c, u, k, n, want) {
-        Ok(alignment) => Address {
-            given: true,
-            records: n + 1,
+    match allocate_record(w, s.addresses, want) {
+        Ok(alignment) => Some(State {
+            addresses: s.addresses + 1,
             alignment,
-        },
-        Err(_) => Address {
-            given: false,
-            records: n,
-            alignment: want.alignment,
-        },
+            ..s
+        }),
+        Err(_) => None,
     }
 }
 
-// The records of object o, whose head stands at `tag`, and of its map, slot n; both have room.
-fn put_opened(
-    ot: &mut [u64],
-    st: &mut [u64],
-    hr: &mut [u64; 25],
-    tag: usize,
-    o: usize,
-    n: usize,
-    bytes: u64,
-    map: Leaf,
-)
-    requires { (o < room 4 ot.old) × (n < room 6 st.old) }
-    ensures { Opens tag o n bytes map ot.old st.old hr.old ot.new st.new hr.new }
-{
-    add_object(ot, o, bytes, tag as u64);
-    let f = Fields {
-        kind: map.kind,
-        a: map.a,
-        b: map.b,
-    };
-    add_slot(st, n, o as u64, 0, f, 0);
-    count_slot(ot, o as u64);
-    enter(hr, map.enters, f);
-}
-
-// The object whose size stands at the cursor and its head at `tag`, in this space, with its map in slot 0 and its address. Kind 0 of the map where
-// `map_at` finds none, where a record has no room or the address is refused, and at the last level, where a map is refused; then nothing is changed.
+// The object after whose head the cursor stands, in this space, with its map in slot 0 and its address: its bytes. None where `map_at` finds none,
+// where a record has no room or the address is refused, and at the last level, where a map is refused; then nothing is changed.
 pub fn open_leaf(
-    v: &[u16],
-    h: &[u16; 512],
-    tr: &[u8],
-    p: &[u8],
-    ot: &mut [u64],
-    st: &mut [u64],
-    dt: &mut [u64],
-    hr: &mut [u64; 25],
-    c: &[u32; 256],
-    u: &mut [u32; 256],
-    sc: &mut [u64],
-    k: u64,
+    w: &mut Walker,
     s: State,
     d: usize,
     tag: usize,
     space: u64,
-) -> Opened
-    requires v_value { (usable v.now ≡ true) × (space < 256) × (s.objects < 2 ^ 63) × HeadsFit h.now }
-    requires linked { Linked dt.old s.addresses (drop (length p.now) sc.old) }
-    ensures unopened { result.map.kind ≡ 0 → Unopened ot.old st.old dt.old hr.old u.old sc.old ot.new st.new dt.new hr.new u.new sc.new }
-    ensures opens { (result.map.kind ≡ 0 → ⊥) → (d < 64) × MapAt v.now h.now tr.now p.now hr.old s.at (s.objects + 1) (word_bytes v.now) result × Opens tag s.objects s.slots (result.words * word_bytes v.now) result.map ot.old st.old hr.old ot.new st.new hr.new × Addressed v.now k s.addresses (length p.now) (record { space = space; size = result.words * word_bytes v.now; object = s.objects; alignment = s.alignment; word = word_bytes v.now }) c.now result.records result.alignment dt.old u.old sc.old dt.new u.new sc.new }
+    word: u64,
+) -> Option<(u64, State)>
+    requires usable { (usable w.old.sheet.now ≡ true) × (word ≡ word_bytes w.old.sheet.now) × Heads w.old.sheet.now w.old.heads.now × (space < 256) × (s.objects < 2 ^ 63) }
+    requires linked_before { Linked w.old.addresses.now s.addresses w.old.index.now }
+    ensures read { IfSome result (λ r. (d < 64) × (r.0 < 2 ^ 33) × (s.objects < r.1.objects) × ((inner : Reader SlotValue) → got r.0 (mem r.1 (lent_of w.new)) ≡ opened (input_of w.old) (reference (input_of w.old) inner) space tag s.objects (mem s (lent_of w.old)))) }
+    ensures linked { IfSome result (λ r. Linked w.new.addresses.now r.1.addresses w.new.index.now) }
+    ensures indexed { IfSome result (λ r. Indexed w.old.slots.now s.slots w.old.pending.now → Indexed w.new.slots.now r.1.slots w.new.pending.now) }
+    ensures none { IsNone result → (lent_of w.new ≡ lent_of w.old) × (w.new.index.now ≡ w.old.index.now) }
+    ensures rest { Fixed w.old w.new × (w.new.pending.now ≡ w.old.pending.now) }
 {
     if 64 <= d {
-        return unopened();
+        return None;
     }
-    let word = word_bytes(v);
     let o = s.objects;
     let n = s.slots;
-    let mut opened = map_at(v, h, tr, p, hr, s.at, o + 1, word);
-    let map = opened.map;
-    if map.kind == 0 {
-        return opened;
+    let (words, map) = map_at(w, s, word)?;
+    if w.objects.len() / 4 <= o || w.slots.len() / 6 <= n {
+        return None;
     }
-    if ot.len() / 4 <= o {
-        return unopened();
-    }
-    if st.len() / 6 <= n {
-        return unopened();
-    }
-    let bytes = opened.words * word;
+    let bytes = words * word;
     let want = Request {
         space,
         size: bytes,
@@ -197,12 +92,16 @@ pub fn open_leaf(
         alignment: s.alignment,
         word,
     };
-    let address = give_address(v, dt, sc, p.len(), c, u, k, s.addresses, want);
-    if !address.given {
-        return unopened();
-    }
-    put_opened(ot, st, hr, tag, o, n, bytes, map);
-    opened.records = address.records;
-    opened.alignment = address.alignment;
-    opened
+    let t = give_address(w, s, want)?;
+    add_object(w.objects, o, bytes, tag as u64);
+    add_slot(w.slots, n, o as u64, 0, fields_of(map.value), 0);
+    count_slot(w.objects, o as u64);
+    enter(&mut w.hot, map);
+    let u = State {
+        at: map.next,
+        objects: o + 1,
+        slots: n + 1,
+        ..t
+    };
+    Some((bytes, u))
 }

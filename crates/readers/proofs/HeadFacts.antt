@@ -13,7 +13,8 @@ use Rattle.heads.specs.Kinds.{new_object, hot, hot_with_skip}
 use Rattle.sheet.specs.Sheet.{number, present, root_mask}
 use Rattle.heads.specs.Heads.{nothing, offset, and_seven, argument_of, span_of, tests, Row, order, Head, head, claims, pick_head, first_of, head_of}
 use Rattle.heads.proofs.Rules.{argument_offset, argument_none, argument_and_seven, argument_small}
-use Rattle.sheet.proofs.UsableSheet.{and_left, and_right, implies, one_of}
+use Rattle.std.proofs.lemmas.Bool.{and_parts}
+use Rattle.sheet.proofs.UsableSheet.{implies, one_of}
 use Rattle.readers.specs.Simple.{Simple}
 use Rattle.readers.specs.Prefix.{Holdless}
 
@@ -66,13 +67,13 @@ module _ (v : List ℕ) (b : ℕ) (l : b < 256) where
   row_head : (r : Row) → row_fits r ≡ true → claims v r b ≡ true → HeadFits (head r.kind (argument r))
   unfolding argument
   row_head r t c =
-      let t2 = and_left (hot_rule hot r && hot_rule hot_with_skip r) (space_rule r) t in
-      let c2 = and_left (present v r.name && tests v r.family && leb (number v r.name) b) (ltb b (number v r.name + span_of v r.span)) c in
+      let t2 = (and_parts (hot_rule hot r && hot_rule hot_with_skip r) (space_rule r) t).0 in
+      let c2 = (and_parts (present v r.name && tests v r.family && leb (number v r.name) b) (ltb b (number v r.name + span_of v r.span)) c).0 in
       record {
-        place = hot_below hot r (and_left (hot_rule hot r) (hot_rule hot_with_skip r) t2);
-        skip_place = hot_below hot_with_skip r (and_right (hot_rule hot r) (hot_rule hot_with_skip r) t2);
-        space = space_below r (and_right (hot_rule hot r && hot_rule hot_with_skip r) (space_rule r) t);
-        small = argument_small (root_mask v) r.argument (number v r.name) b (leb-true (number v r.name) b (and_right (present v r.name && tests v r.family) (leb (number v r.name) b) c2)) l;
+        place = hot_below hot r (and_parts (hot_rule hot r) (hot_rule hot_with_skip r) t2).0;
+        skip_place = hot_below hot_with_skip r (and_parts (hot_rule hot r) (hot_rule hot_with_skip r) t2).1;
+        space = space_below r (and_parts (hot_rule hot r && hot_rule hot_with_skip r) (space_rule r) t).1;
+        small = argument_small (root_mask v) r.argument (number v r.name) b (leb-true (number v r.name) b (and_parts (present v r.name && tests v r.family) (leb (number v r.name) b) c2).1) l;
       }
 
   picked : (t : Bool) {g h : Head} → (t ≡ true → HeadFits g) → HeadFits h → HeadFits (pick_head t g h)
@@ -82,7 +83,7 @@ module _ (v : List ℕ) (b : ℕ) (l : b < 256) where
   first_fits : (rs : List Row) → rows_fit rs ≡ true → HeadFits (first_of v rs b)
   unfolding first_of argument
   first_fits [] t = record { place = λ e. omega arith; skip_place = λ e. omega arith; space = λ e. omega arith; small = omega arith }
-  first_fits (r ∷ rs) t = picked (claims v r b) (row_head r (and_left (row_fits r) (rows_fit rs) t)) (first_fits rs (and_right (row_fits r) (rows_fit rs) t))
+  first_fits (r ∷ rs) t = picked (claims v r b) (row_head r (and_parts (row_fits r) (rows_fit rs) t).0) (first_fits rs (and_parts (row_fits r) (rows_fit rs) t).1)
 
   pub head_fits : HeadFits (head_of v b)
   unfolding head_of

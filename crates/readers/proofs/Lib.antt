@@ -3,4 +3,3 @@ pub mod IntLaws
 pub mod SimpleLaws
 pub mod HeadFacts
 pub mod PrefixLaws
-pub mod PartLaws

@@ -1,3 +1,4 @@
 pub mod Views
+pub mod Lent
 pub mod Simple
 pub mod Prefix

@@ -2,7 +2,7 @@
 #![tactic(auto)]
 
 pub mod ints;
-pub mod parts;
 pub mod prefix;
 pub mod simple;
 pub mod state;
+pub mod walker;

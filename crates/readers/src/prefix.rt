@@ -1,97 +1,100 @@
 // What stands before another reference: chunk changes, alignment, weak and pointer prefixes, repeats.
-ghost use Rattle.std.specs.Prelude.{◌≡◌, List, ℕ, ◌^◌, ◌-◌, ◌<◌, ◌≤◌, length, get_or};
-ghost use Rattle.readers.specs.Views.{Lent, input, mem, seen, values_is, counters_is};
-ghost use Rattle.readers.specs.Prefix.{held as heldAs, RepeatsRoot, Begins, HeldSmall};
+ghost use Rattle.std.specs.Prelude.{◌≡◌, List, ℕ, ◌-◌, ◌^◌, ◌<◌, get_or};
+ghost use Rattle.heads.specs.Kinds.{kind_number};
+ghost use Rattle.readers.specs.Views.{Lent, input, mem, seen};
+ghost use Rattle.readers.specs.Lent.{input_of, lent_of, Kept};
+ghost use Rattle.readers.specs.Prefix.{held as heldAs, Begins, RepeatsRoot};
 
 use crate::ints::{read_byte, read_int};
-use crate::state::{Count, State, Step};
-use alloc::legacy_alloc::next_chunk;
+use crate::state::{Answer, State};
+use crate::walker::Walker;
+use heads::heads::Head;
+use heads::kinds::Kind;
+use refusals::refusal::Refusal;
 use tables::records::add_value;
 use tables::values::SlotValue;
 
-// How the value of the next reference is held (0 as it is, 1 weak, n + 2 repeated n times); the same of a root that was read already; a
-// refusal; or a head that is none of these.
+// How the value of a reference is held: as it is, weak, or repeated so many times.
+#[derive(Clone, Copy)]
+pub enum Held {
+    Plain,
+    Weak,
+    Repeated(u32),
+}
+
+// What a prefix asks: that the value of the next reference is held, or this root; or a head that is no prefix.
 #[derive(Clone, Copy)]
 pub enum Prefix {
-    Inner(u64, State),
-    Value(u64, u64, State),
-    Refused(u64, usize, State),
+    Inner(Held),
+    Root(Held, u64),
     Other,
 }
 
 // The head of a reference that holds another, or of a repeated root.
-pub fn begin(
-    p: &[u8],
-    cur: &mut [u32; 256],
-    used: &mut [u32; 256],
-    spaces: u64,
-    s: State,
-    kind: u64,
-    a: u64,
-) -> Prefix
-    requires { (((i : ℕ) → get_or cur.old i 0 < 2 ^ 32 - 1)) × (a < 65536) }
-    ensures by_index { (v tr : List ℕ) (tag : ℕ) (l : Lent) → Begins (input v p.now spaces tr) tag kind a s (counters_is cur.old used.old l) result (counters_is cur.new used.new l) }
-    ensures small { HeldSmall result }
+#[tactic(auto, unfolding(definition::specs::Reference::by_head))]
+pub fn begin(w: &mut Walker, s: State, head: Head) -> Answer<Prefix>
+    requires { (i : ℕ) → get_or w.old.alloc.cur i 0 < 2 ^ 32 - 1 }
+    ensures begins { (tag : ℕ) → Begins (input_of w.old) tag (kind_number head.kind) head.argument s (lent_of w.old) result (lent_of w.new) }
+    ensures kept { Kept w.old w.new }
 {
-    let mut t = s;
-    match kind {
-        5 => match read_byte(p, s) {
-            Count::Refused(n, q, u) => Prefix::Refused(n, q, u),
-            Count::Is(space, u) => {
-                next_chunk(cur, used, spaces, space);
-                Prefix::Inner(0, u)
-            }
-        },
-        6 => {
-            t.alignment = a;
-            Prefix::Inner(0, t)
+    let p = w.payload;
+    let n = head.argument as u32;
+    match head.kind {
+        Kind::NextChunk => {
+            let (space, t) = read_byte(p, s)?;
+            let spaces = w.spaces;
+            w.alloc.next_chunk(spaces, space);
+            Ok((Prefix::Inner(Held::Plain), t))
         }
-        25 => Prefix::Inner(1, s),
-        26 => Prefix::Inner(0, s),
-        31 => Prefix::Inner(a + 2, s),
-        32 => repeat_root(p, s, a),
-        34 => match read_int(p, s) {
-            Count::Refused(n, q, u) => Prefix::Refused(n, q, u),
-            Count::Is(n, u) => Prefix::Inner(n + 18 + 2, u),
-        },
-        36 => match read_int(p, s) {
-            Count::Refused(n, q, u) => Prefix::Refused(n, q, u),
-            Count::Is(n, u) => repeat_root(p, u, n + 18),
-        },
-        _ => Prefix::Other,
+        Kind::Alignment => {
+            let t = State {
+                alignment: head.argument as u64,
+                ..s
+            };
+            Ok((Prefix::Inner(Held::Plain), t))
+        }
+        Kind::WeakPrefix => Ok((Prefix::Inner(Held::Weak), s)),
+        Kind::PointerPrefix => Ok((Prefix::Inner(Held::Plain), s)),
+        Kind::FixedRepeat => Ok((Prefix::Inner(Held::Repeated(n)), s)),
+        Kind::FixedRepeatRoot => repeat_root(p, s, n),
+        Kind::VariableRepeat => {
+            let (n, t) = read_int(p, s)?;
+            Ok((Prefix::Inner(Held::Repeated(n as u32 + 18)), t))
+        }
+        Kind::VariableRepeatRoot => {
+            let (n, t) = read_int(p, s)?;
+            repeat_root(p, t, n as u32 + 18)
+        }
+        _ => Ok((Prefix::Other, s)),
     }
 }
 
 // A root that is repeated n times: one plain byte.
-fn repeat_root(p: &[u8], s: State, n: u64) -> Prefix
-    requires { n < 2 ^ 31 }
-    ensures by_index { (v tr : List ℕ) (sp : ℕ) (l : Lent) → RepeatsRoot (input v p.now sp tr) n s l result }
-    ensures small { HeldSmall result }
+fn repeat_root(p: &[u8], s: State, n: u32) -> Answer<Prefix>
+    ensures { (v tr : List ℕ) (sp : ℕ) (l : Lent) → RepeatsRoot (input v p.now sp tr) n s l result }
 {
-    match read_byte(p, s) {
-        Count::Refused(m, q, t) => Prefix::Refused(m, q, t),
-        Count::Is(i, t) => Prefix::Value(n + 2, i, t),
-    }
+    let (i, t) = read_byte(p, s)?;
+    Ok((Prefix::Root(Held::Repeated(n), i), t))
 }
 
 // The value that a reference held: as it is, or as a value record, if there is room.
-pub fn hold(values: &mut [u64], s: State, held: u64, v: SlotValue) -> Step
-    requires { held < 2 ^ 32 }
-    ensures { (l : Lent) → seen result (values_is values.new l) ≡ heldAs held v (mem s (values_is values.old l)) }
+#[tactic(auto, unfolding(definition::specs::Slots::add_value))]
+pub fn hold(w: &mut Walker, s: State, held: Held, v: SlotValue) -> Answer<SlotValue>
+    ensures holds { seen result (lent_of w.new) ≡ heldAs held v (mem s (lent_of w.old)) }
+    ensures kept { Kept w.old w.new }
 {
-    if held == 0 {
-        return Step::Got(v, s);
+    let n = s.values as u64;
+    let value = match held {
+        Held::Plain => return Ok((v, s)),
+        Held::Weak => SlotValue::WeakRef(n),
+        Held::Repeated(count) => SlotValue::Repeat(count, n),
+    };
+    if !add_value(w.values, s.values, v) {
+        return Err(s.refused(Refusal::NoRoom));
     }
-    let n = s.values;
-    let at = s.at;
-    if !add_value(values, n, v) {
-        return Step::Refused(3, at, s);
-    }
-    let mut t = s;
-    t.values = n + 1;
-    if held == 1 {
-        Step::Got(SlotValue::WeakRef(n as u64), t)
-    } else {
-        Step::Got(SlotValue::Repeat((held - 2) as u32, n as u64), t)
-    }
+    let t = State {
+        values: s.values + 1,
+        ..s
+    };
+    Ok((value, t))
 }

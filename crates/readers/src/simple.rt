@@ -1,289 +1,242 @@
 // References that hold no other.
-ghost use Rattle.std.specs.Prelude.{true, ◌≡◌, List, ℕ, ◌^◌, ◌<◌, ◌≤◌, length, drop};
-ghost use Rattle.sheet.specs.Sheet.{usable};
-ghost use Rattle.tables.specs.declared.values.SlotValue.{SlotValue};
-ghost use Rattle.tables.specs.Records.{room};
-ghost use Rattle.address_index.specs.Links.{Linked};
-ghost use Rattle.address_index.specs.Sorted.{Sorted};
+ghost use Rattle.std.specs.Prelude.{◌≡◌, List, ℕ, ◌^◌, ◌<◌};
+ghost use Rattle.heads.specs.Kinds.{kind_number, hot_with_skip};
 ghost use Rattle.definition.specs.Memory.{Reader};
-ghost use Rattle.definition.specs.Reference.{hot_place, legacy_reference, pending_reference, raw_data, by_head};
-ghost use Rattle.readers.specs.Views.{Lent, input, mem, seen, hot_is, addresses_is};
-ghost use Rattle.readers.specs.Simple.{of_int, of_ints, read_backref, read_root, read_int, read_ints, read_raw, read_skipped, Simple};
+ghost use Rattle.backref.specs.Legacy.{backref_of};
+ghost use Rattle.definition.specs.Reference.{refers_hot, legacy_reference, raw_data, pending_reference, hot_place, by_head};
+ghost use Rattle.readers.specs.Views.{Lent, input, mem, seen};
+ghost use Rattle.readers.specs.Lent.{input_of, lent_of, Kept, Addressed};
+ghost use Rattle.readers.specs.Simple.{Makes, MakesOfTwo, read_backref, read_root, read_int, read_ints, read_raw, read_skipped, Simple};
 
 use crate::ints::{read_int, read_skip};
-use crate::parts::index_start;
-use crate::state::{Count, State, Step, Went};
+use crate::state::{Answer, State};
+use crate::walker::Walker;
 use address_index::resolve::AddressIndex;
-use backref::hot_ring::{add, get};
-use backref::legacy::{BackrefError, LegacyReader};
+use backref::legacy::{Backref, BackrefError, LegacyReader};
+use heads::heads::Head;
+use heads::kinds::Kind;
+use refusals::refusal::Refusal;
 use sheet::numbers::{legacy, raw_advances, word_bytes};
 use stream::bytes::raw;
 use tables::values::{Raw, Ref, SlotValue};
 
-// kBackref: an object by plain index, which enters the ring.
-fn back_ref(p: &[u8], hot: &mut [u64; 25], s: State) -> Step
-    ensures { (v tr : List ℕ) (sp : ℕ) (l : Lent) → seen result (hot_is hot.new l) ≡ read_backref (input v p.now sp tr) (mem s (hot_is hot.old l)) }
+// A reference that enters the ring.
+fn enter(w: &mut Walker, s: State, r: Ref) -> Answer<SlotValue>
+    ensures is { seen result (lent_of w.new) ≡ refers_hot r (mem s (lent_of w.old)) }
+    ensures kept { Kept w.old w.new }
 {
-    match read_int(p, s) {
-        Count::Refused(n, q, t) => Step::Refused(n, q, t),
-        Count::Is(i, t) => {
-            let at = t.at;
-            if i < t.objects as u64 {
-                add(hot, Ref::Object(i));
-                Step::Got(SlotValue::Ref(Ref::Object(i)), t)
-            } else {
-                Step::Refused(8, at, t)
-            }
-        }
+    w.hot.add(r);
+    Ok((SlotValue::Ref(r), s))
+}
+
+// kBackref: an object by plain index, which enters the ring.
+fn back_ref(w: &mut Walker, s: State) -> Answer<SlotValue>
+    ensures is { seen result (lent_of w.new) ≡ read_backref (input_of w.old) (mem s (lent_of w.old)) }
+    ensures kept { Kept w.old w.new }
+{
+    let (i, t) = read_int(w.payload, s)?;
+    if t.objects as u64 <= i {
+        return Err(t.refused(Refusal::NoSuchObject));
     }
+    enter(w, t, Ref::Object(i))
 }
 
 // kRootArray: a root by integer, which enters the ring.
-fn root_array(p: &[u8], hot: &mut [u64; 25], s: State) -> Step
-    ensures { (v tr : List ℕ) (sp : ℕ) (l : Lent) → seen result (hot_is hot.new l) ≡ read_root (input v p.now sp tr) (mem s (hot_is hot.old l)) }
+fn root_array(w: &mut Walker, s: State) -> Answer<SlotValue>
+    ensures is { seen result (lent_of w.new) ≡ read_root (input_of w.old) (mem s (lent_of w.old)) }
+    ensures kept { Kept w.old w.new }
 {
-    match read_int(p, s) {
-        Count::Refused(n, q, t) => Step::Refused(n, q, t),
-        Count::Is(i, t) => {
-            add(hot, Ref::Root(i));
-            Step::Got(SlotValue::Ref(Ref::Root(i)), t)
-        }
-    }
+    let (i, t) = read_int(w.payload, s)?;
+    enter(w, t, Ref::Root(i))
 }
 
 // A place of the hot ring.
-fn hot_ref(hot: &[u64; 25], s: State, place: u64) -> Step
+fn hot_ref(w: &Walker, s: State, place: usize) -> Answer<SlotValue>
     requires { place < 8 }
-    ensures { (l : Lent) → seen result (hot_is hot.now l) ≡ hot_place place (mem s (hot_is hot.now l)) }
+    ensures { seen result (lent_of w.now) ≡ hot_place place (mem s (lent_of w.now)) }
 {
-    let at = s.at;
-    match get(hot, place as usize) {
-        Some(r) => Step::Got(SlotValue::Ref(r), s),
-        None => Step::Refused(9, at, s),
+    match w.hot.get(place) {
+        Some(r) => Ok((SlotValue::Ref(r), s)),
+        None => Err(s.refused(Refusal::EmptyHotPlace)),
     }
 }
 
-// A legacy back-reference to a space.
-pub fn legacy_ref<'a>(
-    sheet: &'a [u16],
-    p: &'a [u8],
-    addresses: &'a [u64],
-    scratch: &'a [u64],
-    hot: &mut [u64; 25],
-    s: State,
-    space: u64,
-) -> Step
-    requires addresses_bound { (s.addresses ≤ room 5 addresses.now) × (usable sheet.now ≡ true) }
-    requires linked { Linked addresses.now s.addresses (drop (length p.now) scratch.now) × Sorted addresses.now s.addresses }
-    ensures { (tr : List ℕ) (sp : ℕ) (l : Lent) → seen result (addresses_is addresses.now (hot_is hot.new l)) ≡ legacy_reference (input sheet.now p.now sp tr) space (mem s (addresses_is addresses.now (hot_is hot.old l))) }
+// The back-reference to a space that stands at a place.
+pub fn find_backref(w: &Walker, s: State, space: u64, at: usize) -> Result<Backref, BackrefError>
+    requires { Addressed w.now s.addresses }
+    ensures { result ≡ backref_of w.now.sheet.now w.now.payload.now w.now.addresses.now s.addresses s.alignment space at }
 {
-    let start = index_start(p, scratch);
+    let addresses = AddressIndex {
+        table: w.addresses,
+        links: w.index,
+        count: s.addresses,
+    };
     let reader = LegacyReader {
-        sheet,
-        payload: p,
-        addresses: AddressIndex {
-            table: addresses,
-            links: &scratch[start..],
-            count: s.addresses,
-        },
+        sheet: w.sheet,
+        payload: w.payload,
+        addresses,
         alignment: s.alignment,
         space,
     };
-    let mut t = s;
-    match reader.legacy_backref(hot, s.at) {
+    reader.backref_at(at)
+}
+
+// A legacy back-reference to a space.
+#[tactic(auto, unfolding(definition::specs::Reference::legacy_reference))]
+pub fn legacy_ref(w: &mut Walker, s: State, space: u64) -> Answer<SlotValue>
+    requires { Addressed w.old s.addresses }
+    ensures is { seen result (lent_of w.new) ≡ legacy_reference (input_of w.old) space (mem s (lent_of w.old)) }
+    ensures kept { Kept w.old w.new }
+{
+    match find_backref(w, s, space, s.at) {
         Ok(b) => {
-            t.at = b.next;
-            Step::Got(SlotValue::Ref(b.target), t)
+            let t = State { at: b.next, ..s };
+            enter(w, t, b.target)
         }
-        Err(BackrefError::Cut) => {
-            t.at = p.len();
-            Step::Refused(4, p.len(), t)
-        }
+        Err(BackrefError::Cut) => Err(s.cut(w.payload)),
         Err(BackrefError::Unknown(next)) => {
-            t.at = next;
-            Step::Refused(15, next, t)
+            let t = State { at: next, ..s };
+            Err(t.refused(Refusal::NoSuchNumber))
         }
     }
 }
 
 // Raw data of n bytes.
-fn raw_data(p: &[u8], s: State, n: u64, advances: bool) -> Step
+#[tactic(auto, unfolding(definition::specs::Reference::raw_data))]
+fn raw_data(p: &[u8], s: State, n: u64, advances: bool) -> Answer<SlotValue>
     ensures { (v tr : List ℕ) (sp : ℕ) (l : Lent) → seen result l ≡ raw_data (input v p.now sp tr) n advances (mem s l) }
 {
     let at = s.at;
-    let mut t = s;
-    match raw(p, at, n as usize) {
-        Some(end) => {
-            t.at = end;
-            Step::Got(
-                SlotValue::Raw(Raw {
-                    off: at as u64,
-                    len: n,
-                    advances,
-                }),
-                t,
-            )
-        }
-        None => Step::Refused(7, at, s),
-    }
+    let Some(end) = raw(p, at, n as usize) else {
+        return Err(s.refused(Refusal::RawPastEnd));
+    };
+    let value = Raw {
+        off: at as u64,
+        len: n,
+        advances,
+    };
+    Ok((SlotValue::Raw(value), State { at: end, ..s }))
 }
 
 // kVariableRawData: a length in words, in legacy in bytes; a length of 0 reads one byte.
-fn variable_raw(sheet: &[u16], p: &[u8], s: State) -> Step
+#[tactic(auto, using(crate::proofs::SimpleLaws::product_small))]
+fn variable_raw(sheet: &[u16], p: &[u8], s: State) -> Answer<SlotValue>
     ensures { (tr : List ℕ) (sp : ℕ) (l : Lent) → seen result l ≡ read_raw (input sheet.now p.now sp tr) (mem s l) }
 {
-    match read_int(p, s) {
-        Count::Refused(n, q, t) => Step::Refused(n, q, t),
-        Count::Is(n, t) => {
-            let bytes = if legacy(sheet) {
-                n
-            } else {
-                n * word_bytes(sheet)
-            };
-            let some = if bytes == 0 { 1 } else { bytes };
-            raw_data(p, t, some, raw_advances(sheet))
-        }
-    }
+    let (n, t) = read_int(p, s)?;
+    let bytes = if legacy(sheet) {
+        n
+    } else {
+        n * word_bytes(sheet)
+    };
+    raw_data(p, t, bytes.max(1), raw_advances(sheet))
 }
 
-// The value that a head of this kind makes of its one integer.
-fn of_int(kind: u64, n: u64) -> SlotValue
-    requires { n < 2 ^ 30 }
-    ensures { result ≡ of_int kind n }
+// The chunks of what stands off the heap: the caller's numbers of document 01.
+const CACHE: u64 = 4294967295;
+
+const BUILTIN: u64 = 4294967294;
+
+const EXTERNAL: u64 = 4294967293;
+
+const API: u64 = 4294967292;
+
+const OFF_HEAP_TARGET: u64 = 4294967291;
+
+// A reference into the read-only heap, or to something off the heap.
+fn ro_ref(chunk: u64, n: u32) -> SlotValue
+    ensures { result ≡ SlotValue.Ref (Ref.RoRef chunk n) }
 {
-    match kind {
-        13 => SlotValue::Ref(Ref::Attached(n)),
-        14 => SlotValue::Ref(Ref::RoRef(4294967294, n)),
-        15 => SlotValue::Ref(Ref::RoRef(4294967293, n)),
-        16 => SlotValue::Ref(Ref::RoRef(4294967292, n)),
-        18 => SlotValue::Skip(0),
-        19 => SlotValue::StreamBytes(n as u32),
-        21 => SlotValue::Ref(Ref::RoRef(4294967291, 0)),
-        22 => SlotValue::Ref(Ref::RoRef(4294967295, n)),
-        27 => SlotValue::ClearedWeak,
-        30 => SlotValue::Skip(n as u32),
-        _ => SlotValue::RepeatPrev(n as u32),
-    }
+    SlotValue::Ref(Ref::RoRef(chunk, u64::from(n)))
 }
 
-// A head with one integer.
-fn one_int(p: &[u8], s: State, kind: u64) -> Step
-    ensures { (v tr : List ℕ) (sp : ℕ) (l : Lent) → seen result l ≡ read_int (input v p.now sp tr) kind (mem s l) }
+// A head with one integer, of which its value is made.
+fn one_int<F: FnOnce(u32) -> SlotValue>(p: &[u8], s: State, make: F) -> Answer<SlotValue>
+    requires { F.IsAlwaysCallable make }
+    ensures { (f : ℕ → SlotValue) → Makes f (F.post make) → (v tr : List ℕ) (sp : ℕ) (l : Lent) → seen result l ≡ read_int f (input v p.now sp tr) (mem s l) }
 {
-    match read_int(p, s) {
-        Count::Refused(n, q, t) => Step::Refused(n, q, t),
-        Count::Is(n, t) => Step::Got(of_int(kind, n), t),
-    }
+    let (n, t) = read_int(p, s)?;
+    Ok((make(n as u32), t))
 }
 
-// The value that a head of this kind makes of its two integers.
-fn of_ints(kind: u64, a: u64, b: u64) -> SlotValue
-    requires { b < 2 ^ 30 }
-    ensures { result ≡ of_ints kind a b }
+// A head with two integers, of which its value is made.
+fn two_ints<F: FnOnce(u32, u32) -> SlotValue>(p: &[u8], s: State, make: F) -> Answer<SlotValue>
+    requires { F.IsAlwaysCallable make }
+    ensures { (f : ℕ → ℕ → SlotValue) → MakesOfTwo f (F.post make) → (v tr : List ℕ) (sp : ℕ) (l : Lent) → seen result l ≡ read_ints f (input v p.now sp tr) (mem s l) }
 {
-    match kind {
-        12 => SlotValue::Ref(Ref::RoRef(a, b)),
-        17 => SlotValue::Skip(0),
-        _ => SlotValue::StreamBytes(b as u32),
-    }
-}
-
-// A head with two integers.
-fn two_ints(p: &[u8], s: State, kind: u64) -> Step
-    ensures { (v tr : List ℕ) (sp : ℕ) (l : Lent) → seen result l ≡ read_ints (input v p.now sp tr) kind (mem s l) }
-{
-    match read_int(p, s) {
-        Count::Refused(n, q, t) => Step::Refused(n, q, t),
-        Count::Is(a, t) => match read_int(p, t) {
-            Count::Refused(n, q, u) => Step::Refused(n, q, u),
-            Count::Is(b, u) => Step::Got(of_ints(kind, a, b), u),
-        },
-    }
+    let (a, t) = read_int(p, s)?;
+    let (b, u) = read_int(p, t)?;
+    Ok((make(a as u32, b as u32), u))
 }
 
 // A pending forward reference: it gets the next number.
-fn pending_ref(s: State) -> Step
+#[tactic(auto, unfolding(definition::specs::Reference::pending_reference))]
+fn pending_ref(s: State) -> Answer<SlotValue>
     requires { s.pending < 2 ^ 63 }
     ensures { (l : Lent) → seen result l ≡ pending_reference (mem s l) }
 {
-    let n = s.pending;
-    let mut t = s;
-    t.pending = n + 1;
-    Step::Got(SlotValue::PendingRef(n), t)
+    let t = State {
+        pending: s.pending + 1,
+        ..s
+    };
+    Ok((SlotValue::PendingRef(s.pending), t))
 }
 
 // A head with a with-skip amount before what it is.
-fn with_skip(
-    sheet: &[u16],
-    p: &[u8],
-    addresses: &[u64],
-    scratch: &[u64],
-    hot: &mut [u64; 25],
-    s: State,
-    kind: u64,
-    a: u64,
-) -> Step
-    requires addresses_bound { (s.addresses ≤ room 5 addresses.now) × (usable sheet.now ≡ true) × (s.skip < 2 ^ 63) × (kind ≡ 8 → a < 8) }
-    requires linked { Linked addresses.now s.addresses (drop (length p.now) scratch.now) × Sorted addresses.now s.addresses }
-    ensures { (tr : List ℕ) (sp : ℕ) (l : Lent) → seen result (addresses_is addresses.now (hot_is hot.new l)) ≡ read_skipped (input sheet.now p.now sp tr) kind a (mem s (addresses_is addresses.now (hot_is hot.old l))) }
+fn with_skip(w: &mut Walker, s: State, head: Head) -> Answer<SlotValue>
+    requires addressed { Addressed w.old s.addresses × (s.skip < 2 ^ 63) }
+    requires place { kind_number head.kind ≡ hot_with_skip → head.argument < 8 }
+    ensures is { seen result (lent_of w.new) ≡ read_skipped (input_of w.old) (kind_number head.kind) head.argument (mem s (lent_of w.old)) }
+    ensures kept { Kept w.old w.new }
 {
-    match read_skip(p, s) {
-        Went::Refused(n, q, t) => Step::Refused(n, q, t),
-        Went::On(t) => match kind {
-            4 => legacy_ref(sheet, p, addresses, scratch, hot, t, a),
-            8 => hot_ref(hot, t, a),
-            11 => Step::Got(SlotValue::Ref(Ref::Root(a)), t),
-            _ => one_int(p, t, kind),
-        },
+    let p = w.payload;
+    let ((), t) = read_skip(p, s)?;
+    let a = head.argument as u64;
+    match head.kind {
+        Kind::LegacyBackrefWithSkip => legacy_ref(w, t, a),
+        Kind::HotWithSkip => hot_ref(w, t, a as usize),
+        Kind::RootConstantWithSkip => Ok((SlotValue::Ref(Ref::Root(a)), t)),
+        Kind::Api => one_int(p, t, |n| ro_ref(API, n)),
+        // kOffHeapTarget is left.
+        _ => one_int(p, t, |_| ro_ref(OFF_HEAP_TARGET, 0)),
     }
 }
 
-// A reference by its head's kind and argument, of a head that holds no other reference. The head stands at `tag`.
-pub fn simple_ref(
-    sheet: &[u16],
-    p: &[u8],
-    addresses: &[u64],
-    scratch: &[u64],
-    hot: &mut [u64; 25],
-    s: State,
-    tag: usize,
-    kind: u64,
-    a: u64,
-) -> Step
-    requires addresses_bound { (s.addresses ≤ room 5 addresses.now) × (usable sheet.now ≡ true) × (s.skip < 2 ^ 63) × (s.pending < 2 ^ 63) }
-    requires simple { Simple kind a }
-    requires linked { Linked addresses.now s.addresses (drop (length p.now) scratch.now) × Sorted addresses.now s.addresses }
-    ensures { (tr : List ℕ) (sp : ℕ) (l : Lent) (inner : Reader SlotValue) → seen result (addresses_is addresses.now (hot_is hot.new l)) ≡ by_head (input sheet.now p.now sp tr) inner tag kind a (mem s (addresses_is addresses.now (hot_is hot.old l))) }
+// A reference by its head, of a head that holds no other reference. The head stands at `tag`.
+#[tactic(auto, using(crate::proofs::SimpleLaws::target_grouped, crate::proofs::SimpleLaws::product_small), unfolding(definition::specs::Reference::by_head))]
+pub fn simple_ref(w: &mut Walker, s: State, tag: usize, head: Head) -> Answer<SlotValue>
+    requires addressed { Addressed w.old s.addresses × (s.skip < 2 ^ 63) × (s.pending < 2 ^ 63) }
+    requires simple { Simple (kind_number head.kind) head.argument }
+    ensures is { (inner : Reader SlotValue) → seen result (lent_of w.new) ≡ by_head (input_of w.old) inner tag (kind_number head.kind) head.argument (mem s (lent_of w.old)) }
+    ensures kept { Kept w.old w.new }
 {
-    match kind {
-        2 => back_ref(p, hot, s),
-        3 => legacy_ref(sheet, p, addresses, scratch, hot, s, a),
-        4 => with_skip(sheet, p, addresses, scratch, hot, s, 4, a),
-        7 => hot_ref(hot, s, a),
-        8 => with_skip(sheet, p, addresses, scratch, hot, s, 8, a),
-        9 => root_array(p, hot, s),
-        10 => Step::Got(SlotValue::Ref(Ref::Root(a)), s),
-        11 => with_skip(sheet, p, addresses, scratch, hot, s, 11, a),
-        12 => two_ints(p, s, 12),
-        13 => one_int(p, s, 13),
-        14 => one_int(p, s, 14),
-        15 => one_int(p, s, 15),
-        16 => with_skip(sheet, p, addresses, scratch, hot, s, 16, a),
-        17 => two_ints(p, s, 17),
-        18 => one_int(p, s, 18),
-        19 => one_int(p, s, 19),
-        20 => two_ints(p, s, 20),
-        21 => with_skip(sheet, p, addresses, scratch, hot, s, 21, a),
-        22 => one_int(p, s, 22),
-        23 => pending_ref(s),
-        24 => Step::Got(SlotValue::ClearedWeak, s),
-        27 => one_int(p, s, 27),
-        28 => raw_data(p, s, a * word_bytes(sheet), true),
-        29 => variable_raw(sheet, p, s),
-        30 => one_int(p, s, 30),
-        33 => Step::Got(SlotValue::RepeatPrev(a as u32), s),
-        35 => one_int(p, s, 35),
-        37 => Step::Refused(11, tag, s),
-        _ => Step::Refused(10, tag, s),
+    let p = w.payload;
+    let a = head.argument as u64;
+    match head.kind {
+        Kind::Backref => back_ref(w, s),
+        Kind::LegacyBackref => legacy_ref(w, s, a),
+        Kind::Hot => hot_ref(w, s, a as usize),
+        Kind::RootArray => root_array(w, s),
+        Kind::RootConstant => Ok((SlotValue::Ref(Ref::Root(a)), s)),
+        Kind::ReadOnly => two_ints(p, s, |a, b| ro_ref(u64::from(a), b)),
+        Kind::Attached => one_int(p, s, |n| SlotValue::Ref(Ref::Attached(u64::from(n)))),
+        Kind::Builtin => one_int(p, s, |n| ro_ref(BUILTIN, n)),
+        Kind::External => one_int(p, s, |n| ro_ref(EXTERNAL, n)),
+        Kind::Internal => two_ints(p, s, |_, _| SlotValue::Skip(0)),
+        Kind::Deoptimizer => one_int(p, s, |_| SlotValue::Skip(0)),
+        Kind::StreamBytes => one_int(p, s, SlotValue::StreamBytes),
+        Kind::EmbedderFields => two_ints(p, s, |_, n| SlotValue::StreamBytes(n)),
+        Kind::Cache => one_int(p, s, |n| ro_ref(CACHE, n)),
+        Kind::RegisterPending => pending_ref(s),
+        Kind::ClearedWeak => Ok((SlotValue::ClearedWeak, s)),
+        Kind::DispatchEntry => one_int(p, s, |_| SlotValue::ClearedWeak),
+        Kind::FixedRaw => raw_data(p, s, a * word_bytes(w.sheet), true),
+        Kind::VariableRaw => variable_raw(w.sheet, p, s),
+        Kind::Skip => one_int(p, s, SlotValue::Skip),
+        Kind::RepeatPrevious => Ok((SlotValue::RepeatPrev(a as u32), s)),
+        Kind::VariableRepeatPrevious => one_int(p, s, SlotValue::RepeatPrev),
+        Kind::MetaMap => Err(s.refused_at(tag, Refusal::MetaMap)),
+        Kind::NoMeaning => Err(s.refused_at(tag, Refusal::NoMeaning)),
+        _ => with_skip(w, s, head),
     }
 }

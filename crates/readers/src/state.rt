@@ -1,5 +1,8 @@
-// What a reader has, in numbers, and what it answers. The tables, the hot ring and the chunk counters are lent beside it.
-use tables::values::SlotValue;
+// What a reader has, in numbers, and what it answers. What is lent beside it stands in a `Walker`.
+ghost use Rattle.std.specs.Prelude.{◌≡◌, length};
+ghost use Rattle.readers.specs.Views.{refused_at, cut_at};
+
+use refusals::refusal::Refusal;
 
 // The cursor, the four record counts, the next pending number and how many slots wait, the with-skip amount that stands, and the pending
 // alignment.
@@ -16,23 +19,44 @@ pub struct State {
     pub alignment: u64,
 }
 
-// A value; or a refusal's number and place, with the state that it left.
+// A refusal with its place and the state that it left.
 #[derive(Clone, Copy)]
-pub enum Step {
-    Got(SlotValue, State),
-    Refused(u64, usize, State),
+pub struct Refused {
+    pub refusal: Refusal,
+    pub place: usize,
+    pub state: State,
 }
 
-// A number.
-#[derive(Clone, Copy)]
-pub enum Count {
-    Is(u64, State),
-    Refused(u64, usize, State),
-}
+// What a reader answers: a value and the state after it, or a refusal.
+pub type Answer<T> = Result<(T, State), Refused>;
 
-// Nothing but the state.
-#[derive(Clone, Copy)]
-pub enum Went {
-    On(State),
-    Refused(u64, usize, State),
+impl State {
+    // A refusal at a place.
+    pub fn refused_at(self, place: usize, refusal: Refusal) -> Refused
+        ensures { result ≡ refused_at refusal place self }
+    {
+        Refused {
+            refusal,
+            place,
+            state: self,
+        }
+    }
+
+    // A refusal at the cursor.
+    pub fn refused(self, refusal: Refusal) -> Refused
+        ensures { result ≡ refused_at refusal self.at self }
+    {
+        self.refused_at(self.at, refusal)
+    }
+
+    // The payload ends where a byte is needed: the cursor moves there.
+    pub fn cut(self, p: &[u8]) -> Refused
+        ensures { result ≡ cut_at (length p.now) self }
+    {
+        State {
+            at: p.len(),
+            ..self
+        }
+        .refused(Refusal::PayloadEnds)
+    }
 }

@@ -1,9 +1,10 @@
 -- The numbers of document 01's refusals. Assumes nothing: these are definitions.
 use Rattle.std.specs.Prelude.{ℕ}
 use Rattle.refusals.specs.declared.refusal.Refusal.{Refusal}
-use Rattle.refusals.specs.declared.refusal.Refusal.TheVariants.{UnusableSheet, TooLong, NoRoom, PayloadEnds, NoObjectFirst, TooDeep, RawPastEnd, NoSuchObject, EmptyHotPlace, NoMeaning, MetaMap, SizeDiffers, NoSynchronize, NoPadding, NoSuchNumber, AddressTooLarge, NoView}
+use Rattle.refusals.specs.declared.refusal.Refusal.TheVariants.{NoEntry, UnusableSheet, TooLong, NoRoom, PayloadEnds, NoObjectFirst, TooDeep, RawPastEnd, NoSuchObject, EmptyHotPlace, NoMeaning, MetaMap, SizeDiffers, NoSynchronize, NoPadding, NoSuchNumber, AddressTooLarge, NoView}
 
 abbrev pub number_of : Refusal → ℕ
+number_of NoEntry = 0
 number_of UnusableSheet = 1
 number_of TooLong = 2
 number_of NoRoom = 3

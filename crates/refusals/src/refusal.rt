@@ -8,6 +8,8 @@ use std::fmt;
 // The rows of document 01's table, in its order and with its numbers.
 #[derive(Clone, Copy, Debug, PartialEq, Eq, Hash)]
 pub enum Refusal {
+    // A deferred entry names no object: a legacy closing section ends there, and no call answers this. Document 01 gives it no number.
+    NoEntry = 0,
     // The version sheet is not usable.
     UnusableSheet = 1,
     // The payload is over 16,777,216 bytes long, or there are over 65,536 reservations.
@@ -57,6 +59,7 @@ impl Refusal {
 impl fmt::Display for Refusal {
     fn fmt<W: fmt::Write>(&self, f: &mut fmt::Formatter<W>) -> fmt::Result {
         f.write_str(match self {
+            Refusal::NoEntry => "a deferred entry names no object",
             Refusal::UnusableSheet => "the version sheet is not usable",
             Refusal::TooLong => "the payload or the reservation list is too long",
             Refusal::NoRoom => "a table has no room for the next record",

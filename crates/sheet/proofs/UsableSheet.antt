@@ -8,21 +8,14 @@ use native.Mathlib.Omega.{arith}
 use lib.Dec.{leb, eqb}
 use lib.ListN.{length, get_or}
 use borrow.Author.Tests.{leb-true, eqb-true, eqb-false, not-true}
+use Rattle.std.proofs.lemmas.Bool.{and_parts, or_cases}
+use Rattle.std.proofs.lemmas.Bool.{and_parts, or_cases}
+use Rattle.std.proofs.lemmas.Bool.{and_parts, or_cases}
+use Rattle.std.proofs.lemmas.Bool.{and_parts, or_cases}
+use Rattle.std.proofs.lemmas.Bool.{and_parts, or_cases}
 use Rattle.sheet.specs.Names.{k_new_object, k_backref, k_hot_object, k_root_array_constants, k_fixed_raw_data, k_alignment_prefix, k_hot_object_with_skip, k_root_array_constants_with_skip, k_fixed_repeat, k_fixed_repeat_root, k_backref_with_skip}
 use Rattle.sheet.specs.Sheet.{pick_ℕ, number, present, constant, number_of_spaces, root_mask, word_bytes, page_size_bits, space_tag_size, is_legacy, is_six_x, has_length, has_word_size, within, all_within, has_required, numbers_fit, between, space_tag_size_fits, page_size_bits_fits, six_x_is_legacy, span_fits, spans_fit, legacy_spans_fit, usable}
 use Rattle.sheet.specs.Usable.{SpanFits, Usable}
-
-pub and_left : (a b : Bool) → a && b ≡ true → a ≡ true
-and_left true b e = refl
-and_left false b e = e
-
-pub and_right : (a b : Bool) → a && b ≡ true → b ≡ true
-and_right true b e = e
-and_right false b e = cc
-
-pub or_cases : (a b : Bool) → a || b ≡ true → (a ≡ true) ⊎ (b ≡ true)
-or_cases true b e = inl refl
-or_cases false b e = inr e
 
 -- `not a || b` is an implication
 pub implies : (a b : Bool) → not a || b ≡ true → a ≡ true → b ≡ true
@@ -30,39 +23,39 @@ implies true b e h = e
 implies false b e h = cc
 
 -- a conjunction of any length, as a chain of `&&` nests it
-abbrev pub all_of : Bool → List Bool → Bool
+abbrev all_of : Bool → List Bool → Bool
 all_of a [] = a
 all_of a (b ∷ l) = all_of (a && b) l
 
 all_first : (a : Bool) (l : List Bool) → all_of a l ≡ true → a ≡ true
 all_first a [] e = e
-all_first a (b ∷ l) e = and_left a b (all_first (a && b) l e)
+all_first a (b ∷ l) e = (and_parts a b (all_first (a && b) l e)).0
 
 all_at : (a : Bool) (l : List Bool) → all_of a l ≡ true → (k : ℕ) → get_or l k true ≡ true
 all_at a [] e k = refl
-all_at a (b ∷ l) e zero = and_right a b (all_first (a && b) l e)
+all_at a (b ∷ l) e zero = (and_parts a b (all_first (a && b) l e)).1
 all_at a (b ∷ l) e (suc k) = all_at (a && b) l e k
 
 -- each part of a conjunction that holds
 pub parts : (l : List Bool) → all_of true l ≡ true → (k : ℕ) → get_or l k true ≡ true
 parts = all_at true
 
-pub between_low : (low high x : ℕ) → between low high x ≡ true → low ≤ x
-between_low low high x e = leb-true low x (and_left (leb low x) (leb x high) e)
+between_low : (low high x : ℕ) → between low high x ≡ true → low ≤ x
+between_low low high x e = leb-true low x (and_parts (leb low x) (leb x high) e).0
 
-pub between_high : (low high x : ℕ) → between low high x ≡ true → x ≤ high
-between_high low high x e = leb-true x high (and_right (leb low x) (leb x high) e)
+between_high : (low high x : ℕ) → between low high x ≡ true → x ≤ high
+between_high low high x e = leb-true x high (and_parts (leb low x) (leb x high) e).1
 
 pub one_of : (x a b : ℕ) → eqb x a || eqb x b ≡ true → (x ≡ a) ⊎ (x ≡ b)
 one_of x a b e = ⊎_elim (λ h. inl (eqb-true x a h)) (λ h. inr (eqb-true x b h)) (or_cases (eqb x a) (eqb x b) e)
 
 -- the bound from the test of a span
-pub span_bound : (v : List ℕ) (k n : ℕ) → span_fits v k n ≡ true → SpanFits v k n
+span_bound : (v : List ℕ) (k n : ℕ) → span_fits v k n ≡ true → SpanFits v k n
 span_bound v k n e h = leb-true (number v k + n) 255 (implies (present v k) (leb (number v k + n) 255) e h)
 
 module _ (most x : ℕ) where
   -- a number that may be absent is bounded or absent
-  pub bounded_or_absent : within most true x ≡ true → (x ≤ most) ⊎ (x ≡ 65535)
+  bounded_or_absent : within most true x ≡ true → (x ≤ most) ⊎ (x ≡ 65535)
   bounded_or_absent e = ⊎_elim (λ h. inl (leb-true x most h)) (λ h. inr (eqb-true x 65535 h)) (or_cases (leb x most) (eqb x 65535) e)
 
   -- a number that must be present is bounded
@@ -70,17 +63,13 @@ module _ (most x : ℕ) where
   bounded e = ⊎_elim (leb-true x most) (λ h. leb-true x most (cc)) (or_cases (leb x most) false e)
 
 -- each of the numbers that `all_within` goes through is within
-pub within_at : (v : List ℕ) (most : ℕ) (absent : Bool) (n at i k : ℕ) → all_within v most absent at n ≡ true → i < n → k ≡ at + i → within most absent (number v k) ≡ true
+within_at : (v : List ℕ) (most : ℕ) (absent : Bool) (n at i k : ℕ) → all_within v most absent at n ≡ true → i < n → k ≡ at + i → within most absent (number v k) ≡ true
 unfolding all_within
 within_at v most absent zero at i k e h q = absurd (omega arith)
 within_at v most absent (suc n) at zero k e h q =
     let at_first : k ≡ at = omega arith in
-    rw at_first (and_left (within most absent (number v at)) (all_within v most absent (at + 1) n) e)
-within_at v most absent (suc n) at (suc i) k e h q = within_at v most absent n (at + 1) i k (and_right (within most absent (number v at)) (all_within v most absent (at + 1) n) e) (omega arith) (omega arith)
-
-picked : (t : Bool) (a b : ℕ) → (t ≡ true → a ≤ 255) → b ≤ 255 → pick_ℕ t a b ≤ 255
-picked true a b h l = h refl
-picked false a b h l = l
+    rw at_first (and_parts (within most absent (number v at)) (all_within v most absent (at + 1) n) e).0
+within_at v most absent (suc n) at (suc i) k e h q = within_at v most absent n (at + 1) i k (and_parts (within most absent (number v at)) (all_within v most absent (at + 1) n) e).1 (omega arith) (omega arith)
 
 module _ (v : List ℕ) where
   abbrev clauses : List Bool
@@ -125,9 +114,5 @@ module _ (v : List ℕ) where
 
 module _ (v : List ℕ) (u : Usable v) (k : ℕ) (h : k < 56) where
   -- a present tag or constant is at most 255
-  pub present_bound : present v k ≡ true → number v k ≤ 255
+  present_bound : present v k ≡ true → number v k ≤ 255
   present_bound p = ⊎_elim (λ b. b) (λ a. absurd (eqb-false (number v k) 65535 (not-true (eqb (number v k) 65535) p) a)) (u.numbers k h)
-
-  -- and so is a constant with its default
-  pub constant_bound : (default : ℕ) → default ≤ 255 → constant v k default ≤ 255
-  constant_bound default d = picked (present v k) (number v k) default present_bound d

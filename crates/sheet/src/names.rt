@@ -6,6 +6,12 @@ pub const ABSENT: u16 = 65535;
 // How many numbers a sheet has.
 pub const SHEET_LENGTH: usize = 58;
 
+// The first numbers are tags and constants.
+pub const NAMED: usize = 56;
+
+// The first of these a usable sheet has to have.
+pub const REQUIRED: usize = 9;
+
 pub const K_NEW_OBJECT: usize = 0;
 
 pub const K_BACKREF: usize = 1;

@@ -1,31 +1,19 @@
 -- What a write into a table leaves in the fields of its records, over their width. `stored_same` and `stored_else` speak of any run of
 -- fields of one record; a whole record, a filled slot and a single field are cases of it. Assumes nothing.
-use mathlib.Core.Path.{◌≡◌, refl, sym, ap, ◌∙◌}
+use mathlib.Core.Path.{◌≡◌, refl, ◌∙◌}
 use mathlib.Core.Logic.{◌≢◌}
 use mathlib.Core.List.{List, [], ◌∷◌}
-use Prim.Native.Nat.{ℕ, zero, suc, ◌+◌, ◌*◌, ◌/◌, ◌<◌, ◌≤◌}
-use native.Mathlib.Nat.{add-zero, zero-add, suc-mul, div-eq_of_lt, mul-add-div_right, le-div_iff_mul-le}
+use Prim.Native.Nat.{ℕ, zero, suc, ◌+◌, ◌*◌, ◌<◌, ◌≤◌}
+use native.Mathlib.Nat.{add-zero, zero-add, suc-mul, le-div_iff_mul-le}
 use native.Mathlib.Omega.{arith}
 use lib.ListN.{length, get_or, set, length-set}
 use lib.Seq.{sets, length-sets, get_or-set_same, get_or-set_other}
+use Rattle.std.proofs.lemmas.Nat.{same_from_place}
 use Rattle.tables.specs.Records.{room, field, written, filled}
 
 -- a record below the room ends within the table
 pub record_end : (w n : ℕ) (t : List ℕ) → 0 < w → n < room w t → n * w + w ≤ length t
 record_end w n t pos h = let l : suc n * w ≤ length t = (le-div_iff_mul-le pos).0 h in omega (arith, suc-mul n w)
-
-record_of : (w n k : ℕ) → k < w → (n * w + k) / w ≡ n
-record_of w n k h = let pos : 0 < w = omega arith in rw (mul-add-div_right pos n k, div-eq_of_lt h, add-zero)
-
-same_record : (w m n k j : ℕ) → k < w → j < w → m * w + k ≡ n * w + j → m ≡ n
-same_record w m n k j hk hj e = sym (record_of w m k hk) ∙ ap (λ (x : ℕ). x / w) e ∙ record_of w n j hj
-
--- two fields lie at one place only if they are the same field of the same record
-pub same_field : (w m n k j : ℕ) → k < w → j < w → m * w + k ≡ n * w + j → (m ≡ n) × (k ≡ j)
-same_field w m n k j hk hj e =
-    let r : m ≡ n = same_record w m n k j hk hj e in
-    let q : m * w ≡ n * w = rw r in
-    (r, omega arith)
 
 outside : (vs l : List ℕ) (i x : ℕ) → ((j : ℕ) → j < length vs → x ≢ i + j) → get_or (sets l i vs) x 0 ≡ get_or l x 0
 outside [] l i x h = refl
@@ -42,16 +30,16 @@ inside (v ∷ vs) l i (suc j) b h =
 
 -- a run of fields of record n, from its field f on
 module _ (w n f : ℕ) (t vs : List ℕ) (fits : f + length vs ≤ w) where
-  pub stored_same : (k : ℕ) → k < length vs → n < room w t → field w (sets t (n * w + f) vs) n (f + k) ≡ get_or vs k 0
+  stored_same : (k : ℕ) → k < length vs → n < room w t → field w (sets t (n * w + f) vs) n (f + k) ≡ get_or vs k 0
   stored_same k b h =
       let l : n * w + w ≤ length t = record_end w n t (omega arith) h in
       let e : n * w + (f + k) ≡ n * w + f + k = omega arith in
       rw e (inside vs t (n * w + f) k b (omega arith))
 
   -- every other field stays
-  pub stored_else : (m k : ℕ) → k < w → ((j : ℕ) → j < length vs → m ≡ n → k ≢ f + j) → field w (sets t (n * w + f) vs) m k ≡ field w t m k
+  stored_else : (m k : ℕ) → k < w → ((j : ℕ) → j < length vs → m ≡ n → k ≢ f + j) → field w (sets t (n * w + f) vs) m k ≡ field w t m k
   stored_else m k b apart =
-      outside vs t (n * w + f) (m * w + k) (λ j l e. let s : (m ≡ n) × (k ≡ f + j) = same_field w m n k (f + j) b (omega arith) (omega arith) in apart j l s.0 s.1)
+      outside vs t (n * w + f) (m * w + k) (λ j l e. let s : (m ≡ n) × (k ≡ f + j) = same_from_place m k n (f + j) w b (omega arith) (omega arith) in apart j l s.0 s.1)
 
 -- a whole record
 module _ (t row : List ℕ) (n : ℕ) where

@@ -5,7 +5,8 @@ ghost use Rattle.sheet.specs.Sheet as Sheet;
 use sheet::names::{
     ABSENT, K_ALIGNMENT_PREFIX, K_BACKREF, K_BACKREF_WITH_SKIP, K_DEFERRED, K_FIXED_RAW_DATA,
     K_FIXED_REPEAT, K_FIXED_REPEAT_ROOT, K_HOT_OBJECT, K_HOT_OBJECT_WITH_SKIP, K_NEW_OBJECT,
-    K_ROOT_ARRAY_CONSTANTS, K_ROOT_ARRAY_CONSTANTS_WITH_SKIP, K_SKIP, K_SPACE_MASK, SHEET_LENGTH,
+    K_ROOT_ARRAY_CONSTANTS, K_ROOT_ARRAY_CONSTANTS_WITH_SKIP, K_SKIP, K_SPACE_MASK, NAMED,
+    REQUIRED, SHEET_LENGTH,
 };
 use sheet::numbers::{
     legacy, number, number_of_spaces, page_size_bits, present, root_mask, six_x, space_tag_size,
@@ -73,8 +74,8 @@ pub fn usable(sheet: &[u16]) -> bool
     let word = word_bytes(sheet);
     sheet.len() == SHEET_LENGTH
         && (word == 4 || word == 8)
-        && all_within(sheet, 65534, false, 9)
-        && all_within(sheet, 255, true, 56)
+        && all_within(sheet, 65534, false, REQUIRED)
+        && all_within(sheet, 255, true, NAMED)
         && between(1, 16, space_tag_size(sheet))
         && between(3, 28, page_size_bits(sheet))
         && (!six_x(sheet) || legacy(sheet))

@@ -1,11 +1,13 @@
 // One case: its call, and what is frozen of the answer.
 ghost use Rattle.std.specs.Prelude.{◌≡◌, ◌≢◌, ◌≤◌, ◌↔◌, [], ◌∷◌, IsTrue, IfOk, vec_len};
 ghost use Rattle.std.specs.Option.{unwrap_or};
+ghost use Rattle.cache_graph.specs.Promise.{entered, rooms_of, answer, Reads};
+ghost use Rattle.vectors.specs.Answered.{numbers_of, Called};
 ghost use Rattle.vectors.specs.Numbers.{IsFrozen, after_numbers, after_table, first_number, numbers, places};
 
 use crate::numbers::Numbers;
 use crate::report::Differences;
-use cache_graph::parse::{Outcome, parse_with};
+use cache_graph::parse::{Call, Graph, Refused, Tables, parse_with};
 use std::alloc::{AllocError, Global};
 use std::iter::repeat;
 
@@ -21,6 +23,45 @@ pub struct Case {
     slots: Vec<u64>,
     values: Vec<u64>,
     addresses: Vec<u64>,
+}
+
+// The refusal's number or 0; then the four record counts and the cursor at the finish, or the refusal's place.
+#[derive(Clone, Copy)]
+pub struct Outcome {
+    pub number: u64,
+    pub objects: u64,
+    pub slots: u64,
+    pub values: u64,
+    pub addresses: u64,
+    pub end: u64,
+    pub place: u64,
+}
+
+impl From<Result<Graph, Refused>> for Outcome {
+    ghost from_gives = { λ r o. numbers_of o ≡ answer r };
+
+    fn from(answered: Result<Graph, Refused>) -> Outcome {
+        match answered {
+            Ok(g) => Outcome {
+                number: 0,
+                objects: g.objects,
+                slots: g.slots,
+                values: g.values,
+                addresses: g.addresses,
+                end: g.end,
+                place: 0,
+            },
+            Err(e) => Outcome {
+                number: e.refusal.number(),
+                objects: 0,
+                slots: 0,
+                values: 0,
+                addresses: 0,
+                end: 0,
+                place: e.place,
+            },
+        }
+    }
 }
 
 // So many numbers of a sheet in the file of sheets, which has 59 of two bytes for each; zeros where it ends. Sheet 500 and later are sheet 0.
@@ -56,6 +97,27 @@ pub fn read_outcome(cases: &mut Numbers<'_>) -> Outcome
         end: cases.number(),
         place: cases.number(),
     }
+}
+
+// A call, with scratch of 512 numbers. What that holds before could be the number of a slot or of a record.
+fn called(
+    call: Call<'_>,
+    objects: &mut [u64],
+    slots: &mut [u64],
+    values: &mut [u64],
+    addresses: &mut [u64],
+) -> Outcome
+    ensures { Reads (entered call.entry) (rooms_of objects.old slots.old values.old addresses.old) (numbers_of result) objects.new slots.new values.new addresses.new }
+{
+    let mut scratch = [7u64; 512];
+    let mut tables = Tables {
+        objects,
+        slots,
+        values,
+        addresses,
+        scratch: &mut scratch,
+    };
+    Outcome::from(parse_with(call, &mut tables))
 }
 
 fn is_same(o: Outcome, p: Outcome) -> bool
@@ -95,19 +157,21 @@ impl Case {
         })
     }
 
-    // What scratch holds before the call could be the number of a slot or of a record.
-    pub fn call(&mut self) -> Outcome {
-        let mut scratch = [7u64; 512];
-        parse_with(
-            &self.sheet,
-            &self.payload,
-            &self.reservations,
-            &self.trusted,
+    pub fn call(&mut self) -> Outcome
+        ensures { Called self.old result self.new }
+    {
+        let call = Call {
+            sheet: &self.sheet,
+            payload: &self.payload,
+            reservations: &self.reservations,
+            trusted: &self.trusted,
+        };
+        called(
+            call,
             &mut self.objects,
             &mut self.slots,
             &mut self.values,
             &mut self.addresses,
-            &mut scratch,
         )
     }
 

@@ -3,8 +3,8 @@ use mathlib.Core.Path.{◌≡◌, refl, sym, subst}
 use mathlib.Core.List.{List}
 use Prim.Native.Nat.{ℕ, zero, suc}
 use lib.Dec.{ltb}
-use lib.ListN.{length, take, drop}
-use Rattle.std.specs.Prelude.{Option, Some, None}
+use lib.ListN.{length}
+use Rattle.std.specs.Prelude.{Option, Some, None, Ok, Err}
 use Rattle.stream.specs.declared.putint.Int.{Int}
 use Rattle.stream.specs.PutInt.{int_at}
 use Rattle.sheet.specs.Tests.{is_resolve}
@@ -18,13 +18,9 @@ use Rattle.definition.specs.Slots.{add_value, add_slot, waiter, fill_waiter, res
 use Rattle.definition.specs.Object.{peek, flags, flag_object, keep_map, resolves}
 use Rattle.laws.specs.Addresses.{Ascending, StaysAscending}
 use Rattle.address_index.specs.Links.{Linked}
-use Rattle.readers.specs.declared.state.Count.{Count}
-use Rattle.readers.specs.declared.state.Count.TheVariants.{Is, Refused as CountRefused}
-use Rattle.readers.specs.declared.state.Went.{Went}
-use Rattle.readers.specs.declared.state.Went.TheVariants.{On, Refused as WentRefused}
-use Rattle.readers.specs.Views.{Lent, mem, seen_count, seen_went}
-use Rattle.objects.specs.Index.{Indexed, CountIndexed, WentIndexed}
-use Rattle.walker.specs.Ready.{OutIndex}
+use Rattle.readers.specs.Views.{Lent, Answer, mem, seen}
+use Rattle.objects.specs.Index.{Indexed, IndexedAfter}
+use Rattle.walker.proofs.ScratchLaws.{Scratch, OutIndex}
 use Rattle.walker.proofs.SameLaws.{Same, Leaves, same_choose, then_leaves, next_leaves}
 
 pub record Ground : Type 0 where
@@ -110,21 +106,17 @@ module _ (x : Input) where
   place_item_ground o done (WeakRef k) m = keep_ground o done (WeakRef k) m
   place_item_ground o done (PendingRef n) m = keep_ground o done (PendingRef n) m
 
--- ---- scratch, after a reader of slots: its first part by the reader's promise, the rest because it is as it was
+-- ---- scratch, after a reader of slots: the places of pending numbers by the reader's promise, the rest because it is as it was
 
 abbrev PendingOut : {A : Type 0} → Out A → List ℕ → Type 0
 PendingOut (got v m) part = Indexed m.slots.rows m.slots.count part
 PendingOut (no n q m) part = Unit {0}
 
-module _ (size : ℕ) (m : Mem) (sc sc' : List ℕ) (d : drop size sc' ≡ drop size sc) (k : Linked m.addresses.rows m.addresses.count (drop size sc)) where
-  slots_index : {A : Type 0} (o : Out A) → Same ground_of m o → PendingOut o (take size sc') → OutIndex size o sc'
-  slots_index (got v m') e i = record { pending = i; linked = rw d (subst (λ (g : Ground). Linked g.addresses.rows g.addresses.count (drop size sc)) (sym e) k) }
+module _ (m : Mem) (sc sc' : Scratch) (d : sc'.index ≡ sc.index) (k : Linked m.addresses.rows m.addresses.count sc.index) where
+  slots_index : {A : Type 0} (o : Out A) → Same ground_of m o → PendingOut o sc'.pending → OutIndex o sc'
+  slots_index (got v m') e i = record { pending = i; linked = rw d (subst (λ (g : Ground). Linked g.addresses.rows g.addresses.count sc.index) (sym e) k) }
   slots_index (no n q m') e i = tt
 
-  pub count_index : (r : Count) (l : Lent) {o : Out ℕ} → seen_count r l ≡ o → Same ground_of m o → CountIndexed r l.slots (take size sc') → OutIndex size (seen_count r l) sc'
-  count_index (Is n t) l e u i = slots_index (got n (mem t l)) (subst (Same ground_of m) (sym e) u) i
-  count_index (CountRefused n q t) l e u i = tt
-
-  pub went_index : (r : Went) (l : Lent) {o : Out (Unit {0})} → seen_went r l ≡ o → Same ground_of m o → WentIndexed r l.slots (take size sc') → OutIndex size (seen_went r l) sc'
-  went_index (On t) l e u i = slots_index (got (tt {0}) (mem t l)) (subst (Same ground_of m) (sym e) u) i
-  went_index (WentRefused n q t) l e u i = tt
+  pub answer_index : {A : Type 0} (r : Answer A) (l : Lent) {o : Out A} → seen r l ≡ o → Same ground_of m o → IndexedAfter r l.slots sc'.pending → OutIndex (seen r l) sc'
+  answer_index (Ok v) l e u i = slots_index (got v.0 (mem v.1 l)) (subst (Same ground_of m) (sym e) u) i
+  answer_index (Err q) l e u i = tt

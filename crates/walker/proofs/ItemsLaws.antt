@@ -7,7 +7,7 @@ use Prim.Native.Nat.{ℕ, suc, ◌+◌, ◌-◌, ◌^◌, ◌<◌, ◌≤◌}
 use native.Mathlib.Omega.{arith}
 use borrow.Author.Tests.{lt-ltb, le-leb, lt-leb}
 use lib.Dec.{eqb}
-use lib.ListN.{length, take}
+use lib.ListN.{length}
 use Rattle.stream.specs.Bytes.{peek_at}
 use Rattle.sheet.specs.Names.{k_deferred}
 use Rattle.sheet.specs.Sheet.{number}
@@ -26,14 +26,13 @@ use Rattle.laws.proofs.Theorems.{ref_keeps, place_item_keeps}
 use Rattle.laws.specs.Numbered.{Numbered, FreshValue, place_item-numbered}
 use Rattle.laws.specs.Addresses.{Ascending}
 use Rattle.laws.proofs.Fuel.{items_fuel}
-use Rattle.readers.proofs.ViewLaws.{then_got, then_no}
+use Rattle.readers.proofs.ViewLaws.{then_got}
 use Rattle.objects.specs.Index.{Indexed}
-use Rattle.levels.specs.declared.level.Item.{Item}
-use Rattle.levels.specs.Level.{seen_item}
-use Rattle.readers.specs.Views.{Lent, mem}
-use Rattle.walker.specs.Ready.{Index, OutIndex, Ready, slot_in, item_in}
+use Rattle.heads.specs.declared.heads.Head.{Head}
+use Rattle.walker.specs.Ready.{slot_in, item_in}
+use Rattle.walker.proofs.ScratchLaws.{Scratch, Index, InOrder}
 use Rattle.walker.proofs.GroundLaws.{ground_ascends, place_item_ground}
-use Rattle.walker.proofs.ReadyLaws.{one_less, Went, went, Free, None, moved_kept, ref_went}
+use Rattle.walker.proofs.ReadyLaws.{Went, went, Free, None, moved_kept, order_ref}
 
 -- the code's test of the byte at the cursor
 module _ (v p : List ℕ) (at : ℕ) {b : ℕ} {t : Bool} (eb : b ≡ peek_at p at) (et : t ≡ eqb (number v k_deferred) b) where
@@ -46,24 +45,21 @@ module _ (v p : List ℕ) (at : ℕ) {b : ℕ} {t : Bool} (eb : b ≡ peek_at p 
 -- ---- an item
 
 module _ (x : Input) (d o done : ℕ) (m : Mem) where
-  pub slot_no : {n q : ℕ} {m1 : Mem} → no n q m1 ≡ ref_at x (65 - (d + 1)) m → no n q m1 ≡ slot_in x (ref_at x (64 - d)) o done m
-  slot_no e = rw (← one_less d) (then_no (place_item x o done) e)
+  pub slot_got : {v : SlotValue} {m1 : Mem} {out : Out ℕ} → got v m1 ≡ ref_at x (64 - d) m → out ≡ place_item x o done v m1 → out ≡ slot_in x (ref_at x (64 - d)) o done m
+  slot_got e h = then_got (place_item x o done) e h
 
-  pub slot_got : {v : SlotValue} {m1 : Mem} {out : Out ℕ} → got v m1 ≡ ref_at x (65 - (d + 1)) m → out ≡ place_item x o done v m1 → out ≡ slot_in x (ref_at x (64 - d)) o done m
-  slot_got e h = rw (← one_less d) (then_got (place_item x o done) e h)
-
-pub word_some : {x : Input} {h sc : List ℕ} {m : Mem} → Ready x h m sc → (word x ≤ 8) × (0 < word x)
+pub word_some : {x : Input} {h : List Head} {sc : Scratch} {m : Mem} → InOrder x h m sc → (word x ≤ 8) × (0 < word x)
 word_some g = (word_low g.proper, ⊎_elim (λ e. omega arith) (λ e. omega arith) (sheet_gives g.proper).word)
 
 -- what `place_item` asks, after a reference one level down
-module _ {x : Input} {h sc : List ℕ} {m : Mem} (g : Ready x h m sc) (d o done : ℕ) (b : o < m.objects.count) (s : 0 < m.slots.count) where
-  pub place_asks : {v : SlotValue} {m1 : Mem} {sc1 : List ℕ} → got v m1 ≡ ref_at x (65 - (d + 1)) m → done < 2 ^ 60 → length m.slots.rows < 2 ^ 64
-      → Index (length x.payload) m1.slots m1.addresses sc1 → (w : ℕ) → w ≡ word x
+module _ {x : Input} {h : List Head} {sc : Scratch} {m : Mem} (g : InOrder x h m sc) (d o done : ℕ) (b : o < m.objects.count) (s : 0 < m.slots.count) where
+  pub place_asks : {v : SlotValue} {m1 : Mem} {sc1 : Scratch} → got v m1 ≡ ref_at x (64 - d) m → done < 2 ^ 60 → length m.slots.rows < 2 ^ 64
+      → Index m1.slots m1.addresses sc1 → (w : ℕ) → w ≡ word x
       → ((o < room 4 m1.objects.rows) × (field 4 m1.objects.rows o 3 < 2 ^ 63) × (m1.waiting < 2 ^ 63) × (w ≤ 8) × (0 < w) × (done + m1.skip + width_of w v < 2 ^ 64))
       × (((0 < m1.slots.count) × (m1.slots.count ≤ room 6 m1.slots.rows))
-      × Indexed m1.slots.rows m1.slots.count (take (length x.payload) sc1))
+      × Indexed m1.slots.rows m1.slots.count (sc1.pending))
   place_asks {v} {m1} e low len i w ew =
-      let z : Went x m (Referred x m) Free v m1 = ref_went g (65 - (d + 1)) e in
+      let z : Went x m (Referred x m) Free v m1 = order_ref g (64 - d) e in
       let so = z.kept.sound in
       let up = z.kept.onward in
       let ws = word_some g in
@@ -83,9 +79,9 @@ pub record Added (done n : ℕ) (m : Mem) (d : ℕ) (m' : Mem) : Type 0 where
   pub rises : done ≤ d
   pub less : d ≤ n + 2 ^ 55
 
-slot_keeps : {x : Input} {h sc : List ℕ} {m : Mem} → Ready x h m sc → (k o done n : ℕ) → o < m.objects.count → done < n → (u : Out SlotValue) → u ≡ ref_at x k m → {d1 : ℕ} {m1 : Mem} → got d1 m1 ≡ and_then u (place_item x o done) → Went x m (Added done n m) None d1 m1
+slot_keeps : {x : Input} {h : List Head} {sc : Scratch} {m : Mem} → InOrder x h m sc → (k o done n : ℕ) → o < m.objects.count → done < n → (u : Out SlotValue) → u ≡ ref_at x k m → {d1 : ℕ} {m1 : Mem} → got d1 m1 ≡ and_then u (place_item x o done) → Went x m (Added done n m) None d1 m1
 slot_keeps {x} {h} {sc} {m} g k o done n b low (got v m2) e {d1} {m1} f =
-    let z : Went x m (Referred x m) Free v m2 = ref_went g k e in
+    let z : Went x m (Referred x m) Free v m2 = order_ref g k e in
     let b2 : o < m2.objects.count = omega (arith, z.kept.onward.objects_up) in
     let y : Went x m2 (Placed done m2) None d1 m1 = place_went z.kept.sound z.kept.counted z.numbered z.ascending g.proper o done b2 v z.more.narrow z.fresh f in
     record { kept = record { sound = y.kept.sound; counted = y.kept.counted; onward = omega (arith, z.kept.onward, y.kept.onward) }; more = record { reads = omega (arith, z.more.reads, y.more.at_same); rises = y.more.rises; less = omega (arith, y.more.bound, z.kept.sound.skip_low, z.kept.sound.within, g.proper.short) }; numbered = y.numbered; ascending = y.ascending; fresh = tt }
@@ -125,10 +121,10 @@ module _ (x : Input) (r : Reader SlotValue) (o n done : ℕ) (m : Mem) where
     unfolding items
     items_slot e = rw (one_more, lt-leb n done l, e)
 
-pub deferred_inside : {x : Input} {h sc : List ℕ} {m : Mem} → Ready x h m sc → is_deferred x.sheet (peek x m) ≡ true → m.at < length x.payload
+pub deferred_inside : {x : Input} {h : List Head} {sc : Scratch} {m : Mem} → InOrder x h m sc → is_deferred x.sheet (peek x m) ≡ true → m.at < length x.payload
 deferred_inside {x} {m = m} g e = tag_inside x.sheet (sheet_gives g.proper) k_deferred (omega arith) x.payload m.at e
 
-module _ {x : Input} {h sc : List ℕ} {m : Mem} (g : Ready x h m sc) (d o n done : ℕ) (b : o < m.objects.count) (low : done < n) where
+module _ {x : Input} {h : List Head} {sc : Scratch} {m : Mem} (g : InOrder x h m sc) (d o n done : ℕ) (b : o < m.objects.count) (low : done < n) where
   abbrev r : Reader SlotValue
   r = ref_at x (64 - d)
 
@@ -162,14 +158,3 @@ module _ {x : Input} {h sc : List ℕ} {m : Mem} (g : Ready x h m sc) (d o n don
 
   pub item_went : {d1 : ℕ} {m1 : Mem} → got d1 m1 ≡ item_in x r o n done m → Went x m (Added done n m) None d1 m1
   item_went = went_by_tag (is_deferred x.sheet (peek x m)) refl
-
--- an answer of the code, as the definition's
-pub answered : (size : ℕ) (r : Item) (l : Lent) (sc : List ℕ) {u out : Out ℕ} → seen_item r l ≡ u → u ≡ out → OutIndex size u sc → (seen_item r l ≡ out) × OutIndex size (seen_item r l) sc
-answered size r l sc e f i = (e ∙ f, subst (λ (o : Out ℕ). OutIndex size o sc) (sym e) i)
-
-module _ (r : Item) (l : Lent) {out : Out ℕ} (h : seen_item r l ≡ out) where
-  pub item_is : r.went ≡ true → got r.done (mem r.state l) ≡ out
-  item_is e = rw e at h
-
-  pub item_no : r.went ≡ false → no r.number r.place (mem r.state l) ≡ out
-  item_no e = rw e at h

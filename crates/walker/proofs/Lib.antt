@@ -1,10 +1,11 @@
 pub mod SameLaws
+pub mod ScratchLaws
 pub mod GroundLaws
 pub mod ReadyLaws
 pub mod ItemsLaws
-pub mod NestLaws
 pub mod ObjectLaws
 pub mod ReferenceLaws
+pub mod NestLaws
 pub mod LeafLaws
 pub mod OpeningLaws
-pub mod WeakLaws
+pub mod MapLaws

@@ -6,9 +6,9 @@ use Prim.Native.Nat.{ℕ, zero, suc, ◌+◌, ◌-◌, ◌*◌, ◌%◌, ◌^◌
 use native.Mathlib.Nat.{mul-mod_left}
 use native.Mathlib.Omega.{arith}
 use lib.Dec.{eqb}
-use lib.ListN.{length, get_or, take, drop}
+use lib.ListN.{length}
 use Rattle.stream.specs.Bytes.{peek_at}
-use Rattle.sheet.specs.Sheet.{usable, is_legacy, is_six_x, is_map_first, lo_space}
+use Rattle.sheet.specs.Sheet.{is_legacy, is_six_x, is_map_first, lo_space}
 use Rattle.sheet.specs.Tests.{is_next_chunk, alignment_of}
 use Rattle.alloc.specs.declared.legacy_alloc.LegacyAlloc.{LegacyAlloc}
 use Rattle.alloc.specs.Allocation.{Outcome, allocate_of}
@@ -27,20 +27,20 @@ use Rattle.laws.specs.Waiting.{Waits}
 use Rattle.laws.proofs.Theorems.{byte_keeps, int_keeps, add_object_keeps, keep_map_keeps, resolves_keep}
 use Rattle.laws.specs.Addresses.{Ascending}
 use Rattle.laws.specs.Numbered.{Numbered, keep_map-numbered, resolves-numbered}
-use Rattle.readers.specs.declared.state.State.{State}
-use Rattle.readers.specs.declared.state.Went.{Went as Answer}
-use Rattle.readers.specs.declared.state.Went.TheVariants.{On}
 use Rattle.readers.proofs.ViewLaws.{then_got, then_no}
 use Rattle.objects.specs.Head.{recording, opening}
-use Rattle.objects.specs.Index.{Indexed, WentLinked}
+use Rattle.objects.specs.Index.{Indexed}
 use Rattle.objects.specs.Map.{after_map}
 use Rattle.objects.proofs.ItemLaws.{slot_added}
 use Rattle.objects.proofs.MapSteps.{map_no, map_got, object_no, object_got}
 use Rattle.objects.proofs.WaiterLaws.{indexed_plain}
-use Rattle.walker.specs.Ready.{Index, Ready, mapped, headed, filled_from}
+use Rattle.heads.specs.declared.heads.Head.{Head}
+use Rattle.opened_leaves.specs.Opening.{opened}
+use Rattle.walker.specs.Ready.{mapped, headed, filled_from}
+use Rattle.walker.proofs.ScratchLaws.{Scratch, Index, InOrder}
 use Rattle.walker.proofs.SameLaws.{Same, Leaves, same_choose, next_leaves, same_got}
 use Rattle.walker.proofs.GroundLaws.{Ground, ground_of, ground_ascends, keep_map_ground, resolves_ground}
-use Rattle.walker.proofs.ReadyLaws.{one_less, Went, went, Free, ready_after, ref_went, map_went, keep_map_went}
+use Rattle.walker.proofs.ReadyLaws.{Went, went, Free, order_after, map_went, keep_map_went}
 
 -- ---- what follows a map leaves the slots
 
@@ -103,7 +103,7 @@ module _ (x : Input) (o : ℕ) (v : SlotValue) (m : Mem) {m' : Mem} (sc : List �
   flag_indexed true e = slot_indexed (with_objects (flagged o m.objects) m) refl _ refl e
   flag_indexed false e = slot_indexed m refl _ refl e
 
-  pub map_indexed : got tt m' ≡ keep_map x o v m → Indexed m'.slots.rows m'.slots.count sc
+  map_indexed : got tt m' ≡ keep_map x o v m → Indexed m'.slots.rows m'.slots.count sc
   unfolding keep_map flag_object
   map_indexed e = flag_indexed (flags x v) e
 
@@ -111,27 +111,14 @@ module _ (x : Input) (o : ℕ) (v : SlotValue) (m : Mem) {m' : Mem} (sc : List �
 pub bytes_whole : (words : ℕ) {w k : ℕ} → w ≡ k → (words * w) % k ≡ 0
 bytes_whole words {w} {k} e = rw e (mul-mod_left words k)
 
--- what an answer says of the address records, once the match knows its variant
-pub went_linked : {r : Answer} {t : State} (dt ix : List ℕ) → r ≡ On t → WentLinked r dt ix → Linked dt t.addresses ix
-went_linked dt ix e i = subst (λ (r : Answer). WentLinked r dt ix) e i
-
--- what is asked of the readers that follow
-module _ {x : Input} {h sc : List ℕ} {m : Mem} (g : Ready x h m sc) where
-  pub resolves_asks : (usable x.sheet ≡ true) × ((m.at ≤ length x.payload) × (m.slots.count ≤ room 6 m.slots.rows) × Indexed m.slots.rows m.slots.count (take (length x.payload) sc) × Numbered m)
-  resolves_asks = (g.proper.sheet_usable, (g.sound.within, omega (arith, g.sound.slots_fit), g.index.pending, g.numbered))
-
 -- the map of object o of so many bytes
-module _ {x : Input} {h sc : List ℕ} {m : Mem} (g : Ready x h m sc) (d space bytes o : ℕ) where
-  pub mapped_no : {n q : ℕ} {m₁ : Mem} → no n q m₁ ≡ ref_at x (65 - (d + 1)) m → no n q m₁ ≡ mapped x (ref_at x (64 - d)) space bytes o m
-  mapped_no e = then_no _ (then_no (keep_map x o) (sym (map_no x (ref_at x (64 - d)) space bytes o m (sym (rw (one_less d) at e)))))
+module _ {x : Input} {h : List Head} {sc : Scratch} {m : Mem} (g : InOrder x h m sc) (d space bytes o : ℕ) where
+  pub mapped_no : {n q : ℕ} {m₁ : Mem} → no n q m₁ ≡ ref_at x (64 - d) m → no n q m₁ ≡ mapped x (ref_at x (64 - d)) space bytes o m
+  mapped_no e = then_no _ (then_no (keep_map x o) (sym (map_no x (ref_at x (64 - d)) space bytes o m (sym e))))
 
-  module _ {v : SlotValue} {m₁ : Mem} (e : got v m₁ ≡ ref_at x (65 - (d + 1)) m) where
-    pub after_asks : (sc₁ : List ℕ) → Index (length x.payload) m₁.slots m₁.addresses sc₁ → space < 256 → bytes < 2 ^ 33
-        → ((usable x.sheet ≡ true) × (space < 256) × (bytes < 2 ^ 33) × (m₁.at ≤ length x.payload) × (length x.payload ≤ 16777216)) × ((get_or m₁.alloc.cur space 0 ≤ m₁.at) × Linked m₁.addresses.rows m₁.addresses.count (drop (length x.payload) sc₁))
-    after_asks sc₁ i l b = let w = ref_went g (65 - (d + 1)) e in ((g.proper.sheet_usable, l, b, w.kept.sound.within, g.proper.short), (w.kept.counted.chunk_low space, i.linked))
-
+  module _ {v : SlotValue} {m₁ : Mem} (e : got v m₁ ≡ ref_at x (64 - d) m) where
     followed_by : {out : Out SlotValue} → out ≡ (after_map x m.alignment space bytes o >> give v) m₁ → out ≡ read_map x (ref_at x (64 - d)) space bytes o m
-    followed_by f = f ∙ sym (map_got x (ref_at x (64 - d)) space bytes o m v (sym (rw (one_less d) at e)))
+    followed_by f = f ∙ sym (map_got x (ref_at x (64 - d)) space bytes o m v (sym e))
 
     pub mapped_bad : {n q : ℕ} {m₂ : Mem} → no n q m₂ ≡ after_map x m.alignment space bytes o m₁ → no n q m₂ ≡ mapped x (ref_at x (64 - d)) space bytes o m
     mapped_bad f = then_no _ (then_no (keep_map x o) (followed_by (then_no (λ _. give v) f)))
@@ -156,16 +143,16 @@ module _ {x : Input} {h sc : List ℕ} {m : Mem} (g : Ready x h m sc) (d space b
             (omega (arith, s.objects_fit, u.objects_up), omega (arith, s.slots_fit, u.slots_size, c), omega (arith, s.slots_fit, s.waiting_low, u.slots_size))
 
         -- what holds before the resolves
-        pub kept_ready : (sc₁ sc₂ : List ℕ) → Index (length x.payload) m₁.slots m₁.addresses sc₁ → take (length x.payload) sc₂ ≡ take (length x.payload) sc₁
-            → Linked m₂.addresses.rows m₂.addresses.count (drop (length x.payload) sc₂) → {m₃ : Mem} → got tt m₃ ≡ keep_map x o v m₂ → Ready x h m₃ sc₂
+        pub kept_ready : (sc₁ sc₂ : Scratch) → Index m₁.slots m₁.addresses sc₁ → sc₂.pending ≡ sc₁.pending
+            → Linked m₂.addresses.rows m₂.addresses.count (sc₂.index) → {m₃ : Mem} → got tt m₃ ≡ keep_map x o v m₂ → InOrder x h m₃ sc₂
         kept_ready sc₁ sc₂ i same k₂ k =
             let w = map_kept_lem in
-            let i₂ : Indexed m₂.slots.rows m₂.slots.count (take (length x.payload) sc₂) = rw (same, after_still x m.alignment space bytes o m₁ f) i.pending in
-            let g₂ : Ready x h m₂ sc₂ = ready_after g w.kept w.numbered w.ascending (record { pending = i₂; linked = k₂ }) in
+            let i₂ : Indexed m₂.slots.rows m₂.slots.count (sc₂.pending) = rw (same, after_still x m.alignment space bytes o m₁ f) i.pending in
+            let g₂ : InOrder x h m₂ sc₂ = order_after g w.kept w.numbered w.ascending (record { pending = i₂; linked = k₂ }) in
             let w₃ = keep_map_went g₂ o (omega (arith, b, w.kept.onward.objects_up)) v w.fresh k in
             let z = same_got ground_of {m = m₂} k (keep_map_ground x o v m₂) in
-            ready_after g₂ w₃.kept w₃.numbered w₃.ascending
-            (record { pending = map_indexed x o v m₂ (take (length x.payload) sc₂) i₂ k; linked = subst (λ (g : Ground). Linked g.addresses.rows g.addresses.count (drop (length x.payload) sc₂)) (sym z) k₂ })
+            order_after g₂ w₃.kept w₃.numbered w₃.ascending
+            (record { pending = map_indexed x o v m₂ (sc₂.pending) i₂ k; linked = subst (λ (g : Ground). Linked g.addresses.rows g.addresses.count (sc₂.index)) (sym z) k₂ })
 
 -- ---- the head
 
@@ -229,6 +216,10 @@ module _ (x : Input) where
         (λ _ m₂ s c. passes_then m₂ 1 0 (add_object x tag words m₂) (λ _. give words) (object_passes m₂ (add_object x tag words m₂) (add_object_keeps p tag words m₂ s c) (object_leaves tag words m₂))
         (λ _ m₃ s c. passes_here m₃ words s c)))
 
+abbrev mem_of : Out ℕ → Mem
+mem_of (got n m) = m
+mem_of (no n q m) = m
+
 -- a reading that two readers make one after the other
 pub record Through {A B : Type 0} (o : Out A) (f : A → Reader B) (out : Out B) : Type 0 where
   pub value : A
@@ -240,13 +231,13 @@ through : {A B : Type 0} (o : Out A) (f : A → Reader B) {v : B} {m' : Mem} →
 through (got a m) f e = record { value = a; between = m; first = refl; second = e }
 through (no n q m) f e = absurd (let z : ◌≡◌ {A = ℕ} 0 1 = cc in omega arith)
 
-module _ {x : Input} {h sc : List ℕ} {m : Mem} (g : Ready x h m sc) where
+module _ {x : Input} {h : List Head} {sc : Scratch} {m : Mem} (g : InOrder x h m sc) where
   -- what holds after an object's head
-  pub opened_ready : (space tag : ℕ) {words : ℕ} {m₁ : Mem} → got words m₁ ≡ opening x space tag m → (Ready x h m₁ sc) × (m.objects.count < m₁.objects.count) × (Onward m m₁)
+  pub opened_ready : (space tag : ℕ) {words : ℕ} {m₁ : Mem} → got words m₁ ≡ opening x space tag m → (InOrder x h m₁ sc) × (m.objects.count < m₁.objects.count) × (Onward m m₁)
   opened_ready space tag {words} {m₁} e =
       let p : Passes x m 1 (got words m₁) = subst (Passes x m 1) (sym e) (opening_passes x g.proper space tag m g.sound g.counted) in
       let s : rest_of m ≡ rest_of m₁ = sym p.1.0 in
-      (ready_after g p.0 (subst (λ (r : Rest). Waits r.slots.rows r.slots.count r.pending r.waiting) s g.numbered) (subst (λ (r : Rest). Ascending x r.addresses r.alloc) s g.ascending) (subst (λ (r : Rest). Index (length x.payload) r.slots r.addresses sc) s g.index), omega (arith, p.1.1), p.0.onward)
+      (order_after g p.0 (subst (λ (r : Rest). Waits r.slots.rows r.slots.count r.pending r.waiting) s g.numbered) (subst (λ (r : Rest). Ascending x r.addresses r.alloc) s g.ascending) (subst (λ (r : Rest). Index r.slots r.addresses sc) s g.index), omega (arith, p.1.1), p.0.onward)
 
   -- and after its map and its resolves
   module _ (k space bytes o : ℕ) (b : o < m.objects.count) (l : space < 256) (u : bytes % word x ≡ 0) where
@@ -262,31 +253,26 @@ module _ {x : Input} {h sc : List ℕ} {m : Mem} (g : Ready x h m sc) where
         let w₂ = went (resolves_keep g.proper t.between w₁.kept.sound w₁.kept.counted o b₂ _) (resolves-numbered g.proper t.between w₁.kept.sound w₁.kept.counted w₁.numbered o 0 0 b₂ _) (ground_ascends x t.between w₁.ascending (resolves x o n t.between) (resolves_ground x o n t.between)) t.second in
         (kept_trans w.kept (kept_trans w₁.kept w₂.kept), w₂.numbered, w₂.ascending, omega (arith, w₁.more.more, w₂.kept.onward.slots_up))
 
-    pub mapped_ready : {m₃ : Mem} → got tt m₃ ≡ mapped x (ref_at x k) space bytes o m → {sc₃ : List ℕ} → Index (length x.payload) m₃.slots m₃.addresses sc₃ → (Ready x h m₃ sc₃) × (o < m₃.objects.count) × (0 < m₃.slots.count) × (Onward m m₃)
-    mapped_ready e i = let w = mapped_kept e in (ready_after g w.0 w.1 w.2 i, omega (arith, b, w.0.onward.objects_up), w.3, w.0.onward)
+    mapped_ready : {m₃ : Mem} → got tt m₃ ≡ mapped x (ref_at x k) space bytes o m → {sc₃ : Scratch} → Index m₃.slots m₃.addresses sc₃ → (InOrder x h m₃ sc₃) × (o < m₃.objects.count) × (0 < m₃.slots.count) × (Onward m m₃)
+    mapped_ready e i = let w = mapped_kept e in (order_after g w.0 w.1 w.2 i, omega (arith, b, w.0.onward.objects_up), w.3, w.0.onward)
 
--- ---- the head with the map, as one reading
-
-module _ (x : Input) (r : Reader SlotValue) (space tag : ℕ) (m : Mem) where
-  pub headed_cut : {n q : ℕ} {m₁ : Mem} → no n q m₁ ≡ opening x space tag m → no n q m₁ ≡ headed x r space tag m
-  headed_cut e = then_no (λ words. mapped x r space (words * word x) m.objects.count >> give (words * word x)) e
-
-  module _ {words : ℕ} {m₁ : Mem} (e : got words m₁ ≡ opening x space tag m) {bytes : ℕ} (b : bytes ≡ words * word x) where
-    after-head : {out : Out ℕ} → out ≡ (mapped x r space (words * word x) m.objects.count >> give (words * word x)) m₁ → out ≡ headed x r space tag m
-    after-head h = then_got (λ words. mapped x r space (words * word x) m.objects.count >> give (words * word x)) e h
-
-    pub headed_bad : {n q : ℕ} {m₂ : Mem} → no n q m₂ ≡ mapped x r space bytes m.objects.count m₁ → no n q m₂ ≡ headed x r space tag m
-    headed_bad f = after-head (then_no (λ _. give (words * word x)) (rw b at f))
-
-    pub headed_on : {m₂ : Mem} → got tt m₂ ≡ mapped x r space bytes m.objects.count m₁ → got bytes m₂ ≡ headed x r space tag m
-    headed_on f = after-head (then_got (λ _. give (words * word x)) (rw b at f) (rw b))
-
-abbrev mem_of : Out ℕ → Mem
-mem_of (got n m) = m
-mem_of (no n q m) = m
+  -- after its head and its map, before the resolves
+  pub map_ready : (k space tag : ℕ) → space < 256 → {n : ℕ} {m₁ : Mem} → got n m₁ ≡ opened x (ref_at x k) space tag m.objects.count m → {sc₁ : Scratch} → Index m₁.slots m₁.addresses sc₁ → InOrder x h m₁ sc₁
+  map_ready k space tag l {m₁ = m₁} e i =
+      let o : ℕ = m.objects.count in
+      let t = through (opening x space tag m) (λ words. read_map x (ref_at x k) space (words * word x) o >>= keep_map x o >> give (words * word x)) e in
+      let bytes : ℕ = t.value * word x in
+      let u = through ((read_map x (ref_at x k) space bytes o >>= keep_map x o) t.between) (λ _. give bytes) t.second in
+      let r = through (read_map x (ref_at x k) space bytes o t.between) (keep_map x o) u.first in
+      let w₀ = opened_ready space tag t.first in
+      let w = map_went w₀.0 o w₀.1 k space bytes l (bytes_whole t.value refl) r.first in
+      let b₁ : o < r.between.objects.count = omega (arith, w₀.1, w.kept.onward.objects_up) in
+      let w₁ = went {o = keep_map x o r.value r.between} (keep_map_keeps g.proper r.between w.kept.sound w.kept.counted o b₁ r.value) (keep_map-numbered g.proper r.between w.kept.sound w.kept.counted w.numbered o 0 0 b₁ r.value w.fresh) (ground_ascends x r.between w.ascending (keep_map x o r.value r.between) (keep_map_ground x o r.value r.between)) r.second in
+      let z : m₁ ≡ u.between = ap mem_of u.second in
+      rw (sym z) at (order_after g (kept_trans (record { sound = w₀.0.sound; counted = w₀.0.counted; onward = w₀.2 }) (kept_trans w.kept w₁.kept)) w₁.numbered w₁.ascending (rw z at i))
 
 -- what holds after it
-pub headed_ready : {x : Input} {h sc : List ℕ} {m : Mem} → Ready x h m sc → (k space tag : ℕ) → space < 256 → {n : ℕ} {m₂ : Mem} → got n m₂ ≡ headed x (ref_at x k) space tag m → {sc₂ : List ℕ} → Index (length x.payload) m₂.slots m₂.addresses sc₂ → (Ready x h m₂ sc₂) × (m.objects.count < m₂.objects.count) × (0 < m₂.slots.count) × (Onward m m₂)
+pub headed_ready : {x : Input} {h : List Head} {sc : Scratch} {m : Mem} → InOrder x h m sc → (k space tag : ℕ) → space < 256 → {n : ℕ} {m₂ : Mem} → got n m₂ ≡ headed x (ref_at x k) space tag m → {sc₂ : Scratch} → Index m₂.slots m₂.addresses sc₂ → (InOrder x h m₂ sc₂) × (m.objects.count < m₂.objects.count) × (0 < m₂.slots.count) × (Onward m m₂)
 headed_ready {x} {m = m} g k space tag l {m₂ = m₂} e i =
     let t = through (opening x space tag m) (λ words. mapped x (ref_at x k) space (words * word x) m.objects.count >> give (words * word x)) e in
     let bytes : ℕ = t.value * word x in

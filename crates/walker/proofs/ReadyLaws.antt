@@ -1,5 +1,5 @@
--- What holds at the start of a reader, after one of them went: the pure part by the laws of the definition, the index by the code's answers.
--- Assumes nothing.
+-- What holds at the start of a reader, after one of them went: the pure part by the laws of the definition, the index by the code's
+-- answers. Assumes nothing.
 use mathlib.Core.Path.{◌≡◌, sym, subst}
 use mathlib.Core.List.{List}
 use Prim.Native.Nat.{ℕ, ◌+◌, ◌-◌, ◌%◌, ◌<◌}
@@ -9,12 +9,20 @@ use Rattle.tables.specs.declared.values.SlotValue.{SlotValue}
 use Rattle.definition.specs.Memory.{Input, word, Mem, Out, got, moved}
 use Rattle.definition.specs.Object.{read_map, keep_map, object}
 use Rattle.definition.specs.Reference.{ref_at}
-use Rattle.laws.specs.Sound.{Kept, Holds, Referred}
+use Rattle.laws.specs.Sound.{Proper, Kept, Holds, Referred}
 use Rattle.laws.specs.Keeps.{More}
 use Rattle.laws.proofs.Theorems.{ref_keeps, object_keeps, map_keeps, keep_map_keeps}
 use Rattle.laws.specs.Numbered.{Numbered, FreshValue, Ordered, ref_numbered, object-numbered, map_numbered, keep_map-numbered}
 use Rattle.laws.specs.Addresses.{Ascending, StaysAscending, ref_ascending, object_ascending, map_ascending}
-use Rattle.walker.specs.Ready.{Index, OutIndex, Ready}
+use Rattle.heads.specs.declared.heads.Head.{Head}
+use Rattle.heads.specs.Heads.{Heads}
+use Rattle.std.specs.Prelude.{Ok}
+use Rattle.readers.specs.declared.state.State.{State}
+use Rattle.readers.specs.declared.walker.Walker.{Walker}
+use Rattle.readers.specs.Views.{Answer, mem, moved_to}
+use Rattle.readers.specs.Lent.{input_of, lent_of}
+use Rattle.walker.specs.Ready.{Ready, After}
+use Rattle.walker.proofs.ScratchLaws.{Scratch, Index, InOrder, order_of, ready_of, ready_on, got_index}
 use Rattle.walker.proofs.GroundLaws.{ground_ascends, keep_map_ground}
 
 -- one level less is left, as the code counts it and as the definition does
@@ -36,21 +44,17 @@ module _ {A : Type 0} {x : Input} {m : Mem} {P Q : A → Mem → Type 0} {o : Ou
       let b = subst (Ordered Q) (sym e) n in
       record { kept = h.0; more = h.1; numbered = b.0; ascending = subst (StaysAscending x) (sym e) a; fresh = b.1 }
 
--- what an answer says of scratch, once its variant is known
-pub out_index : {A : Type 0} {size : ℕ} {o : Out A} {v : A} {m : Mem} (sc : List ℕ) → got v m ≡ o → OutIndex size o sc → Index size m.slots m.addresses sc
-out_index {size = size} sc e i = subst (λ (o : Out _). OutIndex size o sc) (sym e) i
-
 abbrev pub Free : SlotValue → Mem → Type 0
 Free v m = FreshValue m v
 
 abbrev pub None : {A : Type 0} → A → Mem → Type 0
 None v m = Unit {0}
 
-module _ {x : Input} {h sc : List ℕ} {m : Mem} (g : Ready x h m sc) where
+module _ {x : Input} {h : List Head} {sc : Scratch} {m : Mem} (g : InOrder x h m sc) where
   -- ---- after what a reader kept
 
-  pub ready_after : {m' : Mem} {sc' : List ℕ} → Kept x m m' → Numbered m' → Ascending x m'.addresses m'.alloc → Index (length x.payload) m'.slots m'.addresses sc' → Ready x h m' sc'
-  ready_after k n a i =
+  pub order_after : {m' : Mem} {sc' : Scratch} → Kept x m m' → Numbered m' → Ascending x m'.addresses m'.alloc → Index m'.slots m'.addresses sc' → InOrder x h m' sc'
+  order_after k n a i =
       record { proper = g.proper; decoded = g.decoded; sound = k.sound; counted = k.counted; numbered = n; ascending = a; index = i }
 
   -- the head byte was read
@@ -59,16 +63,16 @@ module _ {x : Input} {h sc : List ℕ} {m : Mem} (g : Ready x h m sc) where
       record
       { sound = omega (arith, g.sound); counted = record { chunk_low = λ s. omega (arith, g.counted.chunk_low s); count_low = g.counted.count_low }; onward = omega arith }
 
-  pub moved_ready : m.at < length x.payload → Ready x h (moved (m.at + 1) m) sc
-  moved_ready l = ready_after (moved_kept l) g.numbered g.ascending (record { pending = g.index.pending; linked = g.index.linked })
+  pub order_moved : m.at < length x.payload → InOrder x h (moved (m.at + 1) m) sc
+  order_moved l = order_after (moved_kept l) g.numbered g.ascending (record { pending = g.index.pending; linked = g.index.linked })
 
   -- ---- what each reader keeps
 
-  pub ref_went : (k : ℕ) {v : SlotValue} {m' : Mem} → got v m' ≡ ref_at x k m → Went x m (Referred x m) Free v m'
-  ref_went k e = went (ref_keeps g.proper k m g.sound g.counted) (ref_numbered g.proper m g.sound g.counted g.numbered k) (ref_ascending g.proper m g.sound g.counted g.ascending k) e
+  pub order_ref : (k : ℕ) {v : SlotValue} {m' : Mem} → got v m' ≡ ref_at x k m → Went x m (Referred x m) Free v m'
+  order_ref k e = went (ref_keeps g.proper k m g.sound g.counted) (ref_numbered g.proper m g.sound g.counted g.numbered k) (ref_ascending g.proper m g.sound g.counted g.ascending k) e
 
-  pub object_went : (k space tag : ℕ) → space < 256 → {v : SlotValue} {m' : Mem} → got v m' ≡ object x (ref_at x k) space tag m → Went x m (Referred x m) Free v m'
-  object_went k space tag l e =
+  order_object : (k space tag : ℕ) → space < 256 → {v : SlotValue} {m' : Mem} → got v m' ≡ object x (ref_at x k) space tag m → Went x m (Referred x m) Free v m'
+  order_object k space tag l e =
       went (object_keeps g.proper (ref_at x k) (ref_keeps g.proper k) space tag l m g.sound g.counted) (object-numbered g.proper m g.sound g.counted g.numbered k space tag l) (object_ascending g.proper m g.sound g.counted g.ascending k space tag l) e
 
   -- of an object o that has a record
@@ -80,3 +84,21 @@ module _ {x : Input} {h sc : List ℕ} {m : Mem} (g : Ready x h m sc) where
     pub keep_map_went : (v : SlotValue) → FreshValue m v → {u : Unit {0}} {m' : Mem} → got u m' ≡ keep_map x o v m → Went x m (λ _ m'. More (λ m. m.slots) m m') None u m'
     keep_map_went v f e =
         went (keep_map_keeps g.proper m g.sound g.counted o b v) (keep_map-numbered g.proper m g.sound g.counted g.numbered o 0 0 b v f) (ground_ascends x m g.ascending (keep_map x o v m) (keep_map_ground x o v m)) e
+
+-- ---- the same of what a walker and a state have
+
+module _ {w : Walker} {s : State} (g : Ready w s) where
+  pub ref_went : (k : ℕ) {v : SlotValue} {m' : Mem} → got v m' ≡ ref_at (input_of w) k (mem s (lent_of w)) → Went (input_of w) (mem s (lent_of w)) (Referred (input_of w) (mem s (lent_of w))) Free v m'
+  ref_went k e = order_ref (order_of g) k e
+
+  pub object_went : (k space tag : ℕ) → space < 256 → {v : SlotValue} {m' : Mem} → got v m' ≡ object (input_of w) (ref_at (input_of w) k) space tag (mem s (lent_of w)) → Went (input_of w) (mem s (lent_of w)) (Referred (input_of w) (mem s (lent_of w))) Free v m'
+  object_went k space tag l e = order_object (order_of g) k space tag l e
+
+  -- the head byte was read
+  pub moved_ready : s.at < length w.payload.now → Ready w (moved_to (s.at + 1) s)
+  moved_ready l = ready_of (order_moved (order_of g) l)
+
+-- what a reader that gave a value leaves, from what it says of the value, of what is only read and of scratch
+pub ready_after : {A : Type 0} {w w' : Walker} {r : Answer A} {v : A × State} {m : Mem} {P Q : A → Mem → Type 0} → Proper (input_of w) → Heads w.sheet.now w.heads.now → r ≡ Ok v → After w r w' → Went (input_of w) m P Q v.0 (mem v.1 (lent_of w')) → Ready w' v.1
+ready_after p h e a z =
+    ready_on a.fixed (record { proper = p; decoded = h; sound = z.kept.sound; counted = z.kept.counted; numbered = z.numbered; ascending = z.ascending; index = got_index e a })

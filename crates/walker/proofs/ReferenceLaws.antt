@@ -1,53 +1,61 @@
 -- A reference at each of its ways out: what its head byte gives, what holds where an inner reference starts, and that heads that open no
 -- object change no slot. Assumes nothing.
 use mathlib.Core.Path.{◌≡◌, refl, sym, ap, subst, ◌∙◌}
-use mathlib.Core.Bool.{Bool, true, false, ◌&&◌}
-use mathlib.Core.List.{List, [], ◌∷◌}
-use Prim.Native.Nat.{ℕ, zero, suc, ◌+◌, ◌-◌, ◌^◌, ◌<◌, ◌≤◌}
+use mathlib.Core.Bool.{Bool, true, false}
+use mathlib.Core.List.{List}
+use Prim.Native.Nat.{ℕ, suc, ◌+◌, ◌-◌, ◌^◌, ◌<◌, ◌≤◌}
 use native.Mathlib.Omega.{arith}
-use borrow.Author.Tests.{lt-ltb, le-ltb, ltb-true, eqb-true}
+use denote.Enum.Bare.{sameb, same_true, same_false}
+use borrow.Author.Tests.{lt-ltb, le-ltb, eqb-true}
 use lib.Dec.{ltb, eqb}
-use lib.ListN.{length, get_or, drop}
+use lib.ListN.{length, get_or}
 use Rattle.std.specs.Prelude.{Option, Some, None, Ok, Err}
 use Rattle.stream.specs.Bytes.{raw_at}
 use Rattle.stream.specs.declared.putint.Int.{Int}
 use Rattle.stream.specs.PutInt.{int_at}
-use Rattle.heads.specs.Kinds.{new_object, backref, legacy_backref, legacy_backref_with_skip, next_chunk, alignment, hot, hot_with_skip, root_array, root_constant, root_constant_with_skip, read_only, attached, builtin, external, api, internal, deoptimizer, stream_bytes, embedder_fields, off_heap_target, cache, register_pending, cleared_weak, weak_prefix, pointer_prefix, dispatch_entry, fixed_raw, variable_raw, skip, fixed_repeat, fixed_repeat_root, repeat_previous, variable_repeat, variable_repeat_previous, variable_repeat_root, meta_map}
-use Rattle.sheet.specs.Sheet.{usable}
-use Rattle.heads.specs.Heads.{Row, order, Head, claims, pick_head, first_of, head_of}
-use Rattle.sheet.proofs.UsableSheet.{and_left, and_right}
+use Rattle.std.proofs.Common.{rules}
+use Rattle.heads.specs.contracts.kinds.Kind.{the_type}
+use Rattle.heads.specs.declared.kinds.Kind.{Kind}
+use Rattle.heads.specs.declared.kinds.Kind.TheVariants.{NewObject}
+use Rattle.heads.specs.Kinds.{kind_number, new_object, backref, legacy_backref, legacy_backref_with_skip, next_chunk, alignment, hot, hot_with_skip, root_array, root_constant, root_constant_with_skip, read_only, attached, builtin, external, api, internal, deoptimizer, stream_bytes, embedder_fields, off_heap_target, cache, register_pending, cleared_weak, weak_prefix, pointer_prefix, dispatch_entry, fixed_raw, variable_raw, skip, fixed_repeat, fixed_repeat_root, repeat_previous, variable_repeat, variable_repeat_previous, variable_repeat_root, meta_map}
+use Rattle.heads.specs.Heads.{head_of, head_at}
 use Rattle.tables.specs.declared.values.Ref.{Ref}
 use Rattle.tables.specs.declared.values.Ref.TheVariants.{Root}
 use Rattle.tables.specs.declared.values.SlotValue.{SlotValue}
 use Rattle.tables.specs.declared.values.SlotValue.TheVariants.{Ref as IsRef}
 use Rattle.tables.specs.declared.values.Fields.{Fields}
 use Rattle.tables.specs.Values.{fields_of}
-use Rattle.tables.specs.Records.{room}
 use Rattle.backref.specs.HotRing.{hot_at}
 use Rattle.backref.specs.declared.legacy.BackrefError.TheVariants.{Cut, Unknown}
-use Rattle.backref.specs.Legacy.{Answer, backref_of}
-use Rattle.address_index.specs.Links.{Linked}
-use Rattle.address_index.specs.Sorted.{Sorted}
+use Rattle.backref.specs.Legacy.{Answer as Found, backref_of}
 use Rattle.definition.specs.Memory.{Input, Table, Mem, Out, got, no, Reader, and_then, ◌>>=◌, ◌>>◌, choose, change, moved, aligned, after_int, byte, int, has_room}
 use Rattle.definition.specs.Slots.{add_value}
 use Rattle.definition.specs.Object.{change_chunk, object}
-use Rattle.definition.specs.Reference.{skip_amount, backref_to, of_hot, hot_place, of_backref, legacy_reference, pending_reference, after_raw, raw_data, repeat_root, by_head, reference, ref_at}
+use Rattle.definition.specs.Reference.{skip_amount, backref_to, of_hot, hot_place, of_backref, legacy_reference, pending_reference, after_raw, raw_data, weak_of, repeat_of, repeat_root, by_head, reference, ref_at}
 use Rattle.laws.specs.Sound.{Holds, Referred}
 use Rattle.laws.proofs.Theorems.{ref_keeps}
 use Rattle.laws.specs.Numbered.{Ordered, ref_numbered}
-use Rattle.laws.specs.Addresses.{StaysAscending, ascending_sorted, ref_ascending}
+use Rattle.laws.specs.Addresses.{StaysAscending, ref_ascending}
 use Rattle.readers.specs.declared.state.State.{State}
-use Rattle.readers.specs.declared.state.Step.{Step}
+use Rattle.readers.specs.declared.state.Refused.{Refused}
+use Rattle.readers.specs.declared.walker.Walker.{Walker}
+use Rattle.readers.specs.declared.prefix.Held.{Held}
+use Rattle.readers.specs.declared.prefix.Held.TheVariants.{Plain, Weak, Repeated}
 use Rattle.readers.specs.declared.prefix.Prefix.{Prefix}
-use Rattle.readers.specs.declared.prefix.Prefix.TheVariants.{Inner, Value, Refused, Other}
-use Rattle.readers.specs.Views.{Lent, mem, seen, values_is, addresses_is, hot_is, counters_is}
+use Rattle.readers.specs.declared.prefix.Prefix.TheVariants.{Inner, Root as RootHeld, Other}
+use Rattle.refusals.specs.Numbers.{number_of}
+use Rattle.readers.specs.Views.{Lent, Answer, mem, seen, moved_to}
+use Rattle.readers.specs.Lent.{input_of, lent_of, Kept, Addressed}
 use Rattle.readers.specs.Simple.{Simple}
-use Rattle.readers.specs.Prefix.{held, Holdless, Begins, HeldSmall}
+use Rattle.readers.specs.Prefix.{held, Holdless, Begins}
 use Rattle.readers.proofs.ViewLaws.{then_got, then_no}
 use Rattle.readers.proofs.HeadFacts.{head_fits, head_simple}
-use Rattle.walker.specs.Ready.{Index, OutIndex, Ready}
+use Rattle.heads.specs.declared.heads.Head.{Head as CodeHead}
+use Rattle.walker.specs.Ready.{Ready, After}
+use Rattle.objects.proofs.AnswerLaws.{fixed_on, same_input}
+use Rattle.walker.proofs.ScratchLaws.{Scratch, scratch_of, Index, OutIndex, InOrder, order_of, addressed, same_scratch, at_input, ready_on, after_of, got_index}
 use Rattle.walker.proofs.SameLaws.{Same, Leaves, same_choose, then_leaves, next_leaves, same_no}
-use Rattle.walker.proofs.ReadyLaws.{one_less, Free, ready_after, moved_ready}
+use Rattle.walker.proofs.ReadyLaws.{Free, order_after, order_moved}
 
 -- ---- readers that leave the slots and the address records as they are
 
@@ -82,7 +90,7 @@ module _ (x : Input) where
   amount_still : Still (skip_amount x)
   amount_still = then_leaves records_of (int x) _ int_still (λ n m. refl)
 
-  backref_of_lem : (b : Answer) → Still (of_backref x b)
+  backref_of_lem : (b : Found) → Still (of_backref x b)
   backref_of_lem (Ok b) m = refl
   backref_of_lem (Err Cut) m = refl
   backref_of_lem (Err (Unknown next)) m = refl
@@ -118,13 +126,19 @@ value_still : (f : Fields) → Still (add_value f)
 unfolding add_value
 value_still f m = same_choose records_of (has_room 3 m.values) _ _ m (λ _. refl) refl
 
-pub held_still : (h : ℕ) (v : SlotValue) → Still (held h v)
-held_still zero v m = refl
-held_still (suc zero) v m = then_leaves records_of (add_value (fields_of v)) _ (value_still (fields_of v)) (λ k m. refl) m
-held_still (suc (suc n)) v m = then_leaves records_of (add_value (fields_of v)) _ (value_still (fields_of v)) (λ k m. refl) m
+weak_still : (v : SlotValue) → Still (weak_of v)
+weak_still v m = then_leaves records_of (add_value (fields_of v)) _ (value_still (fields_of v)) (λ k m. refl) m
+
+repeat_still : (n : ℕ) (v : SlotValue) → Still (repeat_of n v)
+repeat_still n v m = then_leaves records_of (add_value (fields_of v)) _ (value_still (fields_of v)) (λ k m. refl) m
+
+held_still : (h : Held) (v : SlotValue) → Still (held h v)
+held_still Plain v m = refl
+held_still Weak v m = weak_still v m
+held_still (Repeated n) v m = repeat_still n v m
 
 root_still : (x : Input) (n : ℕ) → Still (repeat_root x n)
-root_still x n = then_leaves records_of (byte x) _ (byte_still x) (λ i. held_still (suc (suc n)) (IsRef (Root i)))
+root_still x n = then_leaves records_of (byte x) _ (byte_still x) (λ i. repeat_still n (IsRef (Root i)))
 
 -- no levels left
 none_still : (x : Input) → Still (ref_at x 0)
@@ -134,7 +148,7 @@ none_still x m = refl
 -- ---- by the head
 
 module _ (x : Input) (r : Reader SlotValue) (s : Still r) (tag kind a : ℕ) (other : kind ≡ new_object → ⊥) where
-  pub by_head_still : Still (by_head x r tag kind a)
+  by_head_still : Still (by_head x r tag kind a)
   unfolding by_head
   by_head_still m =
       by new_object _ _ (λ e. absurd (other e))
@@ -161,16 +175,16 @@ module _ (x : Input) (r : Reader SlotValue) (s : Still r) (tag kind a : ℕ) (ot
       (by cache _ _ (λ _. then_leaves records_of (int x) _ (int_still x) (λ i m. refl) m)
       (by register_pending _ _ (λ _. pending_still m)
       (by cleared_weak _ _ (λ _. refl)
-      (by weak_prefix _ _ (λ _. then_leaves records_of r _ s (held_still 1) m)
+      (by weak_prefix _ _ (λ _. then_leaves records_of r _ s weak_still m)
       (by pointer_prefix _ _ (λ _. s m)
       (by dispatch_entry _ _ (λ _. next_leaves records_of (int x) _ (int_still x) (λ m. refl) m)
       (by fixed_raw _ _ (λ _. raw_still x _ _ m)
       (by variable_raw _ _ (λ _. then_leaves records_of (int x) _ (int_still x) (λ n. raw_still x _ _) m)
       (by skip _ _ (λ _. then_leaves records_of (int x) _ (int_still x) (λ n m. refl) m)
-      (by fixed_repeat _ _ (λ _. then_leaves records_of r _ s (held_still (suc (suc a))) m)
+      (by fixed_repeat _ _ (λ _. then_leaves records_of r _ s (repeat_still a) m)
       (by fixed_repeat_root _ _ (λ _. root_still x a m)
       (by repeat_previous _ _ (λ _. refl)
-      (by variable_repeat _ _ (λ _. then_leaves records_of (int x) _ (int_still x) (λ n. then_leaves records_of r _ s (held_still (suc (suc (n + 18))))) m)
+      (by variable_repeat _ _ (λ _. then_leaves records_of (int x) _ (int_still x) (λ n. then_leaves records_of r _ s (repeat_still (n + 18))) m)
       (by variable_repeat_previous _ _ (λ _. then_leaves records_of (int x) _ (int_still x) (λ n m. refl) m)
       (by variable_repeat_root _ _ (λ _. then_leaves records_of (int x) _ (int_still x) (λ n. root_still x (n + 18)) m)
       (by meta_map _ _ (λ _. refl)
@@ -180,24 +194,16 @@ module _ (x : Input) (r : Reader SlotValue) (s : Still r) (tag kind a : ℕ) (ot
       by k f g h j = same_choose records_of (eqb kind k) f g m (λ e. h (eqb-true kind k e)) j
 
 -- so is scratch, after a step that left them
-module _ (size : ℕ) (m : Mem) (sc : List ℕ) (i : Index size m.slots m.addresses sc) where
-  pub idle_of : (m' : Mem) → records_of m' ≡ records_of m → Index size m'.slots m'.addresses sc
-  idle_of m' e = subst (λ (r : Records). Index size r.slots r.addresses sc) (sym e) i
+module _ (m : Mem) (sc : Scratch) (i : Index m.slots m.addresses sc) where
+  idle_of : (m' : Mem) → records_of m' ≡ records_of m → Index m'.slots m'.addresses sc
+  idle_of m' e = subst (λ (r : Records). Index r.slots r.addresses sc) (sym e) i
 
-  idle_out : {A : Type 0} (o : Out A) → Idle m o → OutIndex size o sc
+  idle_out : {A : Type 0} (o : Out A) → Idle m o → OutIndex o sc
   idle_out (got v m') e = idle_of m' e
   idle_out (no n q m') e = tt
 
-  pub idle_index : {A : Type 0} {r o : Out A} → r ≡ o → Idle m o → OutIndex size r sc
-  idle_index {r = r} {o} e u = subst (λ (o : Out _). OutIndex size o sc) (sym e) (idle_out o u)
-
--- ---- how a prefix holds its value, once the match knows its variant
-
-pub inner_small : {p : Prefix} {h : ℕ} {t : State} → p ≡ Inner h t → HeldSmall p → h < 2 ^ 32
-inner_small e b = subst HeldSmall e b
-
-pub value_small : {p : Prefix} {h i : ℕ} {t : State} → p ≡ Value h i t → HeldSmall p → h < 2 ^ 32
-value_small e b = subst HeldSmall e b
+  idle_index : {A : Type 0} {r o : Out A} → r ≡ o → Idle m o → OutIndex r sc
+  idle_index {r = r} {o} e u = subst (λ (o : Out _). OutIndex o sc) (sym e) (idle_out o u)
 
 -- ---- a reference at depth d
 
@@ -223,85 +229,55 @@ head-object : (x : Input) (r : Reader SlotValue) (tag kind a : ℕ) (m : Mem) �
 unfolding by_head
 head-object x r tag kind a m e = rw e
 
-module _ {x : Input} {h sc : List ℕ} {m : Mem} (g : Ready x h m sc) (l : m.at < length x.payload) (b : ℕ) (e : (b ≡ get_or x.payload m.at 0) × (b < 256)) where
+module _ {x : Input} {h : List CodeHead} {sc : Scratch} {m : Mem} (g : InOrder x h m sc) (l : m.at < length x.payload) (b : ℕ) (e : (b ≡ get_or x.payload m.at 0) × (b < 256)) where
   -- the head byte's kind and argument
-  pub ref_head : (d : ℕ) → d ≤ 64 → by_head x (ref_at x (64 - d)) m.at (get_or h b 0) (get_or h (256 + b) 0) (moved (m.at + 1) m) ≡ ref_at x (65 - d) m
+  ref_head : (d : ℕ) → d ≤ 64 → by_head x (ref_at x (64 - d)) m.at (kind_number (head_at h b).kind) (head_at h b).argument (moved (m.at + 1) m) ≡ ref_at x (65 - d) m
   ref_head d low = rw (g.decoded.kind b e.1, g.decoded.argument b e.1) (ref_byte x d m low l b e.0)
 
-  pub ref_object : (d : ℕ) → d ≤ 64 → get_or h b 0 ≡ new_object → object x (ref_at x (64 - d)) (get_or h (256 + b) 0) m.at (moved (m.at + 1) m) ≡ ref_at x (65 - d) m
-  ref_object d low k = head-object x (ref_at x (64 - d)) m.at _ _ (moved (m.at + 1) m) k ∙ ref_head d low
+  pub at_object : (d : ℕ) → d ≤ 64 → kind_number (head_at h b).kind ≡ new_object → object x (ref_at x (64 - d)) ((head_at h b).argument) m.at (moved (m.at + 1) m) ≡ ref_at x (65 - d) m
+  at_object d low k = head-object x (ref_at x (64 - d)) m.at _ _ (moved (m.at + 1) m) k ∙ ref_head d low
 
-  pub space_low : get_or h b 0 ≡ new_object → get_or h (256 + b) 0 < 256
-  space_low k = rw (g.decoded.argument b e.1) ((head_fits x.sheet b e.1).space (sym (g.decoded.kind b e.1) ∙ k))
+  pub at_space : kind_number (head_at h b).kind ≡ new_object → (head_at h b).argument < 256
+  at_space k = rw (g.decoded.argument b e.1) ((head_fits x.sheet b e.1).space (sym (g.decoded.kind b e.1) ∙ k))
 
-  pub argument_low : get_or h (256 + b) 0 < 65536
+  pub argument_low : (head_at h b).argument < 65536
   argument_low = rw (g.decoded.argument b e.1) (head_fits x.sheet b e.1).small
 
-  module _ (other : get_or h b 0 ≡ new_object → ⊥) where
-    pub is_simple : Holdless (get_or h b 0) → Simple (get_or h b 0) (get_or h (256 + b) 0)
+  module _ (other : kind_number (head_at h b).kind ≡ new_object → ⊥) where
+    is_simple : Holdless (kind_number (head_at h b).kind) → Simple (kind_number (head_at h b).kind) (head_at h b).argument
     is_simple k =
         rw (g.decoded.kind b e.1, g.decoded.argument b e.1)
         (head_simple x.sheet b e.1 (λ z. other (g.decoded.kind b e.1 ∙ z)) (rw (g.decoded.kind b e.1) at k))
 
     -- what the head gives leaves the slots as they were, where its inner reference does
-    pub head-idle : Idle (moved (m.at + 1) m) (by_head x (ref_at x 0) m.at (get_or h b 0) (get_or h (256 + b) 0) (moved (m.at + 1) m))
+    head-idle : Idle (moved (m.at + 1) m) (by_head x (ref_at x 0) m.at (kind_number (head_at h b).kind) (head_at h b).argument (moved (m.at + 1) m))
     head-idle = by_head_still x (ref_at x 0) (none_still x) m.at _ _ other (moved (m.at + 1) m)
 
-    pub head_indexed : {r : Out SlotValue} → r ≡ by_head x (ref_at x 0) m.at (get_or h b 0) (get_or h (256 + b) 0) (moved (m.at + 1) m) → OutIndex (length x.payload) r sc
-    head_indexed q = idle_index (length x.payload) (moved (m.at + 1) m) sc (moved_ready g l).index q head-idle
+    head_indexed : {r : Out SlotValue} → r ≡ by_head x (ref_at x 0) m.at (kind_number (head_at h b).kind) (head_at h b).argument (moved (m.at + 1) m) → OutIndex r sc
+    head_indexed q = idle_index (moved (m.at + 1) m) sc (order_moved g l).index q head-idle
 
     -- an inner reference may start where a prefix has been read: with no levels left it is refused there
-    pub inner_ready : (k : ℕ) (m' : Mem) → ((r : Reader SlotValue) → (r >>= held k) m' ≡ by_head x r m.at (get_or h b 0) (get_or h (256 + b) 0) (moved (m.at + 1) m)) → Ready x h m' sc
+    inner_ready : (k : Held) (m' : Mem) → ((r : Reader SlotValue) → (r >>= held k) m' ≡ by_head x r m.at (kind_number (head_at h b).kind) (head_at h b).argument (moved (m.at + 1) m)) → InOrder x h m' sc
     unfolding ref_at
     inner_ready k m' q =
-        let z : no 6 m'.at m' ≡ by_head x (ref_at x 0) m.at (get_or h b 0) (get_or h (256 + b) 0) (moved (m.at + 1) m) = q (ref_at x 0) in
+        let z : no 6 m'.at m' ≡ by_head x (ref_at x 0) m.at (kind_number (head_at h b).kind) (head_at h b).argument (moved (m.at + 1) m) = q (ref_at x 0) in
         let w : no 6 m'.at m' ≡ ref_at x 1 m = z ∙ ref_head 64 (omega arith) in
-        ready_after g (subst (Holds x m (Referred x m)) (sym w) (ref_keeps g.proper 1 m g.sound g.counted))
+        order_after g (subst (Holds x m (Referred x m)) (sym w) (ref_keeps g.proper 1 m g.sound g.counted))
         (subst (Ordered Free) (sym w) (ref_numbered g.proper m g.sound g.counted g.numbered 1))
         (subst (StaysAscending x) (sym w) (ref_ascending g.proper m g.sound g.counted g.ascending 1))
-        (idle_of (length x.payload) (moved (m.at + 1) m) sc (moved_ready g l).index m' (same_no records_of {m = moved (m.at + 1) m} {m' = m'} z head-idle))
-
--- ---- kinds are small, by one computed test over the order of heads
-
-abbrev kinds_low : List Row → Bool
-kinds_low [] = true
-kinds_low (r ∷ rs) = ltb r.kind 64 && kinds_low rs
-
-order_low : kinds_low order ≡ true
-unfolding order
-order_low = refl
-
-picked_low : (t : Bool) (g k : Head) → g.kind < 64 → k.kind < 64 → (pick_head t g k).kind < 64
-picked_low true g k a b = a
-picked_low false g k a b = b
-
-first_low : (v : List ℕ) (b : ℕ) (rs : List Row) → kinds_low rs ≡ true → (first_of v rs b).kind < 64
-unfolding first_of
-first_low v b [] t = omega arith
-first_low v b (r ∷ rs) t =
-    picked_low (claims v r b) _ _ (ltb-true r.kind 64 (and_left (ltb r.kind 64) (kinds_low rs) t)) (first_low v b rs (and_right (ltb r.kind 64) (kinds_low rs) t))
-
-pub head_low : (v : List ℕ) (b : ℕ) → (head_of v b).kind < 64
-unfolding head_of
-head_low v b = first_low v b order order_low
+        (idle_of (moved (m.at + 1) m) sc (order_moved g l).index m' (same_no records_of {m = moved (m.at + 1) m} {m' = m'} z head-idle))
 
 -- ---- the bounds that the readers ask
 
-module _ {x : Input} {h sc : List ℕ} {m : Mem} (g : Ready x h m sc) where
-  pub chunks_low : (i : ℕ) → get_or m.alloc.cur i 0 < 2 ^ 32 - 1
-  chunks_low i = omega (arith, g.counted.chunk_low i, g.sound, g.proper)
+simple_fits : {x : Input} {h : List CodeHead} {sc : Scratch} {m : Mem} → InOrder x h m sc → m.at < length x.payload → (m.skip < 2 ^ 63) × (m.pending < 2 ^ 63)
+simple_fits g l = (omega (arith, g.sound, g.proper), omega (arith, g.sound, g.proper))
 
-  -- once the head byte was read
-  module _ (l : m.at < length x.payload) where
-    pub simple_fits : (m.addresses.count ≤ room 5 m.addresses.rows) × (usable x.sheet ≡ true) × (m.skip < 2 ^ 63) × (m.pending < 2 ^ 63)
-    simple_fits = (omega (arith, g.sound), g.proper.sheet_usable, omega (arith, g.sound, g.proper), omega (arith, g.sound, g.proper))
+module _ {w : Walker} {s : State} (g : Ready w s) (l : s.at < length w.payload.now) (b : ℕ) (e : (b ≡ get_or w.payload.now s.at 0) × (b < 256)) (k : kind_number (head_at w.heads.now b).kind ≡ new_object) where
+  pub ref_object : (d : ℕ) → d ≤ 64 → object (input_of w) (ref_at (input_of w) (64 - d)) (head_at w.heads.now b).argument s.at (mem (moved_to (s.at + 1) s) (lent_of w)) ≡ ref_at (input_of w) (65 - d) (mem s (lent_of w))
+  ref_object d low = at_object (order_of g) l b e d low k
 
-  -- legacy addresses may be looked up
-  pub found_by : Linked m.addresses.rows m.addresses.count (drop (length x.payload) sc) × Sorted m.addresses.rows m.addresses.count
-  found_by = (g.index.linked, ascending_sorted x m.addresses m.alloc g.ascending)
-
-  pub kind_low : (b : ℕ) → b < 256 → get_or h b 0 < 2 ^ 64
-  kind_low b l = omega (arith, head_low x.sheet b, g.decoded.kind b l)
+  pub space_low : (head_at w.heads.now b).argument < 256
+  space_low = at_space (order_of g) l b e k
 
 -- ---- after the head byte
 
@@ -311,52 +287,112 @@ next s =
     record
     { at = s.at + 1; objects = s.objects; slots = s.slots; values = s.values; addresses = s.addresses; pending = s.pending; waiting = s.waiting; skip = s.skip; alignment = s.alignment }
 
-module _ (x : Input) (h sc : List ℕ) (s : State) (l : Lent) (g : Ready x h (mem s l) sc) (low : s.at < length x.payload) (b : ℕ) (e : (b ≡ get_or x.payload s.at 0) × (b < 256)) (other : get_or h b 0 ≡ new_object → ⊥) (p : Prefix) (cur used : List ℕ)
-    (begun : (l₁ : Lent) → Begins x s.at (get_or h b 0) (get_or h (256 + b) 0) (next s) (counters_is l.cur l.used l₁) p (counters_is cur used l₁)) where
+-- the code's test of a head
+opened_by : (k : Kind) → kind_number k ≡ new_object → k ≡ NewObject
+opened_by NewObject h = refl
+opened_by _ h = absurd (omega (arith, h))
+
+module _ (k : Kind) {t : Bool} (e : t ≡ sameb the_type k NewObject) where
+  pub is_new : t ≡ true → kind_number k ≡ new_object
+  is_new f = ap kind_number (same_true the_type (search rules) k NewObject (sym e ∙ f))
+
+  not_new : t ≡ false → kind_number k ≡ new_object → ⊥
+  not_new f h = same_false the_type k NewObject (sym e ∙ f) (opened_by k h)
+
+-- a head that opens no object, and what its prefix asks
+pub record Headed (w : Walker) (s : State) (b : ℕ) (p : Answer Prefix) (w₁ : Walker) : Type 0 where
+  pub ready : Ready w s
+  pub inside : s.at < length w.payload.now
+  pub byte : (b ≡ get_or w.payload.now s.at 0) × (b < 256)
+  pub other : kind_number (head_at w.heads.now b).kind ≡ new_object → ⊥
+  pub begins : Begins (input_of w) s.at (kind_number (head_at w.heads.now b).kind) (head_at w.heads.now b).argument (next s) (lent_of w) p (lent_of w₁)
+  pub kept : Kept w w₁
+
+pub head_read : {w : Walker} {s : State} {b : ℕ} {t : Bool} {w₁ : Walker} (p : Answer Prefix) → Ready w s → s.at < length w.payload.now → (b ≡ get_or w.payload.now s.at 0) × (b < 256) → t ≡ sameb the_type (head_at w.heads.now b).kind NewObject → t ≡ false
+    → record { begins : (tag : ℕ) → Begins (input_of w) tag (kind_number (head_at w.heads.now b).kind) (head_at w.heads.now b).argument (next s) (lent_of w) p (lent_of w₁); kept : Kept w w₁ }
+    → Headed w s b p w₁
+head_read {w} {s} {b} p g low e f n q =
+    record { ready = g; inside = low; byte = e; other = not_new (head_at w.heads.now b).kind f n; begins = q.begins s.at; kept = q.kept }
+
+module _ {w : Walker} {s : State} {b : ℕ} {p : Answer Prefix} {w₁ : Walker} (c : Headed w s b p w₁) where
+  abbrev g : InOrder (input_of w) w.heads.now (mem s (lent_of w)) (scratch_of w)
+  g = order_of c.ready
+
+  abbrev x : Input
+  x = input_of w
+
+  abbrev kind : ℕ
+  kind = kind_number (head_at w.heads.now b).kind
+
+  abbrev a : ℕ
+  a = (head_at w.heads.now b).argument
+
   -- what is lent after the prefix
-  abbrev l' : Lent
-  l' = counters_is cur used l
+  abbrev l₁ : Lent
+  l₁ = lent_of w₁
 
-  abbrev Begun : Prefix → Type 0
-  Begun p = Begins x s.at (get_or h b 0) (get_or h (256 + b) 0) (next s) l p l'
+  abbrev Begun : Answer Prefix → Type 0
+  Begun p = Begins x s.at kind a (next s) (lent_of w) p l₁
 
-  is : (p₁ : Prefix) → p ≡ p₁ → Begun p₁
-  is p₁ q = subst Begun q (begun l)
+  is : (q : Answer Prefix) → p ≡ q → Begun q
+  is q z = subst Begun z c.begins
 
   -- a head that is no prefix
-  pub other_simple : p ≡ Other → Simple (get_or h b 0) (get_or h (256 + b) 0)
-  other_simple q = is_simple g low b e other (is Other q).0
+  pub other_simple : {t : State} → p ≡ Ok (Other, t) → Simple kind a
+  other_simple {t} q = is_simple g c.inside b c.byte c.other (is (Ok (Other, t)) q).0
+
+  -- what that reader asks, in the state after the head
+  pub other_asks : {t : State} → p ≡ Ok (Other, t) → (Addressed w₁ t.addresses) × (t.skip < 2 ^ 63) × (t.pending < 2 ^ 63)
+  other_asks {t} q =
+      let z = is (Ok (Other, t)) q in
+      let o : InOrder x w.heads.now (mem t l₁) (scratch_of w₁) = rw z.1 (subst (λ (l : Lent). InOrder x w.heads.now (mem (next s) l) (scratch_of w₁)) (sym z.2) (rw (same_scratch w w₁ c.kept.1) (order_moved g c.inside))) in
+      let n = simple_fits g c.inside in
+      (addressed (ready_on {w = w} {w' = w₁} {s' = t} c.kept.0 o), rw z.1 n.0, rw z.1 n.1)
 
   -- a prefix before an inner reference
-  pub inner_starts : {k : ℕ} {t : State} → p ≡ Inner k t → Ready x h (mem t l') sc
-  inner_starts {k} {t} q = inner_ready g low b e other k (mem t l') (is (Inner k t) q)
+  pub inner_starts : {h : Held} {t : State} → p ≡ Ok (Inner h, t) → Ready w₁ t
+  inner_starts {h} {t} q =
+      ready_on c.kept.0 (rw (same_scratch w w₁ c.kept.1) (inner_ready g c.inside b c.byte c.other h (mem t l₁) (is (Ok (Inner h, t)) q)))
 
   module _ (d : ℕ) (deep : d ≤ 64) where
-    pub ref_refused : {n i : ℕ} {t : State} → p ≡ Refused n i t → no n i (mem t l') ≡ ref_at x (65 - d) (mem s l)
-    ref_refused {n} {i} {t} q = is (Refused n i t) q (ref_at x (64 - d)) ∙ ref_head g low b e d deep
+    pub ref_refused : {y : Refused} → p ≡ Err y → no (number_of y.refusal) y.place (mem y.state l₁) ≡ ref_at x (65 - d) (mem s (lent_of w))
+    ref_refused {y} q = is (Err y) q (ref_at x (64 - d)) ∙ ref_head g c.inside b c.byte d deep
 
-    pub ref_simple : (r : Step) (ring : List ℕ) → p ≡ Other
-        → ((l₁ : Lent) (inner : Reader SlotValue) → seen r (addresses_is l.addresses (hot_is ring l₁)) ≡ by_head x inner s.at (get_or h b 0) (get_or h (256 + b) 0) (mem (next s) (addresses_is l.addresses (hot_is l.hot l₁))))
-        → (seen r (hot_is ring l') ≡ ref_at x (65 - d) (mem s l)) × OutIndex (length x.payload) (seen r (hot_is ring l')) sc
-    ref_simple r ring q w =
-        let w' : (inner : Reader SlotValue) → seen r (hot_is ring l') ≡ by_head x inner s.at (get_or h b 0) (get_or h (256 + b) 0) (mem (next s) l) = subst (λ (l₁ : Lent). (inner : Reader SlotValue) → seen r (hot_is ring l') ≡ by_head x inner s.at (get_or h b 0) (get_or h (256 + b) 0) (mem (next s) l₁)) (is Other q).1 (w l') in
-        (w' (ref_at x (64 - d)) ∙ ref_head g low b e d deep, head_indexed g low b e other (w' (ref_at x 0)))
+    -- what is said of an answer that changed no scratch
+    answered : {w₂ : Walker} (r : Answer SlotValue) → Kept w₁ w₂ → seen r (lent_of w₂) ≡ by_head x (ref_at x (64 - d)) s.at kind a (mem (next s) (lent_of w)) → seen r (lent_of w₂) ≡ by_head x (ref_at x 0) s.at kind a (mem (next s) (lent_of w))
+        → (seen r (lent_of w₂) ≡ ref_at x (65 - d) (mem s (lent_of w))) × After w r w₂
+    answered {w₂} r k₂ f f₀ =
+        let i : OutIndex (seen r (lent_of w₂)) (scratch_of w) = head_indexed g c.inside b c.byte c.other f₀ in
+        (f ∙ ref_head g c.inside b c.byte d deep, after_of r (fixed_on c.kept.0 k₂.0) (rw (same_scratch w₁ w₂ k₂.1, same_scratch w w₁ c.kept.1) i))
 
-    pub ref_value : (r : Step) (values : List ℕ) {k i : ℕ} {t : State} → p ≡ Value k i t → ((l₁ : Lent) → seen r (values_is values l₁) ≡ held k (IsRef (Root i)) (mem t (values_is l.values l₁)))
-        → (seen r (values_is values l') ≡ ref_at x (65 - d) (mem s l)) × OutIndex (length x.payload) (seen r (values_is values l')) sc
-    ref_value r values {k} {i} {t} q w =
-        let v = is (Value k i t) q in
-        (w l' ∙ v (ref_at x (64 - d)) ∙ ref_head g low b e d deep, head_indexed g low b e other (w l' ∙ v (ref_at x 0)))
+    pub ref_simple : {t : State} → p ≡ Ok (Other, t) → {w₂ : Walker} (r : Answer SlotValue) → Kept w₁ w₂ → ((inner : Reader SlotValue) → seen r (lent_of w₂) ≡ by_head (input_of w₁) inner s.at kind a (mem t l₁)) → (seen r (lent_of w₂) ≡ ref_at x (65 - d) (mem s (lent_of w))) × After w r w₂
+    ref_simple {t} q {w₂} r k₂ f =
+        let z = is (Ok (Other, t)) q in
+        let f₁ : (inner : Reader SlotValue) → seen r (lent_of w₂) ≡ by_head x inner s.at kind a (mem t l₁) = subst (λ (x₁ : Input). (inner : Reader SlotValue) → seen r (lent_of w₂) ≡ by_head x₁ inner s.at kind a (mem t l₁)) (same_input c.kept.0) f in
+        let f₂ : (inner : Reader SlotValue) → seen r (lent_of w₂) ≡ by_head x inner s.at kind a (mem (next s) l₁) = subst (λ (t : State). (inner : Reader SlotValue) → seen r (lent_of w₂) ≡ by_head x inner s.at kind a (mem t l₁)) z.1 f₁ in
+        let f₃ : (inner : Reader SlotValue) → seen r (lent_of w₂) ≡ by_head x inner s.at kind a (mem (next s) (lent_of w)) = subst (λ (l : Lent). (inner : Reader SlotValue) → seen r (lent_of w₂) ≡ by_head x inner s.at kind a (mem (next s) l)) z.2 f₂ in
+        answered r k₂ (f₃ (ref_at x (64 - d))) (f₃ (ref_at x 0))
 
-    module _ {k : ℕ} {t : State} (q : p ≡ Inner k t) where
-      ref_inner : {out : Out SlotValue} → out ≡ and_then (ref_at x (65 - (d + 1)) (mem t l')) (held k) → out ≡ ref_at x (65 - d) (mem s l)
-      ref_inner w = w ∙ ap (λ (n : ℕ). and_then (ref_at x n (mem t l')) (held k)) (one_less d) ∙ is (Inner k t) q (ref_at x (64 - d)) ∙ ref_head g low b e d deep
+    pub ref_root : {h : Held} {i : ℕ} {t : State} → p ≡ Ok (RootHeld h i, t) → {w₂ : Walker} (r : Answer SlotValue) → Kept w₁ w₂ → seen r (lent_of w₂) ≡ held h (IsRef (Root i)) (mem t l₁) → (seen r (lent_of w₂) ≡ ref_at x (65 - d) (mem s (lent_of w))) × After w r w₂
+    ref_root {h} {i} {t} q r k₂ f =
+        let v = is (Ok (RootHeld h i, t)) q in
+        answered r k₂ (f ∙ v (ref_at x (64 - d))) (f ∙ v (ref_at x 0))
 
-      pub ref_inner_no : {n i : ℕ} {m' : Mem} → no n i m' ≡ ref_at x (65 - (d + 1)) (mem t l') → no n i m' ≡ ref_at x (65 - d) (mem s l)
-      ref_inner_no w = ref_inner (then_no (held k) w)
+    module _ {h : Held} {t : State} (q : p ≡ Ok (Inner h, t)) where
+      ref_inner : {out : Out SlotValue} → out ≡ and_then (ref_at x (64 - d) (mem t l₁)) (held h) → out ≡ ref_at x (65 - d) (mem s (lent_of w))
+      ref_inner f = f ∙ is (Ok (Inner h, t)) q (ref_at x (64 - d)) ∙ ref_head g c.inside b c.byte d deep
+
+      pub ref_inner_no : {n i : ℕ} {m' : Mem} → no n i m' ≡ ref_at (input_of w₁) (64 - d) (mem t l₁) → no n i m' ≡ ref_at x (65 - d) (mem s (lent_of w))
+      ref_inner_no f = ref_inner (then_no (held h) (at_input c.kept.0 (λ x. ref_at x (64 - d) (mem t l₁)) f))
 
       -- what is held is that of the inner reference, or a value record
-      pub ref_inner_got : (r : Step) (values : List ℕ) (l₂ : Lent) (sc' : List ℕ) {v : SlotValue} {t₂ : State} → got v (mem t₂ l₂) ≡ ref_at x (65 - (d + 1)) (mem t l') → Index (length x.payload) (mem t₂ l₂).slots (mem t₂ l₂).addresses sc'
-          → ((l₁ : Lent) → seen r (values_is values l₁) ≡ held k v (mem t₂ (values_is l₂.values l₁))) → (seen r (values_is values l₂) ≡ ref_at x (65 - d) (mem s l)) × OutIndex (length x.payload) (seen r (values_is values l₂)) sc'
-      ref_inner_got r values l₂ sc' {v} {t₂} w i f =
-          (ref_inner (then_got (held k) w (f l₂)), idle_index (length x.payload) (mem t₂ l₂) sc' i (f l₂) (held_still k v (mem t₂ l₂)))
+      pub ref_inner_got : {w₂ : Walker} {r₁ : Answer SlotValue} {v : SlotValue} {t₂ : State} → r₁ ≡ Ok (v, t₂) → After w₁ r₁ w₂ → got v (mem t₂ (lent_of w₂)) ≡ ref_at (input_of w₁) (64 - d) (mem t l₁) → {w₃ : Walker} (r : Answer SlotValue) → Kept w₂ w₃ → seen r (lent_of w₃) ≡ held h v (mem t₂ (lent_of w₂))
+          → (seen r (lent_of w₃) ≡ ref_at x (65 - d) (mem s (lent_of w))) × After w r w₃
+      ref_inner_got {w₂} {r₁} {v} {t₂} z after f {w₃} r k₃ f₃ =
+          let i = got_index z after in
+          let i₃ : OutIndex (seen r (lent_of w₃)) (scratch_of w₂) = idle_index (mem t₂ (lent_of w₂)) (scratch_of w₂) i f₃ (held_still h v (mem t₂ (lent_of w₂))) in
+          (ref_inner (then_got (held h) (at_input c.kept.0 (λ x. ref_at x (64 - d) (mem t l₁)) f) f₃), after_of r (fixed_on c.kept.0 (fixed_on after.fixed k₃.0)) (rw (same_scratch w₂ w₃ k₃.1) i₃))
+
+-- an answer whose variant is known
+pub read_as : {A : Type 0} {r : Answer A} {a b : A} {t : State} → r ≡ Ok (a, t) → a ≡ b → r ≡ Ok (b, t)
+read_as {t = t} e f = e ∙ ap (λ a. Ok (a, t)) f

@@ -13,11 +13,11 @@ module _ {B : Type 0} (view : Mem → B) where
   abbrev pub Leaves : {A : Type 0} → Reader A → Type 0
   Leaves r = (m : Mem) → Same m (r m)
 
-  pub same_from : {A : Type 0} (m m' : Mem) → view m' ≡ view m → (o : Out A) → Same m' o → Same m o
+  same_from : {A : Type 0} (m m' : Mem) → view m' ≡ view m → (o : Out A) → Same m' o → Same m o
   same_from m m' u (got v w) h = h ∙ u
   same_from m m' u (no n q w) h = h ∙ u
 
-  pub same_then : {A B : Type 0} (m : Mem) (f : A → Reader B) (o : Out A) → Same m o → ((a : A) → Leaves (f a)) → Same m (and_then o f)
+  same_then : {A B : Type 0} (m : Mem) (f : A → Reader B) (o : Out A) → Same m o → ((a : A) → Leaves (f a)) → Same m (and_then o f)
   same_then m f (got a m') u h = same_from m m' u (f a m') (h a m')
   same_then m f (no n q m') u h = u
 

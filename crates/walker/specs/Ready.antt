@@ -1,43 +1,39 @@
--- What holds at the start of each of the readers that call each other, and the parts of an object that they read. Assumes nothing: these are
--- definitions.
-use Rattle.std.specs.Prelude.{List, ℕ, ◌+◌, ◌-◌, ◌*◌, length, take, drop}
+-- What holds at the start of each of the readers that call each other, and the parts of an object that they read. Assumes nothing: these
+-- are definitions.
+use Rattle.std.specs.Prelude.{ℕ, ◌+◌, ◌-◌, ◌*◌, length}
 use Rattle.sheet.specs.Tests.{is_deferred}
 use Rattle.heads.specs.Heads.{Heads}
 use Rattle.tables.specs.declared.values.SlotValue.{SlotValue}
 use Rattle.address_index.specs.Links.{Linked}
-use Rattle.definition.specs.Memory.{Input, word, Table, Mem, Out, got, no, Reader, ◌>>=◌, ◌>>◌, choose, give, byte}
+use Rattle.definition.specs.Memory.{Input, word, table, Reader, ◌>>=◌, ◌>>◌, choose, give, byte}
 use Rattle.definition.specs.Slots.{place_item}
 use Rattle.definition.specs.Object.{peek, read_map, keep_map, resolves, items, closed}
 use Rattle.laws.specs.Sound.{Proper, Sound, Counted}
 use Rattle.laws.specs.Numbered.{Numbered}
 use Rattle.laws.specs.Addresses.{Ascending}
-use Rattle.readers.specs.Views.{Lent}
+use Rattle.readers.specs.declared.state.State.{State}
+use Rattle.readers.specs.declared.walker.Walker.{Walker}
+use Rattle.readers.specs.Views.{Answer, mem}
+use Rattle.readers.specs.Lent.{input_of, lent_of, Fixed}
 use Rattle.objects.specs.Head.{opening}
-use Rattle.objects.specs.Index.{Indexed}
+use Rattle.objects.specs.Index.{Indexed, IndexedAfter, LinkedAfter}
 
-abbrev pub lent : List ℕ → List ℕ → List ℕ → List ℕ → List ℕ → List ℕ → List ℕ → Lent
-lent objects slots values addresses hot cur used =
-    record { objects = objects; slots = slots; values = values; addresses = addresses; hot = hot; cur = cur; used = used }
+-- the input is one that the walk takes, the heads are the sheet's, what the reader has is in order, and so is scratch
+pub record Ready (w : Walker) (s : State) : Type 0 where
+  pub proper : Proper (input_of w)
+  pub decoded : Heads w.sheet.now w.heads.now
+  pub sound : Sound (input_of w) (mem s (lent_of w))
+  pub counted : Counted (mem s (lent_of w))
+  pub numbered : Numbered (mem s (lent_of w))
+  pub ascending : Ascending (input_of w) (table w.addresses.now s.addresses) w.alloc
+  pub indexed : Indexed w.slots.now s.slots w.pending.now
+  pub linked : Linked w.addresses.now s.addresses w.index.now
 
--- scratch: up to `size` the slots that wait, by their numbers; from there on the index of address records
-pub record Index (size : ℕ) (slots addresses : Table) (scratch : List ℕ) : Type 0 where
-  pub pending : Indexed slots.rows slots.count (take size scratch)
-  pub linked : Linked addresses.rows addresses.count (drop size scratch)
-
--- with a value both are right
-abbrev pub OutIndex : {A : Type 0} → ℕ → Out A → List ℕ → Type 0
-OutIndex size (got v m) scratch = Index size m.slots m.addresses scratch
-OutIndex size (no n q m) scratch = Unit {0}
-
--- the input is one that the walk takes, the 256 heads are the sheet's, what the reader has is in order, and so is scratch
-pub record Ready (x : Input) (heads : List ℕ) (m : Mem) (scratch : List ℕ) : Type 0 where
-  pub proper : Proper x
-  pub decoded : Heads x.sheet heads
-  pub sound : Sound x m
-  pub counted : Counted m
-  pub numbered : Numbered m
-  pub ascending : Ascending x m.addresses m.alloc
-  pub index : Index (length x.payload) m.slots m.addresses scratch
+-- what a reader leaves: what is only read, and, where it went on, scratch in order
+pub record After {A : Type 0} (w : Walker) (r : Answer A) (w' : Walker) : Type 0 where
+  pub fixed : Fixed w w'
+  pub indexed : IndexedAfter r w'.slots.now w'.pending.now
+  pub linked : LinkedAfter r w'.addresses.now w'.index.now
 
 -- the map of object o with what follows it, and its resolves
 abbrev pub mapped : Input → Reader SlotValue → ℕ → ℕ → ℕ → Reader (Unit {0})

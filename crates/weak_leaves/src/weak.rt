@@ -1,108 +1,74 @@
-// Weak references to a leaf, read without a state.
-ghost use Rattle.std.specs.Prelude.{true, false, ◌≡◌, ℕ, ◌+◌, ◌^◌, ◌<◌, ◌≤◌};
-ghost use Rattle.tables.specs.Records.{field};
-ghost use Rattle.leaves.specs.Leaf.{HeadsFit};
-ghost use Rattle.weak_leaves.specs.Weak.{WeakAt, WeakPlaced, Stays};
+// Weak references to a leaf, read without the readers of every reference.
 
-use leaves::leaf::{Leaf, enter, leaf_at, none, value_of};
+ghost use Rattle.std.specs.Prelude.{◌≡◌, ◌+◌, ◌^◌, ◌<◌, ◌≤◌, IfSome, IsNone};
+ghost use Rattle.sheet.specs.Sheet.{word_bytes};
+ghost use Rattle.heads.specs.Heads.{Heads};
+ghost use Rattle.tables.specs.declared.values.SlotValue.{SlotValue};
+ghost use Rattle.tables.specs.Records.{field};
+ghost use Rattle.definition.specs.Memory.{Reader, got};
+ghost use Rattle.definition.specs.Reference.{reference};
+ghost use Rattle.readers.specs.Views.{mem};
+ghost use Rattle.readers.specs.Lent.{input_of, lent_of, Kept};
+ghost use Rattle.leaves.specs.Leaf.{placed_in, StaysInOrder};
+ghost use Rattle.weak_leaves.specs.Weak.{WeakAt};
+
+use heads::kinds::Kind;
+use leaves::leaf::{Leaf, enter, leaf_at};
+use readers::state::State;
+use readers::walker::Walker;
 use stream::bytes::byte;
 use tables::records::{add_slot, add_value, count_slot};
-use tables::values::Fields;
+use tables::values::{SlotValue, fields_of};
 
 // A leaf after a weak prefix at the cursor. A weak reference in an object at depth d is one level below it, and the leaf two.
-fn weak_leaf(
-    h: &[u16; 512],
-    p: &[u8],
-    hot: &[u64; 25],
-    at: usize,
-    count: usize,
-    word: u64,
-    d: usize,
-) -> Leaf
-    requires { (word ≤ 8) × HeadsFit h.now }
-    ensures { (result.kind ≡ 0 → ⊥) → WeakAt h.now p.now hot.now at count word d result }
+fn weak_leaf(w: &Walker, s: State, word: u64, d: usize) -> Option<Leaf>
+    requires { (word ≤ 8) × Heads w.now.sheet.now w.now.heads.now }
+    ensures { IfSome result (WeakAt w.now s word d) }
 {
-    if 63 <= d {
-        return none();
+    if 63 <= d || w.payload.len() <= s.at {
+        return None;
     }
-    if p.len() <= at {
-        return none();
+    let head = w.heads[byte(w.payload, s.at) as usize];
+    if head.kind != Kind::WeakPrefix {
+        return None;
     }
-    let b = byte(p, at) as usize;
-    if h[b] != 25 {
-        return none();
-    }
-    leaf_at(h, p, hot, at + 1, count, word)
+    leaf_at(w, s.at + 1, s.objects, word)
 }
 
-// A weak reference to a leaf as slot record n of object o, at this index: the leaf is value record k, and may enter the ring. False: a record has
-// no room, and nothing is changed.
-fn put_weak(
-    objects: &mut [u64],
-    slots: &mut [u64],
-    values: &mut [u64],
-    hot: &mut [u64; 25],
-    n: usize,
-    k: usize,
-    o: usize,
-    index: u64,
-    leaf: Leaf,
-) -> bool
-    requires { field 4 objects.old o 3 < 2 ^ 63 }
-    ensures stays { result ≡ false → Stays objects.old slots.old values.old hot.old objects.new slots.new values.new hot.new }
-    ensures placed { result ≡ true → WeakPlaced n k o index leaf objects.old slots.old values.old hot.old objects.new slots.new values.new hot.new }
-{
-    if slots.len() / 6 <= n {
-        return false;
-    }
-    if !add_value(values, k, value_of(leaf)) {
-        return false;
-    }
-    let weak = Fields {
-        kind: 12,
-        a: k as u64,
-        b: 0,
-    };
-    add_slot(slots, n, o as u64, index, weak, 0);
-    count_slot(objects, o as u64);
-    let held = Fields {
-        kind: leaf.kind,
-        a: leaf.a,
-        b: leaf.b,
-    };
-    enter(hot, leaf.enters, held);
-    true
-}
-
-// A weak reference to a leaf as an item of object o, put as `put_weak` says: that leaf. Kind 0 where `weak_leaf` finds none, and where a record
-// has no room; then nothing is changed.
+// A weak reference to a leaf at the cursor as an item of object o, `done` bytes of which have been read: the bytes read then. None where
+// none stands there and where a record has no room; then nothing is changed.
 pub fn place_weak(
-    h: &[u16; 512],
-    p: &[u8],
-    objects: &mut [u64],
-    slots: &mut [u64],
-    values: &mut [u64],
-    hot: &mut [u64; 25],
-    at: usize,
-    count: usize,
-    n: usize,
-    k: usize,
+    w: &mut Walker,
+    s: State,
     o: usize,
-    index: u64,
+    done: u64,
     word: u64,
     d: usize,
-) -> Leaf
-    requires word_bound { (word ≤ 8) × HeadsFit h.now }
-    requires o_bound { field 4 objects.old o 3 < 2 ^ 63 }
-    ensures stays { result.kind ≡ 0 → Stays objects.old slots.old values.old hot.old objects.new slots.new values.new hot.new }
-    ensures placed { (result.kind ≡ 0 → ⊥) → WeakAt h.now p.now hot.old at count word d result × WeakPlaced n k o index result objects.old slots.old values.old hot.old objects.new slots.new values.new hot.new }
+) -> Option<(u64, State)>
+    requires decoded { (word ≡ word_bytes w.old.sheet.now) × (0 < word) × (word ≤ 8) × Heads w.old.sheet.now w.old.heads.now }
+    requires bounds { (field 4 w.old.objects.now o 3 < 2 ^ 63) × (done < 2 ^ 60) × (s.skip < 2 ^ 60) }
+    ensures read { IfSome result (λ r. (d < 63) × ((inner : Reader SlotValue) → got r.0 (mem r.1 (lent_of w.new)) ≡ placed_in (input_of w.old) (reference (input_of w.old) (reference (input_of w.old) inner)) o done (mem s (lent_of w.old)))) }
+    ensures none { IsNone result → lent_of w.new ≡ lent_of w.old }
+    ensures kept { Kept w.old w.new }
+    ensures order { StaysInOrder w.old s result w.new }
 {
-    let leaf = weak_leaf(h, p, hot, at, count, word, d);
-    if leaf.kind == 0 {
-        return leaf;
+    let leaf = weak_leaf(w, s, word, d)?;
+    let n = s.slots;
+    let k = s.values;
+    if w.slots.len() / 6 <= n || !add_value(w.values, k, leaf.value) {
+        return None;
     }
-    if !put_weak(objects, slots, values, hot, n, k, o, index, leaf) {
-        return none();
-    }
-    leaf
+    let start = done + s.skip;
+    let weak = fields_of(SlotValue::WeakRef(k as u64));
+    add_slot(w.slots, n, o as u64, start / word, weak, 0);
+    count_slot(w.objects, o as u64);
+    enter(&mut w.hot, leaf);
+    let t = State {
+        at: leaf.next,
+        slots: n + 1,
+        values: k + 1,
+        skip: 0,
+        ..s
+    };
+    Some((start + word, t))
 }

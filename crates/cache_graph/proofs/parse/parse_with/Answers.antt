@@ -1,22 +1,62 @@
-use lib.ListN.{length}
-use Rattle.stream.proofs.ByteLaws.{Bytes}
-use native.Mathlib.Omega.{arith}
-use mathlib.Core.Path.{sym, ◌∙◌}
-use Rattle.cache_graph.specs.Promise.{call_of, rooms_of}
-use Rattle.cache_graph.proofs.CallLaws.{decoded_none, decoded_usable, decoded_heads, reads_unusable, reads_long, reads_refused, reads_accepted, assures, zeros, not_long, walked_call, same_rooms, again}
+use Rattle.std.proofs.Common.{◌≡◌, sym, ◌∙◌}
+use Rattle.std.proofs.lemmas.Result.{err_from_is_err_and}
+use Rattle.definition.specs.Memory.{off}
+use Rattle.definition.specs.Call.{called, walk, input_of, start}
+use Rattle.cache_graph.specs.Promise.{entered, rooms_in}
+use Rattle.cache_graph.proofs.CallLaws.{decoded_none, decoded_usable, decoded_heads, not_some, not_long, called_walks, reads_unusable, reads_long, reads_accepted, reads_refused, numbered, assures, cleared_own, cleared_again}
 use Rattle.cache_graph.proofs.parse.parse_with.Goals as goal
+use Rattle.cache_graph.proofs.parse.parse_with.Goals.{Else-too_long}
 
-pub returns-in_default : goal.returns-in_default
-returns-in_default c = let a = c.args in let call = call_of a.sheet.now a.payload.now a.reservations.now a.trusted.now in let rooms = rooms_of a.objects.now a.slots.now a.values.now a.addresses.now in let bytes : Bytes a.payload.now = λ i. omega (arith, c.type_inv.payload i) in let r = reads_unusable call rooms (decoded_none c.decode.ensures c.in_default.not-Some) c.refused.ensures c.clear_tables.ensures in record { reads = r; assured = assures call rooms r bytes }
+-- past the checks the call is the walk, over cleared tables
+walks : (c : Else-too_long) → let call = entered c.args.call in called call (start (rooms_in c.args.tables.now) off) ≡ walk (input_of call) (start (rooms_in c.clear.new.self) off)
+walks c =
+    let call = entered c.args.call in
+    let u = decoded_usable c.decode.ensures c.in_ok-heads.ensures.ok_part in
+    called_walks call (rooms_in c.args.tables.now) u (sym (c.too_long.ensures.is call.sheet call.trusted) ∙ c.if-too_long.false) c.clear.ensures.zero
 
-pub returns-then-too_long : goal.returns-then-too_long
-returns-then-too_long c = let a = c.args in let call = call_of a.sheet.now a.payload.now a.reservations.now a.trusted.now in let rooms = rooms_of a.objects.now a.slots.now a.values.now a.addresses.now in let bytes : Bytes a.payload.now = λ i. omega (arith, c.type_inv.payload i) in let u = decoded_usable c.decode.ensures c.in-Some.is in let s = sym (c.too_long.ensures a.sheet.now a.trusted.now) ∙ c.if-too_long.true in let r = reads_long call rooms u s c.refused-then-too_long.ensures c.clear_tables.ensures in record { reads = r; assured = assures call rooms r bytes }
+pub returns-in_err-heads-clause-reads : goal.returns-in_err-heads-clause-reads
+returns-in_err-heads-clause-reads c =
+    let p = err_from_is_err_and c.from_residual.result c.from_residual.ensures.1 in
+    let h = c.in_err-heads.ensures in
+    rw (p.1, p.2, not_some h.value h.ok_part, c.at_start.ensures)
+    (reads_unusable (entered c.args.call) (rooms_in c.args.tables.now) c.clear.ensures.zero (decoded_none c.decode.ensures h.ok_part))
 
-pub walk_payload-outcome-requires : goal.walk_payload-outcome-requires
-walk_payload-outcome-requires c = let a = c.args in let call = call_of a.sheet.now a.payload.now a.reservations.now a.trusted.now in let rooms = rooms_of a.objects.now a.slots.now a.values.now a.addresses.now in let bytes : Bytes a.payload.now = λ i. omega (arith, c.type_inv.payload i) in let u = decoded_usable c.decode.ensures c.in-Some.is in let s = sym (c.too_long.ensures a.sheet.now a.trusted.now) ∙ c.if-too_long.false in record { proper = record { sheet_usable = u; short = not_long call s; bytes = bytes }; decoded = decoded_heads c.decode.ensures c.in-Some.is; objects_zero = zeros (length a.objects.now) _ c.clear_tables.ensures.0; slots_zero = zeros (length a.slots.now) _ c.clear_tables.ensures.1; values_zero = zeros (length a.values.now) _ c.clear_tables.ensures.2; addresses_zero = zeros (length a.addresses.now) _ c.clear_tables.ensures.3 }
+pub returns-then-too_long-clause-reads : goal.returns-then-too_long-clause-reads
+returns-then-too_long-clause-reads c =
+    let call = entered c.args.call in
+    let u = decoded_usable c.decode.ensures c.in_ok-heads.ensures.ok_part in
+    rw c.at_start-then-too_long.ensures (reads_long call (rooms_in c.args.tables.now) c.clear.ensures.zero u (sym (c.too_long.ensures.is call.sheet call.trusted) ∙ c.if-too_long.true))
 
-pub returns-then-outcome-ne0 : goal.returns-then-outcome-ne0
-returns-then-outcome-ne0 c = let a = c.args in let call = call_of a.sheet.now a.payload.now a.reservations.now a.trusted.now in let rooms = rooms_of a.objects.now a.slots.now a.values.now a.addresses.now in let bytes : Bytes a.payload.now = λ i. omega (arith, c.type_inv.payload i) in let u = decoded_usable c.decode.ensures c.in-Some.is in let s = sym (c.too_long.ensures a.sheet.now a.trusted.now) ∙ c.if-too_long.false in let w = walked_call call c.spaces-k.ensures (same_rooms c.clear_tables.auto.objects c.clear_tables.auto.slots c.clear_tables.auto.values c.clear_tables.auto.addresses) c.walk_payload-outcome.ensures in let r = reads_refused call rooms u s w c.if-outcome-ne0.true (again (c.walk_payload-outcome.auto.objects ∙ c.clear_tables.auto.objects) c.clear_tables-then-outcome-ne0.ensures.0, again (c.walk_payload-outcome.auto.slots ∙ c.clear_tables.auto.slots) c.clear_tables-then-outcome-ne0.ensures.1, again (c.walk_payload-outcome.auto.values ∙ c.clear_tables.auto.values) c.clear_tables-then-outcome-ne0.ensures.2, again (c.walk_payload-outcome.auto.addresses ∙ c.clear_tables.auto.addresses) c.clear_tables-then-outcome-ne0.ensures.3) in record { reads = r; assured = assures call rooms r bytes }
+pub walk_payload-graph-requires : goal.walk_payload-graph-requires
+walk_payload-graph-requires c =
+    let e = c.in_ok-heads.ensures.ok_part in
+    let call = entered c.args.call in
+    record {
+      proper = record { sheet_usable = decoded_usable c.decode.ensures e; short = not_long call (sym (c.too_long.ensures.is call.sheet call.trusted) ∙ c.if-too_long.false); bytes = c.too_long.ensures.bytes };
+      decoded = decoded_heads c.decode.ensures e;
+      cleared = cleared_own c.clear.ensures.zero;
+    }
 
-pub returns-else-outcome-ne0 : goal.returns-else-outcome-ne0
-returns-else-outcome-ne0 c = let a = c.args in let call = call_of a.sheet.now a.payload.now a.reservations.now a.trusted.now in let rooms = rooms_of a.objects.now a.slots.now a.values.now a.addresses.now in let bytes : Bytes a.payload.now = λ i. omega (arith, c.type_inv.payload i) in let u = decoded_usable c.decode.ensures c.in-Some.is in let s = sym (c.too_long.ensures a.sheet.now a.trusted.now) ∙ c.if-too_long.false in let w = walked_call call c.spaces-k.ensures (same_rooms c.clear_tables.auto.objects c.clear_tables.auto.slots c.clear_tables.auto.values c.clear_tables.auto.addresses) c.walk_payload-outcome.ensures in let r = reads_accepted call rooms u s w c.if-outcome-ne0.false in record { reads = r; assured = assures call rooms r bytes }
+pub returns-then-is_err-clause-reads : goal.returns-then-is_err-clause-reads
+returns-then-is_err-clause-reads c =
+    let e = walks (goal.at.returns-then-is_err-clause-reads c).Else-too_long in
+    let t = c.walk_payload-graph.new.tables in
+    let k = c.walk_payload-graph.auto.tables in
+    let q = cleared_again c.clear.ensures.zero t.0 t.1.0 t.1.1.0 t.1.1.1.0 k.0 k.1.0 k.1.1.0 k.1.1.1.0 c.clear-then-is_err.ensures.zero in
+    reads_refused (entered c.args.call) (rooms_in c.args.tables.now) e _ _ _ _ _ (sym c.is_err.ensures.value ∙ c.if-is_err.true) c.walk_payload-graph.ensures q
+
+pub returns-then-is_err-clause-assured : goal.returns-then-is_err-clause-assured
+returns-then-is_err-clause-assured c = assures (entered c.args.call) (rooms_in c.args.tables.now) (returns-then-is_err-clause-reads c) c.too_long.ensures.bytes
+
+pub returns-then-is_err-clause-refused : goal.returns-then-is_err-clause-refused
+returns-then-is_err-clause-refused c =
+    let e = walks (goal.at.returns-then-is_err-clause-refused c).Else-too_long in
+    numbered (entered c.args.call) (rooms_in c.args.tables.now) e _ _ _ _ _ c.walk_payload-graph.ensures
+
+pub returns-else-is_err-clause-reads : goal.returns-else-is_err-clause-reads
+returns-else-is_err-clause-reads c =
+    let e = walks (goal.at.returns-else-is_err-clause-reads c).Else-too_long in
+    reads_accepted (entered c.args.call) (rooms_in c.args.tables.now) e _ _ _ _ _ (sym c.is_err.ensures.value ∙ c.if-is_err.false) c.walk_payload-graph.ensures
+
+pub returns-else-is_err-clause-assured : goal.returns-else-is_err-clause-assured
+returns-else-is_err-clause-assured c = assures (entered c.args.call) (rooms_in c.args.tables.now) (returns-else-is_err-clause-reads c) c.too_long.ensures.bytes

@@ -1,10 +1,24 @@
-use Rattle.readers.specs.Views.{input}
-use Rattle.walker.specs.Ready.{lent}
-use Rattle.cache_graph.proofs.CallLaws.{started, started_ready, walked}
+use Rattle.std.proofs.Common.{refl, sym, rules}
+use Rattle.std.proofs.lemmas.Result.{err_from_is_err_and}
+use Rattle.cache_graph.specs.Promise.{entered, rooms_in}
+use Rattle.cache_graph.proofs.CallLaws.{same_input, started, started_ready, walk_refused, walk_ended}
 use Rattle.cache_graph.proofs.parse.walk_payload.Goals as goal
 
-pub walk-went-requires : goal.walk-went-requires
-walk-went-requires c = started_ready _ _ _ _ _ _ c.requires _ c.clear_heads.ensures
+pub walk-requires : goal.walk-requires
+walk-requires c =
+    let ex = same_input (entered c.args.call) c.spaces.ensures in
+    record { ready = started_ready c.requires ex refl (started c.requires c.new.ensures c.new-2.ensures) c.clear_heads.ensures }
+
+pub returns-in_err-s : goal.returns-in_err-s
+returns-in_err-s c =
+    let call = entered c.args.call in
+    let p = err_from_is_err_and c.from_residual.result c.from_residual.ensures.1 in
+    rw (p.1, p.2) (walk_refused call (rooms_in c.args.tables) (same_input call c.spaces.ensures) (started c.requires c.new.ensures c.new-2.ensures) _ _ c.in_err-s.ensures.is)
 
 pub returns : goal.returns
-returns c = let a = c.args in let l = (lent c.walk-went.new.ot c.walk-went.new.st c.walk-went.new.vt c.walk-went.new.dt c.walk-went.new.hr c.walk-went.new.c c.walk-went.new.u) in walked (input a.sheet.now a.payload.now a.k a.trusted.now) c.walk-went.result l c.outcome_of.result (started _ _ _ _ _ _ c.requires) c.walk-went.ensures (c.outcome_of.ensures l)
+returns c =
+    let call = entered c.args.call in
+    let f = c.walk.ensures.fixed in
+    let h = walk_ended call (rooms_in c.args.tables) (same_input call c.spaces.ensures) (started c.requires c.new.ensures c.new-2.ensures) c.in_ok-s.s _ c.in_ok-s.ensures.is
+    (let n = sym f.objects in search rules) (let n = sym f.slots in search rules) (let n = sym f.values in search rules) (let n = sym f.addresses in search rules) in
+    rw c.from.ensures h

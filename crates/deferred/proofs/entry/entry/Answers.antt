@@ -1,23 +1,32 @@
-use native.Mathlib.Omega.{arith}
-use Prim.Native.Nat.{◌^◌}
-use Rattle.readers.specs.Views.{input, mem}
-use Rattle.readers.proofs.ViewLaws.{count_is, count_no, count_below}
-use Rattle.walker.specs.Ready.{lent}
-use Rattle.walker.proofs.ReferenceLaws.{found_by}
+use Rattle.std.proofs.lemmas.Result.{err_from_is_err_and}
+use Rattle.readers.specs.Views.{mem}
+use Rattle.readers.specs.Lent.{input_of, lent_of}
+use Rattle.walker.proofs.ScratchLaws.{after_on}
 use Rattle.deferred.proofs.EntryLaws.{entry_no, entry-cut, entry_done, object_ready, int_ready}
 use Rattle.deferred.proofs.entry.entry.Goals as goal
 
-pub entry_object-requires : goal.entry_object-requires
-entry_object-requires c = let g = c.requires.ready in record { addresses_bound = (omega (arith, g.sound), g.proper.sheet_usable); linked = found_by g }
-
 pub entry_items-requires : goal.entry_items-requires
-entry_items-requires c = let a = c.args in let x = (input a.v.now a.p.now a.k a.tr.now) in let l = (lent a.ot.now a.st.now a.vt.now a.dt.now a.hr.now a.c.now a.u.now) in let e1 = count_is _ c.in-Is.is (c.entry_object.ensures a.tr.now a.k l) in let e2 = count_is _ c.in-Is-read_int.is (c.read_int.ensures.by_index a.v.now a.tr.now a.k _) in record { ready = int_ready (object_ready c.requires.ready a.space e1) e2; v_value = (c.requires.v_value, count_below (2 ^ 30) c.in-Is-read_int.is c.read_int.ensures.small) }
+entry_items-requires c =
+    let f = c.entry_object.ensures.kept.0 in
+    record { ready = int_ready (object_ready c.requires.ready c.args.space c.entry_object.ensures.kept c.in_ok-o.ensures.is) (c.in_ok-size.ensures.by_index _ _ _ _); legacy = (rw f.sheet c.requires.legacy, c.in_ok-size.ensures.small) }
 
-pub returns-in-Refused : goal.returns-in-Refused
-returns-in-Refused c = let a = c.args in record { u_after = entry_no (input a.v.now a.p.now a.k a.tr.now) a.space (mem a.s (lent a.ot.now a.st.now a.vt.now a.dt.now a.hr.now a.c.now a.u.now)) (count_no _ c.in-Refused.is (c.entry_object.ensures a.tr.now a.k (lent a.ot.now a.st.now a.vt.now a.dt.now a.hr.now a.c.now a.u.now))); index = tt }
+pub returns-in_err-o-clause-is : goal.returns-in_err-o-clause-is
+returns-in_err-o-clause-is c =
+    let p = err_from_is_err_and c.from_residual.result c.from_residual.ensures.1 in
+    rw (p.1, p.2) (entry_no (input_of c.args.w.now) c.args.space (mem c.args.s (lent_of c.args.w.now)) c.in_err-o.ensures.is)
 
-pub returns-in-Refused-read_int : goal.returns-in-Refused-read_int
-returns-in-Refused-read_int c = let a = c.args in record { u_after = entry-cut (input a.v.now a.p.now a.k a.tr.now) a.space (mem a.s (lent a.ot.now a.st.now a.vt.now a.dt.now a.hr.now a.c.now a.u.now)) (count_is _ c.in-Is.is (c.entry_object.ensures a.tr.now a.k (lent a.ot.now a.st.now a.vt.now a.dt.now a.hr.now a.c.now a.u.now))) (count_no _ c.in-Refused-read_int.is (c.read_int.ensures.by_index a.v.now a.tr.now a.k _)); index = tt }
+pub returns-in_err-size-clause-is : goal.returns-in_err-size-clause-is
+returns-in_err-size-clause-is c =
+    let p = err_from_is_err_and c.from_residual-in_err-size.result c.from_residual-in_err-size.ensures.1 in
+    let w = c.args.w.now in
+    let f = c.entry_object.ensures.kept.0 in
+    rw (p.1, p.2) (entry-cut (input_of w) c.args.space (mem c.args.s (lent_of w)) c.in_ok-o.ensures.is (rw f.payload at (c.in_err-size.ensures.by_index w.sheet.now w.trusted.now w.spaces (lent_of c.entry_object.new.w))))
 
-pub returns-in-Is-read_int : goal.returns-in-Is-read_int
-returns-in-Is-read_int c = let a = c.args in record { u_after = entry_done (input a.v.now a.p.now a.k a.tr.now) a.space (mem a.s (lent a.ot.now a.st.now a.vt.now a.dt.now a.hr.now a.c.now a.u.now)) (count_is _ c.in-Is.is (c.entry_object.ensures a.tr.now a.k (lent a.ot.now a.st.now a.vt.now a.dt.now a.hr.now a.c.now a.u.now))) (count_is _ c.in-Is-read_int.is (c.read_int.ensures.by_index a.v.now a.tr.now a.k _)) c.entry_items.ensures.u_after; index = c.entry_items.ensures.index }
+pub returns : goal.returns
+returns c =
+    let w = c.args.w.now in
+    let f = c.entry_object.ensures.kept.0 in
+    record {
+      is = entry_done (input_of w) c.args.space (mem c.args.s (lent_of w)) c.in_ok-o.ensures.is (rw f.payload at (c.in_ok-size.ensures.by_index w.sheet.now w.trusted.now w.spaces (lent_of c.entry_object.new.w))) (rw (f.sheet, f.payload, f.spaces, f.trusted) at c.entry_items.ensures.is);
+      after = after_on f c.entry_items.ensures.after;
+    }

@@ -1,11 +1,11 @@
-use Rattle.readers.specs.Views.{input, mem}
-use Rattle.readers.proofs.ViewLaws.{went_on, went_no}
-use Rattle.walker.specs.Ready.{lent}
+use Rattle.std.proofs.lemmas.Result.{err_from_is_err_and}
+use Rattle.readers.specs.Views.{mem}
+use Rattle.readers.specs.Lent.{input_of, lent_of}
 use Rattle.graph.proofs.ClosingLaws.{closing_no, closing_on}
 use Rattle.graph.proofs.closing.closing.Goals as goal
 
-pub returns-in-Refused : goal.returns-in-Refused
-returns-in-Refused c = let a = c.args in closing_no (input a.v.now a.p.now a.k a.tr.now) (mem a.s (lent a.ot.now a.st.now a.vt.now a.dt.now a.hr.now a.c.now a.u.now)) (went_no _ c.in-Refused.is c.entries.ensures)
+pub returns-in_err-t-clause-is : goal.returns-in_err-t-clause-is
+returns-in_err-t-clause-is c = let p = err_from_is_err_and c.from_residual.result c.from_residual.ensures.1 in rw (p.1, p.2) (closing_no (input_of c.args.w.now) (mem c.args.s (lent_of c.args.w.now)) c.in_err-t.ensures.is)
 
-pub returns-in-On : goal.returns-in-On
-returns-in-On c = let a = c.args in closing_on (input a.v.now a.p.now a.k a.tr.now) (mem a.s (lent a.ot.now a.st.now a.vt.now a.dt.now a.hr.now a.c.now a.u.now)) (went_on _ c.in-On.is c.entries.ensures) (c.padding.ensures a.tr.now a.k _)
+pub returns-clause-is : goal.returns-clause-is
+returns-clause-is c = let f = c.entries.ensures.fixed in closing_on (input_of c.args.w.now) (mem c.args.s (lent_of c.args.w.now)) c.in_ok-t.ensures.is (rw (f.sheet, f.payload) at (c.padding.ensures c.args.w.now.trusted.now c.args.w.now.spaces (lent_of c.entries.new.w)))

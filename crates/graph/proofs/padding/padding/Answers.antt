@@ -1,5 +1,4 @@
-use native.Mathlib.Omega.{arith}
-use mathlib.Core.Path.{◌≡◌, refl, sym, ◌∙◌}
+use mathlib.Core.Path.{◌≡◌, sym, ◌∙◌}
 use mathlib.Core.Bool.{Bool}
 use mathlib.Core.List.{List}
 use Prim.Native.Nat.{ℕ}
@@ -15,26 +14,11 @@ use Rattle.graph.proofs.padding.padding.Goals as goal
 nop_test : (sheet p : List ℕ) (at : ℕ) {b : ℕ} {t y : Bool} → t ≡ eqb (number sheet k_nop) b → b ≡ peek_at p at → t ≡ y → is_nop sheet (peek_at p at) ≡ y
 nop_test sheet p at et eb e = rw (← eb) (sym et ∙ e)
 
-pub loop-t-init : goal.loop-t-init
-loop-t-init c = λ tr sp l. refl
-
-pub peek-requires : goal.peek-requires
-peek-requires c = tt
-
-pub is_tag-requires : goal.is_tag-requires
-is_tag-requires c = tt
-
-pub legacy-requires : goal.legacy-requires
-legacy-requires c = tt
-
 pub returns-then-legacy : goal.returns-then-legacy
 returns-then-legacy c = λ tr sp l. padding-ends _ _ c.loop-t-test.true (nop_test c.args.sheet.now c.args.p.now c.loop-t.t.at c.is_tag.ensures c.peek.ensures c.if-not-is_tag.true) (sym c.legacy.ensures ∙ c.if-legacy.true) ∙ c.loop-t.invariant tr sp l
 
 pub returns-then-not-is_tag : goal.returns-then-not-is_tag
-returns-then-not-is_tag c = λ tr sp l. padding-other _ _ c.loop-t-test.true (nop_test c.args.sheet.now c.args.p.now c.loop-t.t.at c.is_tag.ensures c.peek.ensures c.if-not-is_tag.true) (sym c.legacy.ensures ∙ c.if-legacy.false) ∙ c.loop-t.invariant tr sp l
-
-pub loop-t-smaller : goal.loop-t-smaller
-loop-t-smaller c = omega (arith, c.loop-t-test.true)
+returns-then-not-is_tag c = λ tr sp l. rw c.refused.ensures (padding-other _ _ c.loop-t-test.true (nop_test c.args.sheet.now c.args.p.now c.loop-t.t.at c.is_tag.ensures c.peek.ensures c.if-not-is_tag.true) (sym c.legacy.ensures ∙ c.if-legacy.false) ∙ c.loop-t.invariant tr sp l)
 
 pub loop-t-preserved : goal.loop-t-preserved
 loop-t-preserved c = λ tr sp l. padding_nop _ _ c.loop-t-test.true (nop_test c.args.sheet.now c.args.p.now c.loop-t.t.at c.is_tag.ensures c.peek.ensures c.if-not-is_tag.false) ∙ c.loop-t.invariant tr sp l

@@ -1,14 +1,14 @@
-use Rattle.readers.specs.Views.{input, mem}
-use Rattle.readers.proofs.ViewLaws.{seen_got, seen_no}
-use Rattle.walker.specs.Ready.{lent}
-use Rattle.graph.proofs.WalkLaws.{walk_no, walk_on, step_ready}
+use Rattle.std.proofs.lemmas.Result.{err_from_is_err_and}
+use Rattle.readers.specs.Views.{mem}
+use Rattle.readers.specs.Lent.{input_of, lent_of}
+use Rattle.objects.proofs.AnswerLaws.{fixed_on}
+use Rattle.graph.proofs.WalkLaws.{walk_no, walk_on}
 use Rattle.graph.proofs.walk.walk.Goals as goal
 
-pub closing-requires : goal.closing-requires
-closing-requires c = step_ready _ c.in-Got.is c.top_object.ensures.ready
+pub returns-in_err-t-clause-is : goal.returns-in_err-t-clause-is
+returns-in_err-t-clause-is c = let p = err_from_is_err_and c.from_residual.result c.from_residual.ensures.1 in rw (p.1, p.2) (walk_no (input_of c.args.w.now) (mem c.args.s (lent_of c.args.w.now)) c.in_err-t.ensures.is)
 
-pub returns-in-Refused : goal.returns-in-Refused
-returns-in-Refused c = let a = c.args in walk_no (input a.v.now a.p.now a.k a.tr.now) (mem a.s (lent a.ot.now a.st.now a.vt.now a.dt.now a.hr.now a.c.now a.u.now)) (seen_no _ c.in-Refused.is c.top_object.ensures.u_after)
-
-pub returns-in-Got : goal.returns-in-Got
-returns-in-Got c = let a = c.args in walk_on (input a.v.now a.p.now a.k a.tr.now) (mem a.s (lent a.ot.now a.st.now a.vt.now a.dt.now a.hr.now a.c.now a.u.now)) (seen_got _ c.in-Got.is c.top_object.ensures.u_after) c.closing.ensures
+pub returns : goal.returns
+returns c =
+    let f = c.top_object.ensures.fixed in
+    record { is = walk_on (input_of c.args.w.now) (mem c.args.s (lent_of c.args.w.now)) c.in_ok-t.ensures.is (rw (f.sheet, f.payload, f.spaces, f.trusted) at c.closing.ensures.is); fixed = fixed_on f c.closing.ensures.fixed }

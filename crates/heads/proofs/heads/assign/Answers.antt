@@ -1,4 +1,4 @@
-use Rattle.std.proofs.Common.{refl, arith}
+use Rattle.std.proofs.Common.{refl, arith, rules}
 use Rattle.heads.specs.Assigning.{argument_number}
 use Rattle.heads.proofs.Assigning.{assigned_none, assigned_more, assigned_as}
 use Rattle.heads.proofs.Rules.{argument_small}
@@ -11,9 +11,7 @@ pub overflow_cast-heads : goal.overflow_cast-heads
 overflow_cast-heads c = omega (arith, c.argument_of.ensures, argument_small c.args.mask (argument_number c.args.argument) c.args.first c.loop-b.b (omega arith) (omega arith))
 
 pub loop-b-preserved : goal.loop-b-preserved
-loop-b-preserved c =
-    rw c.number.ensures
-    (assigned_more _ _ _ _ _ _ _ _ c.requires.1 (omega arith) (omega arith) c.argument_of.ensures c.loop-b.invariant)
+loop-b-preserved c = assigned_more _ _ _ _ _ _ _ _ (search rules) (omega arith) (omega arith) c.argument_of.ensures c.loop-b.invariant
 
 pub returns : goal.returns
-returns c = assigned_as refl (omega arith) refl refl refl c.loop-b.invariant
+returns c = assigned_as refl (omega arith) refl refl c.loop-b.invariant

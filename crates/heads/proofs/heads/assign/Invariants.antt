@@ -1,7 +1,6 @@
 use Rattle.std.proofs.Common.{◌-◌}
-use Rattle.heads.specs.Kinds.{kind_number}
 use Rattle.heads.specs.Assigning.{argument_number, Assigned}
 use Rattle.heads.proofs.heads.assign.Given as goal
 
 abbrev pub invariant-loop-b : goal.invariant-loop-b
-invariant-loop-b l = Assigned l.initial.heads l.first (l.b - l.first) (kind_number l.kind) (argument_number l.argument) l.mask l.heads
+invariant-loop-b l = Assigned l.initial.heads l.first (l.b - l.first) l.kind (argument_number l.argument) l.mask l.heads

@@ -1,8 +1,8 @@
-use Rattle.leaves.proofs.LeafLaws.{found_in}
+use Rattle.leaves.proofs.LeafLaws.{found_in, place_low}
 use Rattle.leaves.proofs.leaf.any_leaf.Goals as goal
 
-pub returns-then-leaf-ne0-clause-found : goal.returns-then-leaf-ne0-clause-found
-returns-then-leaf-ne0-clause-found c = found_in _ _ _ _ _ _ _ _ _ _ _ _ c.leaf_at-leaf.ensures.found
+pub leaf_of-requires : goal.leaf_of-requires
+leaf_of-requires c = (c.requires.decoded.0, place_low c.requires.decoded.1 c.byte.result c.byte.ensures.1)
 
-pub returns-clause-found : goal.returns-clause-found
-returns-clause-found c = c.legacy_leaf.ensures.found c.args.hot.now c.args.objects
+pub returns-in_default-clause-found : goal.returns-in_default-clause-found
+returns-in_default-clause-found c = rw (← c.byte.ensures.0) (found_in c.args.w.now c.args.s _ _ _ _ c.leaf_of.result c.leaf_of.ensures)

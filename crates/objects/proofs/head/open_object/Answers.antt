@@ -1,28 +1,36 @@
-use Prim.Native.Nat.{◌^◌}
-use Rattle.readers.proofs.ViewLaws.{count_is, count_no, count_below}
+use mathlib.Core.Path.{◌∙◌}
+use Rattle.readers.specs.Views.{mem}
+use Rattle.readers.specs.Lent.{input_of, lent_of}
+use Rattle.objects.proofs.AnswerLaws.{passed_on}
 use Rattle.objects.proofs.HeadLaws.{open_cut, open_plain, open_small, open_large_cut, open_large}
 use Rattle.objects.proofs.head.open_object.Goals as goal
+use Rattle.objects.proofs.head.open_object.Goals.{then-not-six_x-via-then-not-six_x, then-not-six_x-via-else-not-six_x+then-space-lo_space}
 
-pub add_record-requires : goal.add_record-requires
-add_record-requires c = (c.requires, count_below (2 ^ 30) c.in-Is.is c.read_int.ensures.small)
+pub returns-in_err-words-clause-is : goal.returns-in_err-words-clause-is
+returns-in_err-words-clause-is c =
+    let a = c.args in
+    passed_on _ _ _ c.from_residual.ensures.1
+    ∙ open_cut (input_of a.w.now) a.space a.tag (mem a.s (lent_of a.w.now)) (c.in_err-words.ensures.by_index _ _ _ _)
 
-pub returns-then-not-six_x : goal.returns-then-not-six_x
-returns-then-not-six_x c = record { by_index = λ tr sp l. open_plain _ _ _ _ (count_is _ c.in-Is.is (c.read_int.ensures.by_index _ tr sp _)) c.six_x.ensures c.if-not-six_x.true (c.add_record.ensures.by_index _ tr sp l); small = c.add_record.ensures.small }
+pub returns-then-not-six_x-clause-is : goal.returns-then-not-six_x-clause-is
+returns-then-not-six_x-clause-is c =
+    let a = c.args in
+    let r = c.in_ok-words.ensures.by_index a.w.now.sheet.now a.w.now.trusted.now a.w.now.spaces (lent_of a.w.now) in
+    elim c.then-not-six_x.branch [
+      | then-not-six_x-via-then-not-six_x w ↦ open_plain (input_of a.w.now) a.space a.tag (mem a.s (lent_of a.w.now)) r c.six_x.ensures w.if-not-six_x.true c.add_record.ensures.is
+      | then-not-six_x-via-else-not-six_x+then-space-lo_space w ↦ open_small (input_of a.w.now) a.space a.tag (mem a.s (lent_of a.w.now)) r c.six_x.ensures w.if-not-six_x.false w.lo_space.ensures.0 w.if-space-lo_space.true c.add_record.ensures.is
+    ]
 
-pub add_record-requires-then-space-lo_space : goal.add_record-requires-then-space-lo_space
-add_record-requires-then-space-lo_space c = (c.requires, count_below (2 ^ 30) c.in-Is.is c.read_int.ensures.small)
+pub returns-in_err-u-clause-is : goal.returns-in_err-u-clause-is
+returns-in_err-u-clause-is c =
+    let a = c.args in
+    let r = c.in_ok-words.ensures.by_index a.w.now.sheet.now a.w.now.trusted.now a.w.now.spaces (lent_of a.w.now) in
+    passed_on _ _ _ c.from_residual-in_err-u.ensures.1
+    ∙ open_large_cut (input_of a.w.now) a.space a.tag (mem a.s (lent_of a.w.now)) r c.six_x.ensures c.if-not-six_x.false c.lo_space.ensures.0 c.if-space-lo_space.false (c.in_err-u.ensures.by_index _ _ _ _)
 
-pub returns-then-space-lo_space : goal.returns-then-space-lo_space
-returns-then-space-lo_space c = record { by_index = λ tr sp l. open_small _ _ _ _ (count_is _ c.in-Is.is (c.read_int.ensures.by_index _ tr sp _)) c.six_x.ensures c.if-not-six_x.false c.lo_space.ensures.0 c.if-space-lo_space.true (c.add_record-then-space-lo_space.ensures.by_index _ tr sp l); small = c.add_record-then-space-lo_space.ensures.small }
-
-pub add_record-requires-in-Is-read_byte : goal.add_record-requires-in-Is-read_byte
-add_record-requires-in-Is-read_byte c = (c.requires, count_below (2 ^ 30) c.in-Is.is c.read_int.ensures.small)
-
-pub returns-in-Refused : goal.returns-in-Refused
-returns-in-Refused c = record { by_index = λ tr sp l. open_cut _ _ _ _ (count_no _ c.in-Refused.is (c.read_int.ensures.by_index _ tr sp _)); small = tt }
-
-pub returns-in-Refused-read_byte : goal.returns-in-Refused-read_byte
-returns-in-Refused-read_byte c = record { by_index = λ tr sp l. open_large_cut _ _ _ _ (count_is _ c.in-Is.is (c.read_int.ensures.by_index _ tr sp _)) c.six_x.ensures c.if-not-six_x.false c.lo_space.ensures.0 c.if-space-lo_space.false (count_no _ c.in-Refused-read_byte.is (c.read_byte.ensures.by_index _ tr sp _)); small = tt }
-
-pub returns-in-Is-read_byte : goal.returns-in-Is-read_byte
-returns-in-Is-read_byte c = record { by_index = λ tr sp l. open_large _ _ _ _ (count_is _ c.in-Is.is (c.read_int.ensures.by_index _ tr sp _)) c.six_x.ensures c.if-not-six_x.false c.lo_space.ensures.0 c.if-space-lo_space.false (count_is _ c.in-Is-read_byte.is (c.read_byte.ensures.by_index _ tr sp _)) (c.add_record-in-Is-read_byte.ensures.by_index _ tr sp l); small = c.add_record-in-Is-read_byte.ensures.small }
+pub returns-clause-is : goal.returns-clause-is
+returns-clause-is c =
+    let a = c.args in
+    let r = c.in_ok-words.ensures.by_index a.w.now.sheet.now a.w.now.trusted.now a.w.now.spaces (lent_of a.w.now) in
+    let q = c.in_ok-u.ensures.by_index a.w.now.sheet.now a.w.now.trusted.now a.w.now.spaces (lent_of a.w.now) in
+    open_large (input_of a.w.now) a.space a.tag (mem a.s (lent_of a.w.now)) r c.six_x.ensures c.if-not-six_x.false c.lo_space.ensures.0 c.if-space-lo_space.false q c.add_record-2.ensures.is

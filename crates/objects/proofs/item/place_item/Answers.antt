@@ -1,63 +1,42 @@
-use native.Mathlib.Omega.{arith}
-use mathlib.Core.Path.{refl}
-use lib.ListN.{take}
-use Rattle.readers.specs.Views.{mem, objects_is, slots_is, values_is}
-use Rattle.readers.proofs.ViewLaws.{count_no}
-use Rattle.objects.proofs.ItemLaws.{place_skip, place_stream, place_no, skip-fits, AsKept, kept_itself, kept_previous}
+use mathlib.Core.Path.{◌∙◌}
+use Rattle.readers.specs.Views.{mem}
+use Rattle.readers.specs.Lent.{input_of, lent_of}
+use Rattle.objects.proofs.AnswerLaws.{passed_on, same_input}
+use Rattle.objects.proofs.ItemLaws.{place_skip, place_stream, place_no, place_previous, place_keep, previous_objects, previous_waiting, previous_skip, previous_indexed}
 use Rattle.objects.proofs.item.place_item.Goals as goal
-use Rattle.objects.proofs.item.place_item.Goals.{Joined-v, in-RepeatPrev+in-Is, in_default}
 
-pub overflow_add-result : goal.overflow_add-result
-overflow_add-result c = let a = c.args in let h = skip-fits a.done a.s.skip a.word c.in-Skip.is c.requires.o_bound.5 in omega (arith, h)
-
-pub returns-in-Skip : goal.returns-in-Skip
-returns-in-Skip c =
+pub returns-in_err-k-in-RepeatPrev-clause-is : goal.returns-in_err-k-in-RepeatPrev-clause-is
+returns-in_err-k-in-RepeatPrev-clause-is c =
     let a = c.args in
-    record {
-      l_after = λ x l e. place_skip x a.o a.done a.s (objects_is a.objects.now (slots_is a.slots.now (values_is a.values.now l))) c.in-Skip.is;
-      index = c.requires.indexed;
-      rest = refl;
-    }
+    passed_on _ _ _ c.from_residual.ensures.1 ∙ place_no (input_of a.w.now) a.o a.done c.in-RepeatPrev.is (mem a.s (lent_of a.w.now)) c.in_err-k-in-RepeatPrev.ensures.is
 
-pub returns-in-StreamBytes : goal.returns-in-StreamBytes
-returns-in-StreamBytes c =
+pub keep_item-requires-clause-bounds : goal.keep_item-requires-clause-bounds
+keep_item-requires-clause-bounds c =
     let a = c.args in
-    record {
-      l_after = λ x l e. place_stream x a.o a.done a.s (objects_is a.objects.now (slots_is a.slots.now (values_is a.values.now l))) c.in-StreamBytes.is;
-      index = c.requires.indexed;
-      rest = refl;
-    }
+    let e = c.in_ok-k-in-RepeatPrev.ensures.is in
+    let f = c.keep_previous.ensures.kept.0 in
+    rw (f.sheet, previous_objects a.s _ (lent_of a.w.now) (lent_of c.keep_previous.new.w) e, previous_waiting a.s _ (lent_of a.w.now) (lent_of c.keep_previous.new.w) e, previous_skip a.s _ (lent_of a.w.now) (lent_of c.keep_previous.new.w) e)
+    (rw c.in-RepeatPrev.is at c.requires.bounds)
 
-pub returns-in-Refused : goal.returns-in-Refused
-returns-in-Refused c =
+pub keep_item-requires-clause-indexed : goal.keep_item-requires-clause-indexed
+keep_item-requires-clause-indexed c =
     let a = c.args in
-    let p = c.keep_previous in
-    record {
-      l_after = λ x l e. place_no x a.o a.done c.in-RepeatPrev.is (mem a.s (objects_is a.objects.now (slots_is a.slots.now (values_is a.values.now l)))) (count_no (objects_is a.objects.now (slots_is a.slots.now (values_is p.new.values l))) c.in-Refused.is (p.ensures (objects_is a.objects.now l)));
-      index = tt;
-      rest = refl;
-    }
+    previous_indexed a.s _ (lent_of a.w.now) (lent_of c.keep_previous.new.w) c.in_ok-k-in-RepeatPrev.ensures.is _ (rw c.keep_previous.ensures.kept.1.0 c.requires.indexed)
 
--- where the ways to `keep_item` meet
-kept : (c : Joined-v) → let a = c.args in AsKept a.s a.slots.now a.values.now (take a.size a.scratch.now) a.o a.done a.word a.v c.match-v.t c.match-v.w c.match-v.values
-kept c =
+pub returns-in-Skip-clause-is : goal.returns-in-Skip-clause-is
+returns-in-Skip-clause-is c = let a = c.args in place_skip (input_of a.w.now) a.o a.done a.s (lent_of a.w.now) c.in-Skip.is
+
+pub returns-in-StreamBytes-clause-is : goal.returns-in-StreamBytes-clause-is
+returns-in-StreamBytes-clause-is c = let a = c.args in place_stream (input_of a.w.now) a.o a.done a.s (lent_of a.w.now) c.in-StreamBytes.is
+
+pub returns-in_ok-k-in-RepeatPrev-clause-is : goal.returns-in_ok-k-in-RepeatPrev-clause-is
+returns-in_ok-k-in-RepeatPrev-clause-is c =
     let a = c.args in
-    let q = c.requires.o_bound in
-    let i = c.requires.indexed in
-    elim c.match-v.branch [
-      | in-RepeatPrev+in-Is w ↦ rw (w.t-is, w.w-is, w.values-is) (kept_previous a.s a.slots.now a.values.now (take a.size a.scratch.now) a.o a.done a.word a.v i q.2 q.5 w.keep_previous.new.values w.keep_previous.ensures w.in-Is.is w.in-RepeatPrev.is)
-      | in_default w ↦ rw (w.t-is, w.w-is, w.values-is) (kept_itself a.s a.slots.now a.values.now (take a.size a.scratch.now) a.o a.done a.word a.v i q.2 q.5 (w.in_default.not-Skip, w.in_default.not-StreamBytes, w.in_default.not-RepeatPrev))
-    ]
+    place_previous (input_of a.w.now) a.o a.done c.in-RepeatPrev.is (mem a.s (lent_of a.w.now)) c.in_ok-k-in-RepeatPrev.ensures.is (rw (same_input c.keep_previous.ensures.kept.0) at c.keep_item.ensures.is)
 
-pub keep_item-requires : goal.keep_item-requires
-keep_item-requires c =
-    let q = c.requires.o_bound in
-    let k = kept (goal.at.keep_item-requires c).Joined-v in
-    record { o_bound = (q.0, q.1, k.waiting, q.3, q.4, k.fits); indexed = k.indexed }
-
-pub returns : goal.returns
-returns c =
+pub returns-in_default : goal.returns-in_default
+returns-in_default c =
     let a = c.args in
-    let i = c.keep_item.ensures in
-    let k = kept (goal.at.returns c).Joined-v in
-    record { l_after = λ x l e. k.is x a.objects.now l (i.l_after x (values_is c.match-v.values l) e); index = i.index; rest = i.rest }
+    let i = c.keep_item-in_default.ensures in
+    let d = c.in_default in
+    record { is = place_keep (input_of a.w.now) a.o a.done a.v (mem a.s (lent_of a.w.now)) (d.not-Skip, d.not-StreamBytes, d.not-RepeatPrev) i.is; index = i.index; rest = i.rest }

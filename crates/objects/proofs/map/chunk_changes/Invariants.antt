@@ -3,8 +3,8 @@ use lib.ListN.{length}
 use Rattle.objects.proofs.MapLaws.{Changes}
 use Rattle.objects.proofs.map.chunk_changes.Given as goal
 
-abbrev pub invariant-loop-t : goal.invariant-loop-t
-invariant-loop-t l = Changes l.sheet l.p l.spaces l.space l.initial.cur l.initial.used l.initial.t l.cur l.used l.t
+abbrev pub invariant-loop-p : goal.invariant-loop-p
+invariant-loop-p l = Changes l.fn.w l.space l.fn.s l.w l.t
 
-abbrev pub decreases-loop-t : goal.decreases-loop-t
-decreases-loop-t l = length l.p - l.t.at
+abbrev pub decreases-loop-p : goal.decreases-loop-p
+decreases-loop-p l = length l.fn.w.payload.now - l.t.at

@@ -1,48 +1,44 @@
-use native.Mathlib.Omega.{arith}
-use mathlib.Core.Path.{◌≡◌}
+use mathlib.Core.Path.{◌≡◌, ◌∙◌}
 use mathlib.Core.Bool.{true}
-use Prim.Native.Nat.{◌<◌}
-use lib.ListN.{length}
 use Rattle.stream.specs.Bytes.{peek_at}
 use Rattle.sheet.specs.Tests.{is_resolve}
-use Rattle.objects.proofs.ResolveLaws.{resolving_start, resolving_stop, resolving_cut, resolving_asks, resolving_less, resolving_turn, tag_test, tag_within}
+use Rattle.definition.specs.Memory.{got, int}
+use Rattle.readers.specs.Lent.{input_of, lent_of}
+use Rattle.readers.specs.Views.{mem}
+use Rattle.objects.proofs.AnswerLaws.{passed_on}
+use Rattle.objects.proofs.ResolveLaws.{passed, resolving_start, resolving_test, resolving_stop, resolving_cut, resolving_asks, resolving_less, resolving_turn}
 use Rattle.objects.proofs.pending.resolves.Goals as goal
-use Rattle.objects.proofs.pending.resolves.Goals.{Else-not-is_tag}
+use Rattle.objects.proofs.pending.resolves.Goals.{In_ok-number}
 
-pub loop-cur-init : goal.loop-cur-init
-loop-cur-init c = let q = c.requires.at_in_bounds in resolving_start _ _ _ _ _ _ q.0 q.1 q.2 q.3
+pub loop-p-init : goal.loop-p-init
+loop-p-init c = let q = c.requires in resolving_start c.args.w.now c.args.o c.args.s q.usable.1 q.waits.0 q.waits.1 q.waits.2
 
-pub returns-then-not-is_tag : goal.returns-then-not-is_tag
-returns-then-not-is_tag c =
-    let k = c.loop-cur in
-    record { by_index = resolving_stop _ _ _ _ _ _ _ _ k.invariant (tag_test c.args.sheet.now c.args.p.now k.cur.at c.is_tag.ensures c.peek.ensures c.if-not-is_tag.true); index = k.invariant.indexed }
+pub returns-clause-is : goal.returns-clause-is
+returns-clause-is c = let i = c.loop-p.invariant in resolving_stop _ _ _ _ _ i (resolving_test _ _ _ _ _ i c.is_tag.ensures c.peek.ensures c.loop-p-test.false)
 
--- the byte at the cursor is the tag, and so it is one of the payload
-tagged : (c : Else-not-is_tag) → is_resolve c.args.sheet.now (peek_at c.args.p.now c.loop-cur.cur.at) ≡ true
-tagged c = tag_test c.args.sheet.now c.args.p.now c.loop-cur.cur.at c.is_tag.ensures c.peek.ensures c.if-not-is_tag.false
+pub returns-in_err-number-clause-is : goal.returns-in_err-number-clause-is
+returns-in_err-number-clause-is c =
+    let i = c.loop-p.invariant in
+    passed_on _ _ _ c.from_residual.ensures.1
+    ∙ resolving_cut _ _ _ _ _ i c.requires.usable.0 (resolving_test _ _ _ _ _ i c.is_tag.ensures c.peek.ensures c.loop-p-test.true) (c.in_err-number.ensures.by_index _ _ _ _)
 
-within : (c : Else-not-is_tag) → c.loop-cur.cur.at < length c.args.p.now
-within c = tag_within c.args.sheet.now c.args.p.now c.loop-cur.cur.at c.requires.sheet_value (tagged c)
+-- the byte at the cursor is the tag, and the number after it was read
+tagged : (c : In_ok-number) → is_resolve c.args.w.now.sheet.now (peek_at c.args.w.now.payload.now c.loop-p.t.at) ≡ true
+tagged c = resolving_test _ _ _ _ _ c.loop-p.invariant c.is_tag.ensures c.peek.ensures c.loop-p-test.true
 
-pub overflow_add-cur : goal.overflow_add-cur
-overflow_add-cur c = omega (arith, within (goal.at.overflow_add-cur c).Else-not-is_tag, c.well_formed)
+counted : (c : In_ok-number) → let l = lent_of c.loop-p.w in got c.in_ok-number.number (mem c.in_ok-number.u l) ≡ int (input_of c.args.w.now) (mem (passed c.loop-p.t) l)
+counted c = c.in_ok-number.ensures.by_index _ _ _ _
 
-pub returns-in-Refused : goal.returns-in-Refused
-returns-in-Refused c =
-    let b = (goal.at.returns-in-Refused c).Else-not-is_tag in
-    record { by_index = resolving_cut _ _ _ _ _ _ _ _ c.loop-cur.invariant (within b) (tagged b) c.read_int.ensures.by_index c.in-Refused.is; index = tt }
+pub resolve-t-requires : goal.resolve-t-requires
+resolve-t-requires c = let b = (goal.at.resolve-t-requires c).In_ok-number in resolving_asks _ _ _ _ _ c.loop-p.invariant c.requires.usable.0 (tagged b) (counted b)
 
-pub resolve-cur-requires : goal.resolve-cur-requires
-resolve-cur-requires c = resolving_asks _ _ _ _ _ _ _ _ c.loop-cur.invariant c.read_int.ensures.by_index c.in-Is.is
+pub loop-p-smaller : goal.loop-p-smaller
+loop-p-smaller c =
+    let b = (goal.at.loop-p-smaller c).In_ok-number in
+    resolving_less _ _ _ _ _ c.loop-p.invariant c.requires.usable.0 (tagged b) (counted b) c.resolve-t.new.w c.resolve-t.result c.resolve-t.ensures.is
 
-pub loop-cur-smaller : goal.loop-cur-smaller
-loop-cur-smaller c =
-    let b = (goal.at.loop-cur-smaller c).Else-not-is_tag in
-    let r = c.resolve-cur in
-    resolving_less _ _ _ _ _ _ _ _ c.loop-cur.invariant (within b) (tagged b) c.read_int.ensures.by_index c.in-Is.is _ _ r.ensures.l_after
-
-pub loop-cur-preserved : goal.loop-cur-preserved
-loop-cur-preserved c =
-    let b = (goal.at.loop-cur-preserved c).Else-not-is_tag in
-    let r = c.resolve-cur in
-    resolving_turn _ _ _ _ _ _ _ _ c.loop-cur.invariant (within b) (tagged b) c.read_int.ensures.by_index c.in-Is.is _ _ r.ensures.l_after r.auto.slots r.ensures.index
+pub loop-p-preserved : goal.loop-p-preserved
+loop-p-preserved c =
+    let b = (goal.at.loop-p-preserved c).In_ok-number in
+    let r = c.resolve-t.ensures in
+    resolving_turn _ _ _ _ _ c.loop-p.invariant c.requires.usable.0 (tagged b) (counted b) c.resolve-t.new.w c.resolve-t.result r.is r.index r.kept

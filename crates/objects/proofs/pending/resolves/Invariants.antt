@@ -3,8 +3,8 @@ use lib.ListN.{length}
 use Rattle.objects.proofs.ResolveLaws.{Resolving}
 use Rattle.objects.proofs.pending.resolves.Given as goal
 
-abbrev pub invariant-loop-cur : goal.invariant-loop-cur
-invariant-loop-cur l = Resolving l.sheet l.p l.o l.scratch l.initial.cur l.initial.slots l.cur l.slots
+abbrev pub invariant-loop-p : goal.invariant-loop-p
+invariant-loop-p l = Resolving l.fn.w l.o l.fn.s l.w l.t
 
-abbrev pub decreases-loop-cur : goal.decreases-loop-cur
-decreases-loop-cur l = length l.p - l.cur.at
+abbrev pub decreases-loop-p : goal.decreases-loop-p
+decreases-loop-p l = length l.fn.w.payload.now - l.t.at

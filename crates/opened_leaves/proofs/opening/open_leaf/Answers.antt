@@ -1,42 +1,27 @@
-use native.Mathlib.Omega.{arith}
-use mathlib.Core.Path.{refl}
-use borrow.Author.Tests.{not-true, not-false}
-use Rattle.backref.proofs.BackrefLaws.{word_small}
-use Rattle.leaves.proofs.LeafLaws.{words_small}
-use Rattle.opened_leaves.proofs.OpeningLaws.{map_with}
+use Rattle.std.proofs.Common.{arith, refl}
+use Rattle.objects.proofs.HeadLaws.{bytes_small}
+use Rattle.leaves.proofs.LeafLaws.{words_low}
+use Rattle.opened_leaves.proofs.OpeningLaws.{new_count, new_indexed, is_whole}
 use Rattle.opened_leaves.proofs.opening.open_leaf.Goals as goal
 
-pub returns-then-d-ge64 : goal.returns-then-d-ge64
-returns-then-d-ge64 c = record { unopened = λ _. (refl, refl, refl, refl, refl, refl); opens = λ h. absurd (h c.unopened.ensures) }
-
-pub map_at-opened-requires : goal.map_at-opened-requires
-map_at-opened-requires c = (word_small _ c.requires.v_value.0 c.word_bytes-word.ensures.0, c.requires.v_value.3)
-
-pub returns-then-map-eq0 : goal.returns-then-map-eq0
-returns-then-map-eq0 c = record { unopened = λ _. (refl, refl, refl, refl, refl, refl); opens = λ h. absurd (h c.if-map-eq0.true) }
-
-pub returns-then-ot-o : goal.returns-then-ot-o
-returns-then-ot-o c = record { unopened = λ _. (refl, refl, refl, refl, refl, refl); opens = λ h. absurd (h c.unopened-then-ot-o.ensures) }
-
-pub returns-then-st-n : goal.returns-then-st-n
-returns-then-st-n c = record { unopened = λ _. (refl, refl, refl, refl, refl, refl); opens = λ h. absurd (h c.unopened-then-st-n.ensures) }
+pub map_at-requires : goal.map_at-requires
+map_at-requires c = let q = c.requires.usable in ((words_low _ q.0 q.1).1, q.2, q.4)
 
 pub overflow_mul-bytes : goal.overflow_mul-bytes
-overflow_mul-bytes c = record { fits = words_small (c.map_at-opened.ensures c.if-map-eq0.false).small (word_small _ c.requires.v_value.0 c.word_bytes-word.ensures.0) }
+overflow_mul-bytes c = omega (arith, bytes_small _ c.requires.usable.0 c.requires.usable.1 c.in_ok-words.ensures.small)
 
-pub give_address-address-requires : goal.give_address-address-requires
-give_address-address-requires c = (c.requires.v_value.1, word_small _ c.requires.v_value.0 c.word_bytes-word.ensures.0, c.requires.linked)
+pub give_address-requires : goal.give_address-requires
+give_address-requires c = let q = c.requires.usable in (q.3, (words_low _ q.0 q.1).1, refl, c.requires.linked_before)
 
-pub returns-then-not-address : goal.returns-then-not-address
-returns-then-not-address c =
-    record {
-      unopened = λ _. let z = c.give_address-address.ensures.dt_unchanged (not-true _ c.if-not-address.true) in (refl, refl, z.0, refl, z.1, z.2);
-      opens = λ h. absurd (h c.unopened-then-not-address.ensures);
-    }
+pub count_slot-requires : goal.count_slot-requires
+count_slot-requires c = new_count c.in_ok-t.ensures.alone _ _ _ c.if-w-o.false c.add_object.ensures
 
-pub returns : goal.returns
-returns c =
-    record {
-      unopened = λ e. absurd (c.if-map-eq0.false e);
-      opens = λ h. rw (← c.word_bytes-word.ensures.0) (omega (arith, c.if-d-ge64.false), map_with _ _ _ _ _ _ _ _ _ _ _ (c.map_at-opened.ensures h), c.put_opened.ensures, c.give_address-address.ensures.given (not-false _ c.if-not-address.false));
-    }
+pub returns-clause-read : goal.returns-clause-read
+returns-clause-read c =
+    let a = c.args in
+    let q = c.requires.usable in
+    let m = c.in_ok-words.ensures in
+    (c.if-d-ge64.false, bytes_small _ q.0 q.1 m.small, omega arith, λ inner. is_whole a.w.now _ a.s _ a.word _ _ a.space a.tag q.2 q.1 m c.in_ok-t.ensures c.if-w-o.false c.if-w-n.false c.add_object.ensures c.count_slot.ensures c.fields_of.ensures c.add_slot.ensures c.enter.ensures inner)
+
+pub returns-clause-indexed : goal.returns-clause-indexed
+returns-clause-indexed c = new_indexed c.in_ok-t.ensures.alone _ _ _ _ c.if-w-n.false c.add_slot.ensures

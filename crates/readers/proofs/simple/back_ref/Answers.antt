@@ -1,12 +1,14 @@
-use Rattle.readers.proofs.ViewLaws.{count_is, count_no, then_got, then_no}
+use Rattle.std.proofs.Common.{◌∙◌}
+use Rattle.std.proofs.lemmas.Result.{err_from_is_err_and}
+use Rattle.readers.proofs.ViewLaws.{then_got, then_no}
 use Rattle.readers.proofs.SimpleLaws.{backref_in, backref_past}
 use Rattle.readers.proofs.simple.back_ref.Goals as goal
 
-pub returns-in-Refused : goal.returns-in-Refused
-returns-in-Refused c = λ v tr sp l. then_no _ (count_no _ c.in-Refused.is (c.read_int.ensures.by_index v tr sp _))
+pub returns-in_err-i-clause-is : goal.returns-in_err-i-clause-is
+returns-in_err-i-clause-is c = let p = err_from_is_err_and c.from_residual.result c.from_residual.ensures.1 in rw (p.1, p.2) (then_no _ (c.in_err-i.ensures.by_index _ _ _ _))
 
-pub returns-then-i-t : goal.returns-then-i-t
-returns-then-i-t c = λ v tr sp l. then_got _ (count_is _ c.in-Is.is (c.read_int.ensures.by_index v tr sp _)) (backref_in _ _ c.if-i-t.true c.add.ensures)
+pub returns-then-t-i-clause-is : goal.returns-then-t-i-clause-is
+returns-then-t-i-clause-is c = then_got _ (c.in_ok-i.ensures.by_index _ _ _ _) (rw c.refused.ensures (backref_past _ _ c.if-t-i.true))
 
-pub returns-else-i-t : goal.returns-else-i-t
-returns-else-i-t c = λ v tr sp l. then_got _ (count_is _ c.in-Is.is (c.read_int.ensures.by_index v tr sp _)) (backref_past _ _ c.if-i-t.false)
+pub returns-clause-is : goal.returns-clause-is
+returns-clause-is c = then_got _ (c.in_ok-i.ensures.by_index _ _ _ _) (c.enter.ensures.is ∙ backref_in _ _ c.if-t-i.false)

@@ -1,144 +1,63 @@
-use mathlib.Core.Path.{refl, ap}
-use Prim.Native.Nat.{◌*◌}
-use native.Mathlib.Omega.{arith}
+use Rattle.std.proofs.Common.{refl, ap, rules}
 use Rattle.definition.specs.Reference.{by_head}
-use Rattle.readers.specs.Views.{addresses_is}
-use Rattle.readers.proofs.SimpleLaws.{raw_same, product_small, by_kind, by_none, internal_grouped, embedder_grouped, target_grouped}
-use borrow.Author.Rules.{rules}
+use Prim.Native.Nat.{◌*◌}
+use Rattle.readers.specs.Views.{mem}
+use Rattle.readers.specs.Lent.{input_of, lent_of}
+use Rattle.readers.proofs.SimpleLaws.{internal_grouped, embedder_grouped, raw_same}
 use Rattle.readers.proofs.simple.simple_ref.Goals as goal
 
-pub with_skip-requires : goal.with_skip-requires
-with_skip-requires c = let q = c.requires in record { addresses_bound = (q.addresses_bound.0, q.addresses_bound.1, q.addresses_bound.2, λ e. omega (arith, e)); linked = q.linked }
-
-pub hot_ref-requires : goal.hot_ref-requires
-hot_ref-requires c = c.requires.simple.place c.in-7.is
-
-pub with_skip-requires-in-8 : goal.with_skip-requires-in-8
-with_skip-requires-in-8 c = record { addresses_bound = (c.requires.addresses_bound.0, c.requires.addresses_bound.1, c.requires.addresses_bound.2, λ _. c.requires.simple.skip_place c.in-8.is); linked = c.requires.linked }
-
-pub with_skip-requires-in-11 : goal.with_skip-requires-in-11
-with_skip-requires-in-11 c = let q = c.requires in record { addresses_bound = (q.addresses_bound.0, q.addresses_bound.1, q.addresses_bound.2, λ e. omega (arith, e)); linked = q.linked }
-
-pub with_skip-requires-in-16 : goal.with_skip-requires-in-16
-with_skip-requires-in-16 c = let q = c.requires in record { addresses_bound = (q.addresses_bound.0, q.addresses_bound.1, q.addresses_bound.2, λ e. omega (arith, e)); linked = q.linked }
-
-pub with_skip-requires-in-21 : goal.with_skip-requires-in-21
-with_skip-requires-in-21 c = let q = c.requires in record { addresses_bound = (q.addresses_bound.0, q.addresses_bound.1, q.addresses_bound.2, λ e. omega (arith, e)); linked = q.linked }
-
-pub overflow_mul-a : goal.overflow_mul-a
-overflow_mul-a c = omega (arith, product_small {n = c.args.a} (omega (arith, c.requires.simple.small)) c.word_bytes.ensures.1)
-
-pub returns-in-2 : goal.returns-in-2
+pub returns-in-FixedRaw-clause-is : goal.returns-in-FixedRaw-clause-is
 unfolding by_head
-returns-in-2 c = λ tr sp l inner. by_kind _ _ _ _ inner _ c.in-2.is (c.back_ref.ensures _ tr sp (addresses_is c.args.addresses.now l))
+returns-in-FixedRaw-clause-is c = λ inner. rw c.in-FixedRaw.is (raw_same (input_of c.args.w.now) (mem c.args.s (lent_of c.args.w.now)) (ap (λ n. c.args.head.argument * n) c.word_bytes.ensures.0) refl (c.raw_data.ensures _ _ _ _))
 
-pub returns-in-3 : goal.returns-in-3
+pub returns-in-VariableRaw-clause-is : goal.returns-in-VariableRaw-clause-is
 unfolding by_head
-returns-in-3 c = λ tr sp l inner. by_kind _ _ _ _ inner _ c.in-3.is (c.legacy_ref.ensures tr sp l)
+returns-in-VariableRaw-clause-is c = λ inner. rw c.in-VariableRaw.is (c.variable_raw.ensures _ _ _)
 
-pub returns-in-4 : goal.returns-in-4
+pub returns-in-ReadOnly-clause-is : goal.returns-in-ReadOnly-clause-is
 unfolding by_head
-returns-in-4 c = λ tr sp l inner. by_kind _ _ _ _ inner _ c.in-4.is (c.with_skip.ensures tr sp l)
+returns-in-ReadOnly-clause-is c = λ inner. rw c.in-ReadOnly.is (c.two_ints.ensures _ (search rules) _ _ _ _)
 
-pub returns-in-7 : goal.returns-in-7
+pub returns-in-Internal-clause-is : goal.returns-in-Internal-clause-is
 unfolding by_head
-returns-in-7 c = λ tr sp l inner. by_kind _ _ _ _ inner _ c.in-7.is (c.hot_ref.ensures (addresses_is c.args.addresses.now l))
+returns-in-Internal-clause-is c = λ inner. rw c.in-Internal.is (internal_grouped _ _ (c.two_ints-in-Internal.ensures _ (search rules) _ _ _ _))
 
-pub returns-in-8 : goal.returns-in-8
+pub returns-in-EmbedderFields-clause-is : goal.returns-in-EmbedderFields-clause-is
 unfolding by_head
-returns-in-8 c = λ tr sp l inner. by_kind _ _ _ _ inner _ c.in-8.is (c.with_skip-in-8.ensures tr sp l)
+returns-in-EmbedderFields-clause-is c = λ inner. rw c.in-EmbedderFields.is (embedder_grouped _ _ (c.two_ints-in-EmbedderFields.ensures _ (search rules) _ _ _ _))
 
-pub returns-in-9 : goal.returns-in-9
+pub returns-in-Attached-clause-is : goal.returns-in-Attached-clause-is
 unfolding by_head
-returns-in-9 c = λ tr sp l inner. by_kind _ _ _ _ inner _ c.in-9.is (c.root_array.ensures _ tr sp (addresses_is c.args.addresses.now l))
+returns-in-Attached-clause-is c = λ inner. rw c.in-Attached.is (c.one_int.ensures _ (search rules) _ _ _ _)
 
-pub returns-in-10 : goal.returns-in-10
+pub returns-in-Builtin-clause-is : goal.returns-in-Builtin-clause-is
 unfolding by_head
-returns-in-10 c = λ tr sp l inner. by_kind _ _ _ _ inner _ c.in-10.is refl
+returns-in-Builtin-clause-is c = λ inner. rw c.in-Builtin.is (c.one_int-in-Builtin.ensures _ (search rules) _ _ _ _)
 
-pub returns-in-11 : goal.returns-in-11
+pub returns-in-External-clause-is : goal.returns-in-External-clause-is
 unfolding by_head
-returns-in-11 c = λ tr sp l inner. by_kind _ _ _ _ inner _ c.in-11.is (c.with_skip-in-11.ensures tr sp l)
+returns-in-External-clause-is c = λ inner. rw c.in-External.is (c.one_int-in-External.ensures _ (search rules) _ _ _ _)
 
-pub returns-in-12 : goal.returns-in-12
+pub returns-in-Deoptimizer-clause-is : goal.returns-in-Deoptimizer-clause-is
 unfolding by_head
-returns-in-12 c = λ tr sp l inner. by_kind _ _ _ _ inner _ c.in-12.is (c.two_ints.ensures _ tr sp _)
+returns-in-Deoptimizer-clause-is c = λ inner. rw c.in-Deoptimizer.is (c.one_int-in-Deoptimizer.ensures _ (search rules) _ _ _ _)
 
-pub returns-in-13 : goal.returns-in-13
+pub returns-in-StreamBytes-clause-is : goal.returns-in-StreamBytes-clause-is
 unfolding by_head
-returns-in-13 c = λ tr sp l inner. by_kind _ _ _ _ inner _ c.in-13.is (c.one_int.ensures _ tr sp _)
+returns-in-StreamBytes-clause-is c = λ inner. rw c.in-StreamBytes.is (c.one_int-in-StreamBytes.ensures _ (search rules) _ _ _ _)
 
-pub returns-in-14 : goal.returns-in-14
+pub returns-in-Cache-clause-is : goal.returns-in-Cache-clause-is
 unfolding by_head
-returns-in-14 c = λ tr sp l inner. by_kind _ _ _ _ inner _ c.in-14.is (c.one_int-in-14.ensures _ tr sp _)
+returns-in-Cache-clause-is c = λ inner. rw c.in-Cache.is (c.one_int-in-Cache.ensures _ (search rules) _ _ _ _)
 
-pub returns-in-15 : goal.returns-in-15
+pub returns-in-DispatchEntry-clause-is : goal.returns-in-DispatchEntry-clause-is
 unfolding by_head
-returns-in-15 c = λ tr sp l inner. by_kind _ _ _ _ inner _ c.in-15.is (c.one_int-in-15.ensures _ tr sp _)
+returns-in-DispatchEntry-clause-is c = λ inner. rw c.in-DispatchEntry.is (c.one_int-in-DispatchEntry.ensures _ (search rules) _ _ _ _)
 
-pub returns-in-16 : goal.returns-in-16
+pub returns-in-Skip-clause-is : goal.returns-in-Skip-clause-is
 unfolding by_head
-returns-in-16 c = λ tr sp l inner. by_kind _ _ _ _ inner _ c.in-16.is (c.with_skip-in-16.ensures tr sp l)
+returns-in-Skip-clause-is c = λ inner. rw c.in-Skip.is (c.one_int-in-Skip.ensures _ (search rules) _ _ _ _)
 
-pub returns-in-17 : goal.returns-in-17
+pub returns-in-VariableRepeatPrevious-clause-is : goal.returns-in-VariableRepeatPrevious-clause-is
 unfolding by_head
-returns-in-17 c = λ tr sp l inner. by_kind _ _ _ _ inner _ c.in-17.is (internal_grouped _ _ (c.two_ints-in-17.ensures _ tr sp _))
-
-pub returns-in-18 : goal.returns-in-18
-unfolding by_head
-returns-in-18 c = λ tr sp l inner. by_kind _ _ _ _ inner _ c.in-18.is (c.one_int-in-18.ensures _ tr sp _)
-
-pub returns-in-19 : goal.returns-in-19
-unfolding by_head
-returns-in-19 c = λ tr sp l inner. by_kind _ _ _ _ inner _ c.in-19.is (c.one_int-in-19.ensures _ tr sp _)
-
-pub returns-in-20 : goal.returns-in-20
-unfolding by_head
-returns-in-20 c = λ tr sp l inner. by_kind _ _ _ _ inner _ c.in-20.is (embedder_grouped _ _ (c.two_ints-in-20.ensures _ tr sp _))
-
-pub returns-in-21 : goal.returns-in-21
-unfolding by_head
-returns-in-21 c = λ tr sp l inner. by_kind _ _ _ _ inner _ c.in-21.is (target_grouped _ _ c.args.a (c.with_skip-in-21.ensures tr sp l))
-
-pub returns-in-22 : goal.returns-in-22
-unfolding by_head
-returns-in-22 c = λ tr sp l inner. by_kind _ _ _ _ inner _ c.in-22.is (c.one_int-in-22.ensures _ tr sp _)
-
-pub returns-in-23 : goal.returns-in-23
-unfolding by_head
-returns-in-23 c = λ tr sp l inner. by_kind _ _ _ _ inner _ c.in-23.is (c.pending_ref.ensures _)
-
-pub returns-in-24 : goal.returns-in-24
-unfolding by_head
-returns-in-24 c = λ tr sp l inner. by_kind _ _ _ _ inner _ c.in-24.is refl
-
-pub returns-in-27 : goal.returns-in-27
-unfolding by_head
-returns-in-27 c = λ tr sp l inner. by_kind _ _ _ _ inner _ c.in-27.is (c.one_int-in-27.ensures _ tr sp _)
-
-pub returns-in-28 : goal.returns-in-28
-unfolding by_head
-returns-in-28 c = λ tr sp l inner. by_kind _ _ _ _ inner _ c.in-28.is (raw_same _ _ (ap (λ w. c.args.a * w) c.word_bytes.ensures.0) refl (c.raw_data.ensures _ tr sp _))
-
-pub returns-in-29 : goal.returns-in-29
-unfolding by_head
-returns-in-29 c = λ tr sp l inner. by_kind _ _ _ _ inner _ c.in-29.is (c.variable_raw.ensures tr sp _)
-
-pub returns-in-30 : goal.returns-in-30
-unfolding by_head
-returns-in-30 c = λ tr sp l inner. by_kind _ _ _ _ inner _ c.in-30.is (c.one_int-in-30.ensures _ tr sp _)
-
-pub returns-in-33 : goal.returns-in-33
-unfolding by_head
-returns-in-33 c = λ tr sp l inner. by_kind _ _ _ _ inner _ c.in-33.is refl
-
-pub returns-in-35 : goal.returns-in-35
-unfolding by_head
-returns-in-35 c = λ tr sp l inner. by_kind _ _ _ _ inner _ c.in-35.is (c.one_int-in-35.ensures _ tr sp _)
-
-pub returns-in-37 : goal.returns-in-37
-unfolding by_head
-returns-in-37 c = λ tr sp l inner. by_kind _ _ _ _ inner _ c.in-37.is refl
-
-pub returns-in_default : goal.returns-in_default
-returns-in_default c = λ tr sp l inner. by_none _ _ _ _ inner _ c.requires.simple (search rules)
+returns-in-VariableRepeatPrevious-clause-is c = λ inner. rw c.in-VariableRepeatPrevious.is (c.one_int-in-VariableRepeatPrevious.ensures _ (search rules) _ _ _ _)

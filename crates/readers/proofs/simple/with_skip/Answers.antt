@@ -1,30 +1,31 @@
-use mathlib.Core.Path.{refl}
-use native.Mathlib.Omega.{arith}
-use Rattle.readers.specs.Views.{addresses_is}
-use Rattle.readers.proofs.ViewLaws.{went_on, went_no, then_got, then_no}
+use Rattle.std.proofs.Common.{refl, ap, ◌∙◌, rules}
+use Rattle.std.proofs.lemmas.Result.{err_from_is_err_and}
+use Rattle.heads.specs.Kinds.{kind_number}
+use Rattle.readers.proofs.ViewLaws.{then_got, then_no}
 use Rattle.readers.proofs.IntLaws.{skip_addresses}
-use Rattle.readers.proofs.SimpleLaws.{index_stays, skipped_kind, skipped_rest}
-use lib.ListN.{length, drop}
-use borrow.Author.Rules.{rules}
+use Rattle.readers.proofs.SimpleLaws.{skipped_target}
 use Rattle.readers.proofs.simple.with_skip.Goals as goal
 
+pub returns-in_err-t-clause-is : goal.returns-in_err-t-clause-is
+returns-in_err-t-clause-is c = let p = err_from_is_err_and c.from_residual.result c.from_residual.ensures.1 in rw (p.1, p.2) (then_no _ (c.in_err-t.ensures _ _ _ _))
+
 pub legacy_ref-requires : goal.legacy_ref-requires
-legacy_ref-requires c = let e = skip_addresses c.args.s c.args.p.now c.in-On.is c.read_skip.ensures in record { addresses_bound = (omega (arith, e), c.requires.addresses_bound.1); linked = index_stays c.args.addresses.now (drop (length c.args.p.now) c.args.scratch.now) e c.requires.linked }
+legacy_ref-requires c = rw (skip_addresses c.args.s c.in_ok-t.t c.args.w.now.payload.now c.in_ok-t.ensures) c.requires.addressed.0
 
 pub hot_ref-requires : goal.hot_ref-requires
-hot_ref-requires c = c.requires.addresses_bound.3 c.in-8.is
+hot_ref-requires c = c.requires.place (ap kind_number c.in-HotWithSkip.is)
 
-pub returns-in-Refused : goal.returns-in-Refused
-returns-in-Refused c = λ tr sp l. then_no _ (went_no _ c.in-Refused.is (c.read_skip.ensures _ tr sp _))
+pub returns-in-LegacyBackrefWithSkip-clause-is : goal.returns-in-LegacyBackrefWithSkip-clause-is
+returns-in-LegacyBackrefWithSkip-clause-is c = then_got _ (c.in_ok-t.ensures _ _ _ _) (rw c.in-LegacyBackrefWithSkip.is c.legacy_ref.ensures.is)
 
-pub returns-in-4 : goal.returns-in-4
-returns-in-4 c = λ tr sp l. then_got _ (went_on _ c.in-On.is (c.read_skip.ensures _ tr sp _)) (skipped_kind _ _ _ _ c.in-4.is (c.legacy_ref.ensures tr sp l))
+pub returns-in-HotWithSkip-clause-is : goal.returns-in-HotWithSkip-clause-is
+returns-in-HotWithSkip-clause-is c = then_got _ (c.in_ok-t.ensures _ _ _ _) (rw c.in-HotWithSkip.is c.hot_ref.ensures)
 
-pub returns-in-8 : goal.returns-in-8
-returns-in-8 c = λ tr sp l. then_got _ (went_on _ c.in-On.is (c.read_skip.ensures _ tr sp _)) (skipped_kind _ _ _ _ c.in-8.is (c.hot_ref.ensures (addresses_is c.args.addresses.now l)))
+pub returns-in-RootConstantWithSkip-clause-is : goal.returns-in-RootConstantWithSkip-clause-is
+returns-in-RootConstantWithSkip-clause-is c = then_got _ (c.in_ok-t.ensures _ _ _ _) (rw c.in-RootConstantWithSkip.is refl)
 
-pub returns-in-11 : goal.returns-in-11
-returns-in-11 c = λ tr sp l. then_got _ (went_on _ c.in-On.is (c.read_skip.ensures _ tr sp _)) (skipped_kind _ _ _ _ c.in-11.is refl)
+pub returns-in-Api-clause-is : goal.returns-in-Api-clause-is
+returns-in-Api-clause-is c = then_got _ (c.in_ok-t.ensures _ _ _ _) (rw c.in-Api.is (c.one_int.ensures _ (search rules) _ _ _ _))
 
 pub returns-in_default : goal.returns-in_default
-returns-in_default c = λ tr sp l. then_got _ (went_on _ c.in-On.is (c.read_skip.ensures _ tr sp _)) (skipped_rest c.args.kind _ _ _ (search rules) (c.one_int.ensures _ tr sp _))
+returns-in_default c = record { is = then_got _ (c.in_ok-t.ensures _ _ _ _) (c.one_int-in_default.ensures _ (search rules) _ _ _ _ ∙ skipped_target _ _ _ c.args.head.kind c.in_default.not-LegacyBackrefWithSkip c.in_default.not-HotWithSkip c.in_default.not-RootConstantWithSkip c.in_default.not-Api); kept = search rules }

@@ -1,455 +1,341 @@
 -- The goals of the seven readers that the search leaves, each by its laws in proofs/.
-use Rattle.std.proofs.Common.{ℕ, ◌-◌, ◌*◌, ◌^◌, [], length, get_or, refl, sym, ap, subst, ◌∙◌, arith}
-use Rattle.std.proofs.lemmas.Bool.{not-true, not-false}
-use Rattle.levels.specs.Level.{unread_at}
-use Rattle.definition.specs.Memory.{Mem}
+use Rattle.std.proofs.Common.{◌<◌, ◌-◌, ◌^◌, length, refl, sym, ap, ◌∙◌, arith}
+use Rattle.std.proofs.lemmas.Bool.{false≢true}
+use Rattle.heads.specs.Heads.{head_at}
 use Rattle.definition.specs.Reference.{ref_at}
-use Rattle.readers.specs.Views.{input, mem}
-use Rattle.readers.proofs.ViewLaws.{seen_got, seen_no, went_on, went_no, count_is, count_no, count_below}
+use Rattle.readers.specs.Views.{Lent, mem}
+use Rattle.readers.specs.Lent.{input_of, lent_of}
 use Rattle.objects.proofs.HeadLaws.{bytes_small}
-use Rattle.leaves.proofs.LeafLaws.{found_in}
-use Rattle.walker.specs.Ready.{lent, Ready, slot_in}
-use Rattle.walker.proofs.GroundLaws.{resolves_ground, place_item_ground, went_index, count_index}
-use Rattle.walker.proofs.ReadyLaws.{out_index, moved_ready}
-use Rattle.walker.proofs.ReferenceLaws.{ref_deep, ref_end, ref_object, space_low, argument_low, chunks_low, simple_fits, found_by, inner_small, value_small, other_simple, inner_starts, ref_refused, ref_simple, ref_value, ref_inner_no, ref_inner_got}
-use Rattle.walker.proofs.ItemsLaws.{word_some, item_is, item_no, answered, deferred_is, deferred_not, deferred_inside, item_deferred, item_slot, slot_no, slot_got, place_asks}
-use Rattle.walker.proofs.NestLaws.{nest_start, nest_headless, nest_headed, nest_over, nest_whole, nest_roomless, nest_ends, nest_begins, nest_no, nest_item, object_roomless, object_item, object_index}
-use Rattle.walker.proofs.ObjectLaws.{went_linked, bytes_whole, resolves_asks, after_asks, keep_asks, kept_ready, mapped_no, mapped_bad, mapped_full, mapped_on, opened_ready, headed_cut, headed_bad, headed_on}
-use Rattle.walker.proofs.LeafLaws.{leaf_asks, place_leaf_asks, leaf_ref, leaf_narrow, leaf_item, leaf_index, unplaced}
-use Rattle.walker.proofs.OpeningLaws.{opened_state, resolve_not, resolved-headed, unresolved_headed, leaf_headed, leaf_ready, opened_index, unopened_ready, unopened_headed}
-use Rattle.walker.proofs.WeakLaws.{weak_item, weak_index, unplaced_ready, unplaced_slot}
+use Rattle.objects.proofs.AnswerLaws.{fixed_refl, passed_on}
+use Rattle.walker.proofs.ScratchLaws.{scratch_of, order_of, after_on}
+use Rattle.walker.proofs.ReadyLaws.{moved_ready}
+use Rattle.walker.proofs.ItemsLaws.{word_some, deferred_is, deferred_not, deferred_inside, item_deferred, item_slot}
+use Rattle.walker.proofs.ObjectLaws.{bytes_whole, mapped_no}
+use Rattle.walker.proofs.ReferenceLaws.{ref_deep, ref_end, ref_object, space_low, other_simple, other_asks, inner_starts, ref_refused, ref_simple, ref_root, ref_inner_no, head_read, ref_inner_got, argument_low, is_new, read_as}
+use Rattle.walker.proofs.NestLaws.{nest_start, nest_over, nest_whole, turn_begins, turn_headless, turn_headed, turn_no, turn_item, turn_put, turn_roomless, turn_ends}
+use Rattle.walker.proofs.LeafLaws.{one_level, leaf_slot, weak_slot, ready_still, leaf_after}
+use Rattle.walker.proofs.MapLaws.{value_ready, record_ready, followed_no, map_asks, kept_no, resolves_ready, map_ended, put_asks, item_put, leaf_opened, leaf_no, leaf_on, leaf_ended}
 use Rattle.walker.proofs.walk.+walk.Goals as goal
-
--- ---- parse_ref
-
-pub parse_ref-returns-then-d-gt-DEEPEST : goal.parse_ref-returns-then-d-gt-DEEPEST
-parse_ref-returns-then-d-gt-DEEPEST t c = record { u_after = ref_deep _ _ _ c.if-d-gt-DEEPEST.true; index = tt }
-
-pub parse_ref-returns-then-p-at : goal.parse_ref-returns-then-p-at
-parse_ref-returns-then-p-at t c = record { u_after = ref_end _ _ _ c.if-d-gt-DEEPEST.false c.if-p-at.true; index = tt }
-
-pub parse_ref-parse_object-requires : goal.parse_ref-parse_object-requires
-parse_ref-parse_object-requires t c =
-    let g = c.requires.ready in
-    (omega arith, (moved_ready g c.if-p-at.false, (c.if-d-gt-DEEPEST.false, space_low g c.if-p-at.false _ c.byte-b.ensures c.if-kind-eq1.true)))
-
-pub parse_ref-returns-then-kind-eq1 : goal.parse_ref-returns-then-kind-eq1
-parse_ref-returns-then-kind-eq1 t c =
-    let w = ref_object c.requires.ready c.if-p-at.false _ c.byte-b.ensures _ c.if-d-gt-DEEPEST.false c.if-kind-eq1.true in
-    record { u_after = c.parse_object.ensures.u_after ∙ w; index = c.parse_object.ensures.index }
-
-pub parse_ref-begin-requires : goal.parse_ref-begin-requires
-parse_ref-begin-requires t c =
-    let g = c.requires.ready in
-    (chunks_low g, argument_low g c.if-p-at.false _ c.byte-b.ensures)
-
-pub parse_ref-simple_ref-requires : goal.parse_ref-simple_ref-requires
-parse_ref-simple_ref-requires t c =
-    let g = c.requires.ready in
-    record {
-      addresses_bound = simple_fits g c.if-p-at.false;
-      simple = other_simple _ _ _ _ _ g c.if-p-at.false _ c.byte-b.ensures c.if-kind-eq1.false _ _ _ (c.begin.ensures.by_index _ _ _) c.in-Other.is;
-      linked = found_by g;
-    }
-
-pub parse_ref-hold-requires : goal.parse_ref-hold-requires
-parse_ref-hold-requires t c = value_small c.in-Value.is c.begin.ensures.small
-
-pub parse_ref-parse_inner-inner-requires : goal.parse_ref-parse_inner-inner-requires
-parse_ref-parse_inner-inner-requires t c =
-    (omega arith, (inner_starts _ _ _ _ _ c.requires.ready c.if-p-at.false _ c.byte-b.ensures c.if-kind-eq1.false _ _ _ (c.begin.ensures.by_index _ _ _) c.in-Inner.is, c.if-d-gt-DEEPEST.false))
-
-pub parse_ref-hold-requires-in-Got : goal.parse_ref-hold-requires-in-Got
-parse_ref-hold-requires-in-Got t c = inner_small c.in-Inner.is c.begin.ensures.small
-
-pub parse_ref-returns-in-Other : goal.parse_ref-returns-in-Other
-parse_ref-returns-in-Other t c =
-    let r = ref_simple _ _ _ _ _ c.requires.ready c.if-p-at.false _ c.byte-b.ensures c.if-kind-eq1.false _ _ _ (c.begin.ensures.by_index _ _ _) _ c.if-d-gt-DEEPEST.false c.simple_ref.result _ c.in-Other.is (c.simple_ref.ensures _ _) in
-    record { u_after = r.0; index = r.1 }
-
-pub parse_ref-returns-in-Refused : goal.parse_ref-returns-in-Refused
-parse_ref-returns-in-Refused t c =
-    record { u_after = ref_refused _ _ _ _ _ c.requires.ready c.if-p-at.false _ c.byte-b.ensures c.if-kind-eq1.false _ _ _ (c.begin.ensures.by_index _ _ _) _ c.if-d-gt-DEEPEST.false c.in-Refused.is; index = tt }
-
-pub parse_ref-returns-in-Value : goal.parse_ref-returns-in-Value
-parse_ref-returns-in-Value t c =
-    let r = ref_value _ _ _ _ _ c.requires.ready c.if-p-at.false _ c.byte-b.ensures c.if-kind-eq1.false _ _ _ (c.begin.ensures.by_index _ _ _) _ c.if-d-gt-DEEPEST.false c.hold.result _ c.in-Value.is c.hold.ensures in
-    record { u_after = r.0; index = r.1 }
-
-pub parse_ref-returns-in-Refused-inner : goal.parse_ref-returns-in-Refused-inner
-parse_ref-returns-in-Refused-inner t c =
-    record { u_after = ref_inner_no _ _ _ _ _ c.requires.ready c.if-p-at.false _ c.byte-b.ensures c.if-kind-eq1.false _ _ _ (c.begin.ensures.by_index _ _ _) _ c.if-d-gt-DEEPEST.false c.in-Inner.is (seen_no _ c.in-Refused-inner.is c.parse_inner-inner.ensures.u_after); index = tt }
-
-pub parse_ref-returns-in-Got : goal.parse_ref-returns-in-Got
-parse_ref-returns-in-Got t c =
-    let i = out_index _ (seen_got _ c.in-Got.is refl) c.parse_inner-inner.ensures.index in
-    let r = ref_inner_got _ _ _ _ _ c.requires.ready c.if-p-at.false _ c.byte-b.ensures c.if-kind-eq1.false _ _ _ (c.begin.ensures.by_index _ _ _) _ c.if-d-gt-DEEPEST.false c.in-Inner.is c.hold-in-Got.result _ _ _ (seen_got _ c.in-Got.is c.parse_inner-inner.ensures.u_after) i c.hold-in-Got.ensures in
-    record { u_after = r.0; index = r.1 }
-
--- ---- parse_inner
-
-pub parse_inner-leaf_at-leaf-requires : goal.parse_inner-leaf_at-leaf-requires
-parse_inner-leaf_at-leaf-requires t c = leaf_asks c.requires.ready _ c.word_bytes-word.ensures.0
-
-pub parse_inner-returns-then-leaf-ne0 : goal.parse_inner-returns-then-leaf-ne0
-parse_inner-returns-then-leaf-ne0 t c =
-    let a = c.args in
-    let l = lent a.ot.now a.st.now a.vt.now a.dt.now a.hr.now a.c.now a.u.now in
-    let r = leaf_ref a.v.now a.p.now a.k a.tr.now a.h.now a.sc.now a.s l c.requires.ready a.d c.if-d-lt-DEEPEST.true c.leaf_at-leaf.result c.if-leaf-ne0.true c.leaf_at-leaf.ensures.at_in_bounds c.word_bytes-word.result c.word_bytes-word.ensures.0 (found_in _ _ _ _ _ _ _ _ _ _ _ _ c.leaf_at-leaf.ensures.found) c.take_leaf.result _ c.take_leaf.ensures in
-    record { u_after = r.0; index = r.1 }
-
--- ---- parse_object
-
-pub parse_object-loop-b-init : goal.parse_object-loop-b-init
-parse_object-loop-b-init t c =
-    let a = c.args in
-    let x = input a.v.now a.p.now a.k a.tr.now in
-    nest_start x a.h.now a.d a.at a.a (mem a.s (lent a.ot.now a.st.now a.vt.now a.dt.now a.hr.now a.c.now a.u.now)) a.sc.now c.requires.ready c.requires.d_bound.0 c.requires.d_bound.1 _ refl c.unread-level.ensures
-
-pub parse_object-returns-in-Refused : goal.parse_object-returns-in-Refused
-parse_object-returns-in-Refused t c =
-    let a = c.args in
-    let x = input a.v.now a.p.now a.k a.tr.now in
-    record { u_after = nest_headless x a.h.now a.d c.loop-b.invariant c.if-done-eq0.true (count_no (lent _ _ _ _ _ _ _) c.in-Refused.is c.parse_head-head.ensures.u_after); index = tt }
-
-pub parse_object-loop-b-smaller-in-Is : goal.parse_object-loop-b-smaller-in-Is
-parse_object-loop-b-smaller-in-Is t c =
-    let a = c.args in
-    let x = input a.v.now a.p.now a.k a.tr.now in
-    let w = c.loop-b.invariant in
-    let r = c.parse_head-head.ensures in
-    let z = nest_headed x a.h.now a.d w c.if-done-eq0.true (count_is (lent _ _ _ _ _ _ _) c.in-Is.is r.u_after) (count_below (2 ^ 33) c.in-Is.is r.small) (out_index _ (count_is (lent _ _ _ _ _ _ _) c.in-Is.is refl) r.index) _ _ refl c.word_bytes-word.ensures.0 in
-    omega (arith, z.1, c.if-done-eq0.true, (word_some w.ready).1, c.word_bytes-word.ensures.0)
-
-pub parse_object-loop-b-preserved-in-Is : goal.parse_object-loop-b-preserved-in-Is
-parse_object-loop-b-preserved-in-Is t c =
-    let a = c.args in
-    let x = input a.v.now a.p.now a.k a.tr.now in
-    let r = c.parse_head-head.ensures in
-    (nest_headed x a.h.now a.d c.loop-b.invariant c.if-done-eq0.true (count_is (lent _ _ _ _ _ _ _) c.in-Is.is r.u_after) (count_below (2 ^ 33) c.in-Is.is r.small) (out_index _ (count_is (lent _ _ _ _ _ _ _) c.in-Is.is refl) r.index) _ _ refl c.word_bytes-word.ensures.0).0
-
-pub parse_object-returns-then-done-size : goal.parse_object-returns-then-done-size
-parse_object-returns-then-done-size t c =
-    let a = c.args in
-    let x = input a.v.now a.p.now a.k a.tr.now in
-    record { u_after = nest_over x a.h.now a.d c.loop-b.invariant (omega (arith, c.if-done-eq0.false)) c.if-size-done.true c.if-done-size.true; index = tt }
-
-pub parse_object-returns-then-kept-eq0 : goal.parse_object-returns-then-kept-eq0
-parse_object-returns-then-kept-eq0 t c =
-    let a = c.args in
-    let x = input a.v.now a.p.now a.k a.tr.now in
-    record { u_after = nest_whole x a.h.now a.d c.loop-b.invariant (omega (arith, c.if-done-eq0.false)) c.if-done-size.false c.if-kept-eq0.true; index = c.loop-b.invariant.ready.index }
-
-pub parse_object-nonzero_div-start : goal.parse_object-nonzero_div-start
-parse_object-nonzero_div-start t c = omega (arith, (word_some c.loop-b.invariant.ready).1, c.word_bytes-word.ensures.0)
-
-pub parse_object-returns-then-not-put_object : goal.parse_object-returns-then-not-put_object
-parse_object-returns-then-not-put_object t c =
-    let a = c.args in
-    let x = input a.v.now a.p.now a.k a.tr.now in
-    let b = c.loop-b in
-    let outer = get_or b.levels (b.kept - 1) (unread_at 0 0) in
-    let full = object_roomless x outer.object outer.done b.level.object b.t (lent b.ot b.st b.vt b.dt b.hr b.c b.u) c.word_bytes-word.ensures.0 c.put_object.ensures c.if-not-put_object.true in
-    record { u_after = nest_roomless x a.h.now a.d b.invariant (omega (arith, c.if-done-eq0.false)) c.if-done-size.false {j = b.kept - 1} (omega (arith, c.if-kept-eq0.false)) full; index = tt }
-
-pub parse_object-loop-b-preserved-then-size-done : goal.parse_object-loop-b-preserved-then-size-done
-parse_object-loop-b-preserved-then-size-done t c =
-    let a = c.args in
-    let x = input a.v.now a.p.now a.k a.tr.now in
-    let b = c.loop-b in
-    let outer = get_or b.levels (b.kept - 1) (unread_at 0 0) in
-    let l = lent b.ot b.st b.vt b.dt b.hr b.c b.u in
-    let put = object_item x outer.object outer.done b.level.object b.t l c.word_bytes-word.ensures.0 c.put_object.ensures c.if-not-put_object.false in
-    let i = object_index x outer.object outer.done b.level.object b.t l c.word_bytes-word.ensures.0 c.put_object.ensures c.if-not-put_object.false b.invariant.ready in
-    nest_ends x a.h.now a.d b.invariant (omega (arith, c.if-done-eq0.false)) c.if-done-size.false {j = b.kept - 1} (omega (arith, c.if-kept-eq0.false)) put i
-
-pub parse_object-loop-b-preserved-then-begins_object : goal.parse_object-loop-b-preserved-then-begins_object
-parse_object-loop-b-preserved-then-begins_object t c =
-    let a = c.args in
-    let x = input a.v.now a.p.now a.k a.tr.now in
-    nest_begins x a.h.now a.d c.loop-b.invariant (omega (arith, c.if-done-eq0.false)) c.if-size-done.false (c.begins_object.ensures c.if-begins_object.true) c.child_at-level.ensures.1 c.child_at-level.ensures.0
-
-pub parse_object-returns-then-not-item : goal.parse_object-returns-then-not-item
-parse_object-returns-then-not-item t c =
-    let a = c.args in
-    let x = input a.v.now a.p.now a.k a.tr.now in
-    record { u_after = nest_no x a.h.now a.d c.loop-b.invariant (omega (arith, c.if-done-eq0.false)) c.if-size-done.false (item_no c.parse_item-item.result (lent _ _ _ _ _ _ _) c.parse_item-item.ensures.u_after (not-true _ c.if-not-item.true)); index = tt }
-
-pub parse_object-loop-b-smaller : goal.parse_object-loop-b-smaller
-parse_object-loop-b-smaller t c =
-    let a = c.args in
-    let x = input a.v.now a.p.now a.k a.tr.now in
-    let r = c.parse_item-item in
-    let z = nest_item x a.h.now a.d c.loop-b.invariant (omega (arith, c.if-done-eq0.false)) c.if-size-done.false (item_is r.result (lent _ _ _ _ _ _ _) r.ensures.u_after (not-false _ c.if-not-item.false)) (out_index _ (item_is r.result (lent _ _ _ _ _ _ _) refl (not-false _ c.if-not-item.false)) r.ensures.index) in
-    omega (arith, z.1, z.0.ready.sound.within, c.if-done-eq0.false)
-
-pub parse_object-loop-b-preserved : goal.parse_object-loop-b-preserved
-parse_object-loop-b-preserved t c =
-    let a = c.args in
-    let x = input a.v.now a.p.now a.k a.tr.now in
-    let r = c.parse_item-item in
-    (nest_item x a.h.now a.d c.loop-b.invariant (omega (arith, c.if-done-eq0.false)) c.if-size-done.false (item_is r.result (lent _ _ _ _ _ _ _) r.ensures.u_after (not-false _ c.if-not-item.false)) (out_index _ (item_is r.result (lent _ _ _ _ _ _ _) refl (not-false _ c.if-not-item.false)) r.ensures.index)).0
 
 -- ---- parse_head
 
-pub parse_head-returns-then-not-is_tag : goal.parse_head-returns-then-not-is_tag
-parse_head-returns-then-not-is_tag t c =
+pub parse_head-resolves-requires-clause-usable : goal.parse_head-resolves-requires-clause-usable
+parse_head-resolves-requires-clause-usable t c =
     let a = c.args in
-    let l = lent a.ot.now a.st.now a.vt.now a.dt.now a.hr.now a.c.now a.u.now in
-    let g = c.requires.ready in
-    let z = c.open_leaf-opened.ensures.opens c.if-map-ne0.true in
-    record {
-      u_after = leaf_headed a.v.now a.p.now a.k a.tr.now a.h.now a.sc.now a.s l g a.d z.0 c.open_leaf-opened.result c.if-map-ne0.true z.1 a.a a.at _ _ _ _ _ _ z.2 z.3 c.word_bytes-word.ensures.0 refl (resolve_not a.v.now a.p.now _ c.peek.ensures c.is_tag.ensures c.if-not-is_tag.true);
-      index = opened_index a.v.now a.p.now a.k a.tr.now a.h.now a.sc.now a.s l g a.d z.0 c.open_leaf-opened.result c.if-map-ne0.true z.1 a.a a.at _ _ _ _ _ _ z.2 z.3;
-      small = bytes_small _ g.proper.sheet_usable c.word_bytes-word.ensures.0 z.1.small;
-    }
+    let r = c.in-Some.ensures in
+    let g = leaf_opened c.requires.ready a.d a.a a.at c.requires.depth.1 r.read r.rest (r.indexed c.requires.ready.indexed) r.linked in
+    (g.proper.sheet_usable, g.sound.within)
 
-pub parse_head-resolves-requires : goal.parse_head-resolves-requires
-parse_head-resolves-requires t c =
+pub parse_head-resolves-requires-clause-waits : goal.parse_head-resolves-requires-clause-waits
+parse_head-resolves-requires-clause-waits t c =
     let a = c.args in
-    let l = lent a.ot.now a.st.now a.vt.now a.dt.now a.hr.now a.c.now a.u.now in
-    let z = c.open_leaf-opened.ensures.opens c.if-map-ne0.true in
-    let r = resolves_asks (leaf_ready a.v.now a.p.now a.k a.tr.now a.h.now a.sc.now a.s l c.requires.ready a.d z.0 c.open_leaf-opened.result c.if-map-ne0.true z.1 a.a a.at _ _ _ _ _ _ z.2 z.3 c.requires.d_bound.1) in
-    record { sheet_value = r.0; at_in_bounds = r.1 }
+    let r = c.in-Some.ensures in
+    let g = leaf_opened c.requires.ready a.d a.a a.at c.requires.depth.1 r.read r.rest (r.indexed c.requires.ready.indexed) r.linked in
+    (omega (arith, g.sound.slots_fit), g.indexed, g.numbered)
 
-pub parse_head-returns-in-Refused : goal.parse_head-returns-in-Refused
-parse_head-returns-in-Refused t c =
+pub parse_head-returns-in_err-u-clause-is : goal.parse_head-returns-in_err-u-clause-is
+parse_head-returns-in_err-u-clause-is t c =
     let a = c.args in
-    let l = lent a.ot.now a.st.now a.vt.now a.dt.now a.hr.now a.c.now a.u.now in
-    let z = c.open_leaf-opened.ensures.opens c.if-map-ne0.true in
-    record { u_after = unresolved_headed a.v.now a.p.now a.k a.tr.now a.h.now a.sc.now a.s l c.requires.ready a.d z.0 c.open_leaf-opened.result c.if-map-ne0.true z.1 a.a a.at _ _ _ _ _ _ z.2 z.3 c.word_bytes-word.ensures.0 refl (went_no (lent _ _ _ _ _ _ _) c.in-Refused.is (c.resolves.ensures.by_index a.tr.now a.k (lent _ [] _ _ _ _ _))); index = tt; small = tt }
+    let r = c.in-Some.ensures in
+    passed_on _ _ _ c.from_residual.ensures.1 ∙ leaf_no c.requires.ready a.d a.a a.at c.requires.depth.1 r.read r.rest c.in_err-u.ensures.is
 
-pub parse_head-returns-in-On : goal.parse_head-returns-in-On
-parse_head-returns-in-On t c =
+pub parse_head-returns-in-Some-clause-is : goal.parse_head-returns-in-Some-clause-is
+parse_head-returns-in-Some-clause-is t c =
     let a = c.args in
-    let l = lent a.ot.now a.st.now a.vt.now a.dt.now a.hr.now a.c.now a.u.now in
-    let g = c.requires.ready in
-    let z = c.open_leaf-opened.ensures.opens c.if-map-ne0.true in
-    let part = lent [] c.resolves.new.slots [] c.open_leaf-opened.new.dt [] [] [] in
-    let before = mem (opened_state c.open_leaf-opened.result a.s) (lent [] c.open_leaf-opened.new.st [] c.open_leaf-opened.new.dt [] [] []) in
-    let i = (leaf_ready a.v.now a.p.now a.k a.tr.now a.h.now a.sc.now a.s l g a.d z.0 c.open_leaf-opened.result c.if-map-ne0.true z.1 a.a a.at _ _ _ _ _ _ z.2 z.3 c.requires.d_bound.1).index in
-    record {
-      u_after = resolved-headed a.v.now a.p.now a.k a.tr.now a.h.now a.sc.now a.s l g a.d z.0 c.open_leaf-opened.result c.if-map-ne0.true z.1 a.a a.at _ _ _ _ _ _ z.2 z.3 c.word_bytes-word.ensures.0 refl (went_on (lent _ _ _ _ _ _ _) c.in-On.is (c.resolves.ensures.by_index a.tr.now a.k (lent _ [] _ _ _ _ _)));
-      index = out_index _ (went_on part c.in-On.is refl) (went_index _ before _ _ refl i.linked c.resolves.result part (c.resolves.ensures.by_index a.tr.now a.k (lent [] [] [] c.open_leaf-opened.new.dt [] [] [])) (resolves_ground _ _ _ _) c.resolves.ensures.index);
-      small = bytes_small _ g.proper.sheet_usable c.word_bytes-word.ensures.0 z.1.small;
-    }
+    let r = c.in-Some.ensures in
+    leaf_on c.requires.ready a.d a.a a.at c.requires.depth.1 r.read r.rest c.in_ok-u.ensures.is
+
+pub parse_head-returns-in-Some-clause-after : goal.parse_head-returns-in-Some-clause-after
+parse_head-returns-in-Some-clause-after t c =
+    let a = c.args in
+    let r = c.in-Some.ensures in
+    let q = c.in_ok-u.ensures in
+    leaf_ended c.requires.ready a.d a.a a.at c.requires.depth.1 r.read r.rest (r.indexed c.requires.ready.indexed) r.linked q.is q.index q.kept
 
 pub parse_head-parse_map-requires : goal.parse_head-parse_map-requires
-parse_head-parse_map-requires t c = (
-  omega arith,
-  let a = c.args in
-      let l = lent a.ot.now a.st.now a.vt.now a.dt.now a.hr.now a.c.now a.u.now in
-      let g = c.requires.ready in
-      let e = count_is (lent _ _ _ _ _ _ _) c.in-Is.is (c.open_object.ensures.by_index _ _ (lent [] _ _ _ _ _ _)) in
-      let b = bytes_small _ g.proper.sheet_usable c.word_bytes-word.ensures.0 (count_below (2 ^ 30) c.in-Is.is c.open_object.ensures.small) in
-      let q = opened_ready (unopened_ready a.s l (c.open_leaf-opened.ensures.unopened c.if-map-ne0.false) g) a.a a.at e in
-      (q.0, (c.requires.d_bound.0, c.requires.d_bound.1, b, q.1, bytes_whole _ c.word_bytes-word.ensures.0)),
-)
-
-pub parse_head-returns-in-Refused-open_object : goal.parse_head-returns-in-Refused-open_object
-parse_head-returns-in-Refused-open_object t c =
+parse_head-parse_map-requires t c =
     let a = c.args in
-    let x = input a.v.now a.p.now a.k a.tr.now in
-    let l = lent a.ot.now a.st.now a.vt.now a.dt.now a.hr.now a.c.now a.u.now in
-    let e = count_no (lent _ _ _ _ _ _ _) c.in-Refused-open_object.is (c.open_object.ensures.by_index _ _ (lent [] _ _ _ _ _ _)) in
-    record { u_after = unopened_headed a.s l (c.open_leaf-opened.ensures.unopened c.if-map-ne0.false) x (ref_at x (64 - a.d)) a.a a.at (headed_cut _ _ a.a a.at _ e); index = tt; small = tt }
+    let n = c.open_leaf.ensures in
+    let s = c.in_default.ensures.none refl in
+    let g = ready_still (n.rest.0, (n.rest.1, s.1)) s.0 c.requires.ready in
+    let q = c.in_ok-words.ensures in
+    let z = record_ready g a.a a.at q.kept q.is in
+    (omega arith, (z.0, (c.requires.depth.0, c.requires.depth.1, bytes_small _ c.requires.ready.proper.sheet_usable c.word_bytes-word.ensures.0 q.small, z.1, bytes_whole _ (rw (q.kept.0.sheet, n.rest.0.sheet) c.word_bytes-word.ensures.0))))
 
-pub parse_head-returns-in-Refused-parse_map : goal.parse_head-returns-in-Refused-parse_map
-parse_head-returns-in-Refused-parse_map t c =
-    let a = c.args in
-    let x = input a.v.now a.p.now a.k a.tr.now in
-    let l = lent a.ot.now a.st.now a.vt.now a.dt.now a.hr.now a.c.now a.u.now in
-    let e = count_is (lent _ _ _ _ _ _ _) c.in-Is.is (c.open_object.ensures.by_index _ _ (lent [] _ _ _ _ _ _)) in
-    let f = went_no (lent _ _ _ _ _ _ _) c.in-Refused-parse_map.is c.parse_map.ensures.u_after in
-    record { u_after = unopened_headed a.s l (c.open_leaf-opened.ensures.unopened c.if-map-ne0.false) x (ref_at x (64 - a.d)) a.a a.at (headed_bad _ _ a.a a.at _ e (ap (λ (w : ℕ). c.in-Is.words * w) c.word_bytes-word.ensures.0) f); index = tt; small = tt }
+pub parse_head-returns-clause-small : goal.parse_head-returns-clause-small
+parse_head-returns-clause-small t c = bytes_small _ c.requires.ready.proper.sheet_usable c.word_bytes-word.ensures.0 c.in_ok-words.ensures.small
 
-pub parse_head-returns-in-On-parse_map : goal.parse_head-returns-in-On-parse_map
-parse_head-returns-in-On-parse_map t c =
+-- ---- parse_inner
+
+pub parse_inner-take_leaf-requires : goal.parse_inner-take_leaf-requires
+parse_inner-take_leaf-requires t c =
+    let w = word_some (order_of c.requires.ready) in
+    (c.word_bytes.ensures.0, omega (arith, w.0, c.word_bytes.ensures.0), c.requires.ready.decoded)
+
+pub parse_inner-returns-in-Some-clause-is : goal.parse_inner-returns-in-Some-clause-is
+parse_inner-returns-in-Some-clause-is t c =
     let a = c.args in
-    let x = input a.v.now a.p.now a.k a.tr.now in
-    let l = lent a.ot.now a.st.now a.vt.now a.dt.now a.hr.now a.c.now a.u.now in
-    let e = count_is (lent _ _ _ _ _ _ _) c.in-Is.is (c.open_object.ensures.by_index _ _ (lent [] _ _ _ _ _ _)) in
-    let f = went_on (lent _ _ _ _ _ _ _) c.in-On-parse_map.is c.parse_map.ensures.u_after in
-    record {
-      u_after = unopened_headed a.s l (c.open_leaf-opened.ensures.unopened c.if-map-ne0.false) x (ref_at x (64 - a.d)) a.a a.at (headed_on _ _ a.a a.at _ e (ap (λ (w : ℕ). c.in-Is.words * w) c.word_bytes-word.ensures.0) f);
-      index = out_index _ (went_on (lent _ _ _ _ _ _ _) c.in-On-parse_map.is refl) c.parse_map.ensures.index;
-      small = bytes_small _ c.requires.ready.proper.sheet_usable c.word_bytes-word.ensures.0 (count_below (2 ^ 30) c.in-Is.is c.open_object.ensures.small);
-    }
+    let x = input_of a.w.now in
+    c.in-Some.ensures.read (ref_at x (63 - a.d)) ∙ one_level x a.d c.if-d-lt-DEEPEST.true (mem a.s (lent_of a.w.now))
+
+pub parse_inner-returns-in-Some-clause-after : goal.parse_inner-returns-in-Some-clause-after
+parse_inner-returns-in-Some-clause-after t c = let r = c.in-Some.ensures in leaf_after c.requires.ready _ r.kept r.order
+
+-- ---- parse_item
+
+pub parse_item-returns-then-is_tag-clause-is : goal.parse_item-returns-then-is_tag-clause-is
+parse_item-returns-then-is_tag-clause-is t c =
+    let a = c.args in
+    let x = input_of a.w.now in
+    let e = deferred_is a.w.now.sheet.now a.w.now.payload.now a.s.at c.peek.ensures c.is_tag.ensures c.if-is_tag.true in
+    item_deferred x (ref_at x (64 - a.d)) a.level.object a.level.size a.level.done (mem a.s (lent_of a.w.now)) e (deferred_inside (order_of c.requires.ready) e)
+
+pub parse_item-returns-in-Some-clause-is : goal.parse_item-returns-in-Some-clause-is
+parse_item-returns-in-Some-clause-is t c =
+    let a = c.args in
+    let x = input_of a.w.now in
+    let r = c.in-Some.ensures in
+    let n = deferred_not a.w.now.sheet.now a.w.now.payload.now a.s.at c.peek.ensures c.is_tag.ensures c.if-is_tag.false in
+    item_slot x (ref_at x (64 - a.d)) a.level.object a.level.size a.level.done (mem a.s (lent_of a.w.now)) n (r.read.1 (ref_at x (63 - a.d)) ∙ leaf_slot x a.d a.level.object a.level.done r.read.0 (mem a.s (lent_of a.w.now)))
 
 -- ---- parse_map
 
-pub parse_map-after_map-requires : goal.parse_map-after_map-requires
-parse_map-after_map-requires t c =
+pub parse_map-returns-in_err-map-clause-is : goal.parse_map-returns-in_err-map-clause-is
+parse_map-returns-in_err-map-clause-is t c =
     let a = c.args in
-    let b = c.requires.d_bound in
-    let r = c.parse_inner.ensures in
-    let e = seen_got (lent _ _ _ _ _ _ _) c.in-Got.is r.u_after in
-    let s = after_asks c.requires.ready a.d a.a a.n a.o e _ (out_index _ (seen_got (lent _ _ _ _ _ _ _) c.in-Got.is refl) r.index) b.1 b.2 in
-    record { sheet_value = s.0; space_bound = s.1 }
+    passed_on _ _ _ c.from_residual.ensures.1 ∙ mapped_no (order_of c.requires.ready) a.d a.a a.n a.o c.in_err-map.ensures.is
+
+pub parse_map-after_map-requires-clause-sheet_value : goal.parse_map-after_map-requires-clause-sheet_value
+parse_map-after_map-requires-clause-sheet_value t c =
+    let b = c.requires.depth in
+    let r = c.in_ok-map.ensures in
+    let g = value_ready c.requires.ready (64 - c.args.d) r.after r.is in
+    (g.proper.sheet_usable, b.1, b.2, g.sound.within, g.proper.short)
+
+pub parse_map-after_map-requires-clause-linked_before : goal.parse_map-after_map-requires-clause-linked_before
+parse_map-after_map-requires-clause-linked_before t c =
+    let r = c.in_ok-map.ensures in
+    let g = value_ready c.requires.ready (64 - c.args.d) r.after r.is in
+    (g.counted.chunk_low c.args.a, g.linked)
+
+pub parse_map-returns-in_err-u-clause-is : goal.parse_map-returns-in_err-u-clause-is
+parse_map-returns-in_err-u-clause-is t c =
+    let a = c.args in
+    let r = c.in_ok-map.ensures in
+    passed_on _ _ _ c.from_residual-in_err-u.ensures.1 ∙ followed_no c.requires.ready a.d a.a a.n a.o c.requires.depth r.after r.is c.in_err-u.ensures.is
 
 pub parse_map-keep_map-requires : goal.parse_map-keep_map-requires
 parse_map-keep_map-requires t c =
     let a = c.args in
-    let b = c.requires.d_bound in
-    let e = seen_got (lent _ _ _ _ _ _ _) c.in-Got.is c.parse_inner.ensures.u_after in
-    let f = went_on (lent _ _ _ _ _ _ _) c.in-On.is (c.after_map.ensures.by_index _ (lent _ _ _ [] _ [] [])) in
-    keep_asks c.requires.ready a.d a.a a.n a.o e f b.3 b.1 b.4 (omega arith)
+    let r = c.in_ok-map.ensures in
+    let q = c.in_ok-u.ensures in
+    map_asks c.requires.ready a.d a.a a.n a.o c.requires.depth r.after r.is q.is q.rest (omega arith)
 
-pub parse_map-resolves-requires : goal.parse_map-resolves-requires
-parse_map-resolves-requires t c =
+pub parse_map-returns-in_err-y-clause-is : goal.parse_map-returns-in_err-y-clause-is
+parse_map-returns-in_err-y-clause-is t c =
     let a = c.args in
-    let b = c.requires.d_bound in
-    let e = seen_got (lent _ _ _ _ _ _ _) c.in-Got.is c.parse_inner.ensures.u_after in
-    let f = went_on (lent _ _ _ _ _ _ _) c.in-On.is (c.after_map.ensures.by_index _ (lent _ _ _ [] _ [] [])) in
-    let k = went_on (lent _ _ _ _ _ _ _) c.in-On-keep_map.is (c.keep_map.ensures _ _ _ (lent [] [] _ _ _ _ _)) in
-    let i = out_index _ (seen_got (lent _ _ _ _ _ _ _) c.in-Got.is refl) c.parse_inner.ensures.index in
-    let s = resolves_asks (kept_ready c.requires.ready a.d a.a a.n a.o e f b.3 b.1 b.4 c.parse_inner.new.sc c.after_map.new.scratch i c.after_map.ensures.front (went_linked _ _ c.in-On.is c.after_map.ensures.linked) k) in
-    record { sheet_value = s.0; at_in_bounds = s.1 }
+    let r = c.in_ok-map.ensures in
+    let q = c.in_ok-u.ensures in
+    passed_on _ _ _ c.from_residual-in_err-y.ensures.1 ∙ kept_no c.requires.ready a.d a.a a.n a.o c.requires.depth r.after r.is q.is q.rest c.in_err-y.ensures.is
 
-pub parse_map-returns-in-Refused : goal.parse_map-returns-in-Refused
-parse_map-returns-in-Refused t c =
+pub parse_map-resolves-requires-clause-usable : goal.parse_map-resolves-requires-clause-usable
+parse_map-resolves-requires-clause-usable t c =
     let a = c.args in
-    record { u_after = mapped_no c.requires.ready a.d a.a a.n a.o (seen_no (lent _ _ _ _ _ _ _) c.in-Refused.is c.parse_inner.ensures.u_after); index = tt }
+    let r = c.in_ok-map.ensures in
+    let q = c.in_ok-u.ensures in
+    let k = c.in_ok-y.ensures in
+    let g = resolves_ready c.requires.ready a.d a.a a.n a.o c.requires.depth r.after r.is q.is q.rest q.linked k.is k.kept in
+    (g.proper.sheet_usable, g.sound.within)
 
-pub parse_map-returns-in-Refused-after_map : goal.parse_map-returns-in-Refused-after_map
-parse_map-returns-in-Refused-after_map t c =
+pub parse_map-resolves-requires-clause-waits : goal.parse_map-resolves-requires-clause-waits
+parse_map-resolves-requires-clause-waits t c =
     let a = c.args in
-    let e = seen_got (lent _ _ _ _ _ _ _) c.in-Got.is c.parse_inner.ensures.u_after in
-    let f = went_no (lent _ _ _ _ _ _ _) c.in-Refused-after_map.is (c.after_map.ensures.by_index _ (lent _ _ _ [] _ [] [])) in
-    record { u_after = mapped_bad c.requires.ready a.d a.a a.n a.o e f; index = tt }
+    let r = c.in_ok-map.ensures in
+    let q = c.in_ok-u.ensures in
+    let k = c.in_ok-y.ensures in
+    let g = resolves_ready c.requires.ready a.d a.a a.n a.o c.requires.depth r.after r.is q.is q.rest q.linked k.is k.kept in
+    (omega (arith, g.sound.slots_fit), g.indexed, g.numbered)
 
-pub parse_map-returns-in-Refused-keep_map : goal.parse_map-returns-in-Refused-keep_map
-parse_map-returns-in-Refused-keep_map t c =
+pub parse_map-returns : goal.parse_map-returns
+parse_map-returns t c =
     let a = c.args in
-    let e = seen_got (lent _ _ _ _ _ _ _) c.in-Got.is c.parse_inner.ensures.u_after in
-    let f = went_on (lent _ _ _ _ _ _ _) c.in-On.is (c.after_map.ensures.by_index _ (lent _ _ _ [] _ [] [])) in
-    let k = went_no (lent _ _ _ _ _ _ _) c.in-Refused-keep_map.is (c.keep_map.ensures _ _ _ (lent [] [] _ _ _ _ _)) in
-    record { u_after = mapped_full c.requires.ready a.d a.a a.n a.o e f k; index = tt }
+    let r = c.in_ok-map.ensures in
+    let q = c.in_ok-u.ensures in
+    let k = c.in_ok-y.ensures in
+    let y = c.resolves.ensures in
+    let z = map_ended c.requires.ready a.d a.a a.n a.o c.requires.depth r.after r.is q.is q.rest q.linked k.is k.kept c.resolves.result y.is y.index y.kept in
+    record { is = z.0; after = z.1 }
 
-pub parse_map-returns-in-On-keep_map : goal.parse_map-returns-in-On-keep_map
-parse_map-returns-in-On-keep_map t c =
+-- ---- parse_object
+
+pub parse_object-loop-o-init : goal.parse_object-loop-o-init
+parse_object-loop-o-init t c =
     let a = c.args in
-    let b = c.requires.d_bound in
-    let e = seen_got (lent _ _ _ _ _ _ _) c.in-Got.is c.parse_inner.ensures.u_after in
-    let f = went_on (lent _ _ _ _ _ _ _) c.in-On.is (c.after_map.ensures.by_index _ (lent _ _ _ [] _ [] [])) in
-    let k = went_on (lent _ _ _ _ _ _ _) c.in-On-keep_map.is (c.keep_map.ensures _ _ _ (lent [] [] _ _ _ _ _)) in
-    let i = out_index _ (seen_got (lent _ _ _ _ _ _ _) c.in-Got.is refl) c.parse_inner.ensures.index in
-    let r = kept_ready c.requires.ready a.d a.a a.n a.o e f b.3 b.1 b.4 c.parse_inner.new.sc c.after_map.new.scratch i c.after_map.ensures.front (went_linked _ _ c.in-On.is c.after_map.ensures.linked) k in
-    let l = lent c.keep_map.new.objects c.keep_map.new.slots c.parse_inner.new.vt c.after_map.new.addresses c.parse_inner.new.hr c.after_map.new.cur c.after_map.new.used in
-    let s = c.resolves.ensures.by_index a.tr.now a.k l in
-    record {
-      u_after = mapped_on c.requires.ready a.d a.a a.n a.o e f k s;
-      index = went_index (length a.p.now) (mem c.in-On-keep_map.w l) _ _ refl r.index.linked c.resolves.result (lent _ _ _ _ _ _ _) s (resolves_ground _ _ _ _) c.resolves.ensures.index;
-    }
+    record { nest = nest_start (input_of a.w.now) a.w.now.heads.now a.d a.at a.a (mem a.s (lent_of a.w.now)) (scratch_of a.w.now) (order_of c.requires.ready) c.requires.depth.0 c.requires.depth.1 c.new-outer.ensures c.unread-level.ensures; fixed = fixed_refl a.w.now }
 
--- ---- parse_item
+-- the head
 
-pub parse_item-returns-then-is_tag : goal.parse_item-returns-then-is_tag
-parse_item-returns-then-is_tag t c =
-    let a = c.args in
-    let x = input a.v.now a.p.now a.k a.tr.now in
-    let l = lent a.ot.now a.st.now a.vt.now a.dt.now a.hr.now a.c.now a.u.now in
+pub parse_object-returns-in_err-size-clause-is : goal.parse_object-returns-in_err-size-clause-is
+parse_object-returns-in_err-size-clause-is t c =
+    passed_on _ _ _ c.from_residual.ensures.1 ∙ turn_headless c.loop-o.invariant c.len.ensures.value c.if-done-eq0.true c.in_err-size.ensures.is
+
+pub parse_object-loop-o-smaller-then-done-eq0 : goal.parse_object-loop-o-smaller-then-done-eq0
+parse_object-loop-o-smaller-then-done-eq0 t c =
+    let i = c.loop-o.invariant in
+    let q = c.in_ok-size.ensures in
+    let z = turn_headed i c.len.ensures.value c.if-done-eq0.true q.is q.small q.after _ c.word_bytes-word.ensures.0 in
+    rw q.after.fixed.payload (omega (arith, word_some i.nest.ready))
+
+pub parse_object-loop-o-preserved-then-done-eq0 : goal.parse_object-loop-o-preserved-then-done-eq0
+parse_object-loop-o-preserved-then-done-eq0 t c =
+    let q = c.in_ok-size.ensures in
+    (turn_headed c.loop-o.invariant c.len.ensures.value c.if-done-eq0.true q.is q.small q.after _ c.word_bytes-word.ensures.0).0
+
+-- an object that is full
+
+pub parse_object-returns-then-done-level-clause-is : goal.parse_object-returns-then-done-level-clause-is
+parse_object-returns-then-done-level-clause-is t c =
+    rw c.refused_at.ensures (nest_over _ _ _ c.loop-o.invariant.nest (omega arith) c.if-level-done.true c.if-done-level.true)
+
+pub parse_object-returns-in_default-clause-is : goal.parse_object-returns-in_default-clause-is
+parse_object-returns-in_default-clause-is t c =
+    nest_whole _ _ _ c.loop-o.invariant.nest (omega arith) c.if-done-level.false (λ b. false≢true (c.in_default.ensures.variant.1 b))
+
+pub parse_object-put_object-requires : goal.parse_object-put_object-requires
+parse_object-put_object-requires t c =
+    turn_put c.loop-o.invariant (omega arith) c.if-done-level.false _ _ c.in-Some.ensures.items (omega arith) _ c.word_bytes-word.ensures.0
+
+pub parse_object-returns-in_err-read-clause-is : goal.parse_object-returns-in_err-read-clause-is
+parse_object-returns-in_err-read-clause-is t c =
+    passed_on _ _ _ c.from_residual-in_err-read.ensures.1
+    ∙ turn_roomless c.loop-o.invariant (omega arith) c.if-done-level.false _ _ c.in-Some.ensures.items (c.in_err-read.ensures.is (input_of c.args.w.now) (sym c.word_bytes-word.ensures.0))
+
+pub parse_object-loop-o-smaller-then-level-done : goal.parse_object-loop-o-smaller-then-level-done
+parse_object-loop-o-smaller-then-level-done t c =
+    let q = c.in_ok-read.ensures in
+    let z = turn_ends c.loop-o.invariant (omega arith) c.if-done-level.false _ _ c.in-Some.ensures.items (q.is (input_of c.args.w.now) (sym c.word_bytes-word.ensures.0)) q.kept in
+    rw q.kept.0.payload (omega (arith, c.in-Some.ensures.len))
+
+pub parse_object-loop-o-preserved-then-level-done : goal.parse_object-loop-o-preserved-then-level-done
+parse_object-loop-o-preserved-then-level-done t c =
+    let q = c.in_ok-read.ensures in
+    (turn_ends c.loop-o.invariant (omega arith) c.if-done-level.false _ _ c.in-Some.ensures.items (q.is (input_of c.args.w.now) (sym c.word_bytes-word.ensures.0)) q.kept).0
+
+-- the next item
+
+pub parse_object-loop-o-preserved-then-begins_object : goal.parse_object-loop-o-preserved-then-begins_object
+parse_object-loop-o-preserved-then-begins_object t c =
+    turn_begins c.loop-o.invariant c.len.ensures.value (omega arith) c.if-level-done.false (c.begins_object.ensures c.if-begins_object.true) c.push.ensures.items c.child_at-level.ensures
+
+pub parse_object-returns-in_err-read-2-clause-is : goal.parse_object-returns-in_err-read-2-clause-is
+parse_object-returns-in_err-read-2-clause-is t c =
+    passed_on _ _ _ c.from_residual-in_err-read-2.ensures.1
+    ∙ turn_no c.loop-o.invariant c.len.ensures.value (omega arith) c.if-level-done.false c.in_err-read-2.ensures.is
+
+pub parse_object-loop-o-smaller : goal.parse_object-loop-o-smaller
+parse_object-loop-o-smaller t c =
+    let q = c.in_ok-read-2.ensures in
+    let z = turn_item c.loop-o.invariant c.len.ensures.value (omega arith) c.if-level-done.false q.is q.after in
+    rw (q.after.fixed.payload, c.loop-o.invariant.fixed.payload) (omega (arith, z.0.nest.ready.sound.within))
+
+pub parse_object-loop-o-preserved : goal.parse_object-loop-o-preserved
+parse_object-loop-o-preserved t c =
+    let q = c.in_ok-read-2.ensures in
+    (turn_item c.loop-o.invariant c.len.ensures.value (omega arith) c.if-level-done.false q.is q.after).0
+
+-- ---- parse_ref
+
+pub parse_ref-returns-then-d-gt-DEEPEST-clause-is : goal.parse_ref-returns-then-d-gt-DEEPEST-clause-is
+parse_ref-returns-then-d-gt-DEEPEST-clause-is t c = rw c.refused.ensures (ref_deep _ _ _ c.if-d-gt-DEEPEST.true)
+
+pub parse_ref-returns-then-w-at-clause-is : goal.parse_ref-returns-then-w-at-clause-is
+parse_ref-returns-then-w-at-clause-is t c = rw c.cut.ensures (ref_end _ _ _ c.if-d-gt-DEEPEST.false c.if-w-at.true)
+
+pub parse_ref-overflow_cast-head : goal.parse_ref-overflow_cast-head
+parse_ref-overflow_cast-head t c = omega (arith, argument_low (order_of c.requires.ready) c.if-w-at.false _ c.byte.ensures)
+
+pub parse_ref-parse_object-requires : goal.parse_ref-parse_object-requires
+parse_ref-parse_object-requires t c =
     let g = c.requires.ready in
-    let e = deferred_is a.v.now a.p.now a.s.at c.peek.ensures c.is_tag.ensures c.if-is_tag.true in
-    let r = answered (length a.p.now) c.read.result l a.sc.now (c.read.ensures l) (item_deferred x (ref_at x (64 - a.d)) a.level.object a.level.size a.level.done (mem a.s l) e (deferred_inside g e)) (record { pending = g.index.pending; linked = g.index.linked }) in
-    record { u_after = r.0; index = r.1 }
+    (omega arith, (moved_ready g c.if-w-at.false, (c.if-d-gt-DEEPEST.false, space_low g c.if-w-at.false _ c.byte.ensures (is_new (head_at c.args.w.now.heads.now c.byte.result).kind c.eq.ensures c.if-eq.true))))
 
-pub parse_item-nonzero_div-x : goal.parse_item-nonzero_div-x
-parse_item-nonzero_div-x t c = omega (arith, (word_some c.requires.ready).1, c.word_bytes-word.ensures.0)
+pub parse_ref-returns-then-eq-clause-is : goal.parse_ref-returns-then-eq-clause-is
+parse_ref-returns-then-eq-clause-is t c = c.parse_object.ensures.is ∙ ref_object c.requires.ready c.if-w-at.false _ c.byte.ensures (is_new (head_at c.args.w.now.heads.now c.byte.result).kind c.eq.ensures c.if-eq.true) c.args.d c.if-d-gt-DEEPEST.false
 
-pub parse_item-place_leaf-leaf-requires : goal.parse_item-place_leaf-leaf-requires
-parse_item-place_leaf-leaf-requires t c =
-    let g = c.requires.ready in
-    record { word_bound = leaf_asks g _ c.word_bytes-word.ensures.0; o_bound = place_leaf_asks g _ (omega arith); linked = found_by g }
+pub parse_ref-returns-in_err-prefix-clause-is : goal.parse_ref-returns-in_err-prefix-clause-is
+parse_ref-returns-in_err-prefix-clause-is t c = passed_on _ _ _ c.from_residual.ensures.1 ∙ ref_refused (head_read c.begin.result c.requires.ready c.if-w-at.false c.byte.ensures c.eq.ensures c.if-eq.false c.begin.ensures) c.args.d c.if-d-gt-DEEPEST.false c.in_err-prefix.was
 
-pub parse_item-overflow_add-start-then-leaf-ne0 : goal.parse_item-overflow_add-start-then-leaf-ne0
-parse_item-overflow_add-start-then-leaf-ne0 t c =
-    let a = c.args in
-    let l = lent a.ot.now a.st.now a.vt.now a.dt.now a.hr.now a.c.now a.u.now in
-    let g = c.requires.ready in
-    let q = c.place_leaf-leaf in
-    let z = q.ensures.d_bound c.if-leaf-ne0.true in
-    let y = leaf_narrow a.v.now a.p.now a.k a.tr.now a.h.now a.sc.now a.s l g a.d z.0 q.result c.if-leaf-ne0.true (λ _. (z.1, z.2)) c.word_bytes-word.result c.word_bytes-word.ensures.0 q.ensures.found in
-    omega (arith, y, c.requires.d_bound.1, g.sound.skip_low, g.sound.within, g.proper.short)
+pub parse_ref-simple_ref-requires-clause-addressed : goal.parse_ref-simple_ref-requires-clause-addressed
+parse_ref-simple_ref-requires-clause-addressed t c = other_asks (head_read c.begin.result c.requires.ready c.if-w-at.false c.byte.ensures c.eq.ensures c.if-eq.false c.begin.ensures) (read_as c.in_ok-prefix.was c.in-Other.is)
 
-pub parse_item-returns-then-leaf-ne0 : goal.parse_item-returns-then-leaf-ne0
-parse_item-returns-then-leaf-ne0 t c =
-    let a = c.args in
-    let x = input a.v.now a.p.now a.k a.tr.now in
-    let l = lent a.ot.now a.st.now a.vt.now a.dt.now a.hr.now a.c.now a.u.now in
-    let q = c.place_leaf-leaf in
-    let z = q.ensures.d_bound c.if-leaf-ne0.true in
-    let put = leaf_item a.v.now a.p.now a.k a.tr.now a.h.now a.sc.now a.s l c.requires.ready a.d z.0 q.result c.if-leaf-ne0.true (λ _. (z.1, z.2)) c.word_bytes-word.result c.word_bytes-word.ensures.0 q.ensures.found a.level.object a.level.done _ refl _ _ _ q.ensures.placed in
-    let i = leaf_index a.v.now a.p.now a.k a.tr.now a.h.now a.sc.now a.s l c.requires.ready a.d z.0 q.result c.if-leaf-ne0.true (λ _. (z.1, z.2)) c.word_bytes-word.result c.word_bytes-word.ensures.0 q.ensures.found a.level.object a.level.done _ refl _ _ _ q.ensures.placed in
-    let r = answered (length a.p.now) c.read-then-leaf-ne0.result (lent _ _ _ _ _ _ _) a.sc.now (c.read-then-leaf-ne0.ensures (lent _ _ _ _ _ _ _)) (item_slot x (ref_at x (64 - a.d)) a.level.object a.level.size a.level.done (mem a.s l) (deferred_not a.v.now a.p.now a.s.at c.peek.ensures c.is_tag.ensures c.if-is_tag.false) put) i in
-    record { u_after = r.0; index = r.1 }
+pub parse_ref-simple_ref-requires-clause-simple : goal.parse_ref-simple_ref-requires-clause-simple
+parse_ref-simple_ref-requires-clause-simple t c = other_simple (head_read c.begin.result c.requires.ready c.if-w-at.false c.byte.ensures c.eq.ensures c.if-eq.false c.begin.ensures) (read_as c.in_ok-prefix.was c.in-Other.is)
 
-pub parse_item-parse_slot-slot-requires : goal.parse_item-parse_slot-slot-requires
-parse_item-parse_slot-slot-requires t c =
-    let a = c.args in
-    let x = input a.v.now a.p.now a.k a.tr.now in
-    let i = unplaced a.s (lent a.ot.now a.st.now a.vt.now a.dt.now a.hr.now a.c.now a.u.now) c.place_leaf-leaf.ensures.placed c.if-leaf-ne0.false in
-    (omega arith, (subst (λ (m : Mem). Ready x a.h.now m a.sc.now) (sym i) c.requires.ready, c.requires.d_bound))
+pub parse_ref-parse_inner-requires : goal.parse_ref-parse_inner-requires
+parse_ref-parse_inner-requires t c = (omega arith, (inner_starts (head_read c.begin.result c.requires.ready c.if-w-at.false c.byte.ensures c.eq.ensures c.if-eq.false c.begin.ensures) (read_as c.in_ok-prefix.was c.in-Inner.is), c.if-d-gt-DEEPEST.false))
 
-pub parse_item-returns : goal.parse_item-returns
-parse_item-returns t c =
-    let a = c.args in
-    let x = input a.v.now a.p.now a.k a.tr.now in
-    let l = lent a.ot.now a.st.now a.vt.now a.dt.now a.hr.now a.c.now a.u.now in
-    let i = unplaced a.s l c.place_leaf-leaf.ensures.placed c.if-leaf-ne0.false in
-    let read = c.parse_slot-slot.ensures.u_after ∙ ap (slot_in x (ref_at x (64 - a.d)) a.level.object a.level.done) i in
-    let r = answered (length a.p.now) c.item_of.result (lent _ _ _ _ _ _ _) _ (c.item_of.ensures (lent _ _ _ _ _ _ _)) (item_slot x (ref_at x (64 - a.d)) a.level.object a.level.size a.level.done (mem a.s l) (deferred_not a.v.now a.p.now a.s.at c.peek.ensures c.is_tag.ensures c.if-is_tag.false) read) c.parse_slot-slot.ensures.index in
-    record { u_after = r.0; index = r.1 }
+pub parse_ref-returns-in_err-value-in-Inner-clause-is : goal.parse_ref-returns-in_err-value-in-Inner-clause-is
+parse_ref-returns-in_err-value-in-Inner-clause-is t c = passed_on _ _ _ c.from_residual-in_err-value-in-Inner.ensures.1 ∙ ref_inner_no (head_read c.begin.result c.requires.ready c.if-w-at.false c.byte.ensures c.eq.ensures c.if-eq.false c.begin.ensures) c.args.d c.if-d-gt-DEEPEST.false (read_as c.in_ok-prefix.was c.in-Inner.is) c.in_err-value-in-Inner.ensures.is
+
+pub parse_ref-returns-in-Other : goal.parse_ref-returns-in-Other
+parse_ref-returns-in-Other t c =
+    let z = ref_simple (head_read c.begin.result c.requires.ready c.if-w-at.false c.byte.ensures c.eq.ensures c.if-eq.false c.begin.ensures) c.args.d c.if-d-gt-DEEPEST.false (read_as c.in_ok-prefix.was c.in-Other.is) c.simple_ref.result c.simple_ref.ensures.kept c.simple_ref.ensures.is in
+    record { is = z.0; after = z.1 }
+
+pub parse_ref-returns-in-Root : goal.parse_ref-returns-in-Root
+parse_ref-returns-in-Root t c =
+    let z = ref_root (head_read c.begin.result c.requires.ready c.if-w-at.false c.byte.ensures c.eq.ensures c.if-eq.false c.begin.ensures) c.args.d c.if-d-gt-DEEPEST.false (read_as c.in_ok-prefix.was c.in-Root.is) c.hold.result c.hold.ensures.kept c.hold.ensures.holds in
+    record { is = z.0; after = z.1 }
+
+pub parse_ref-returns-in_ok-value-in-Inner : goal.parse_ref-returns-in_ok-value-in-Inner
+parse_ref-returns-in_ok-value-in-Inner t c =
+    let i = c.in_ok-value-in-Inner.ensures in
+    let h = c.hold-in-Inner.ensures in
+    let z = ref_inner_got (head_read c.begin.result c.requires.ready c.if-w-at.false c.byte.ensures c.eq.ensures c.if-eq.false c.begin.ensures) c.args.d c.if-d-gt-DEEPEST.false (read_as c.in_ok-prefix.was c.in-Inner.is) refl i.after i.is c.hold-in-Inner.result h.kept h.holds in
+    record { is = z.0; after = z.1 }
 
 -- ---- parse_slot
 
-pub parse_slot-nonzero_div-x : goal.parse_slot-nonzero_div-x
-parse_slot-nonzero_div-x t c = omega (arith, (word_some c.requires.ready).1, c.word_bytes-word.ensures.0)
-
-pub parse_slot-place_weak-leaf-requires : goal.parse_slot-place_weak-leaf-requires
-parse_slot-place_weak-leaf-requires t c =
+pub parse_slot-place_weak-requires-clause-decoded : goal.parse_slot-place_weak-requires-clause-decoded
+parse_slot-place_weak-requires-clause-decoded t c =
     let g = c.requires.ready in
-    record { word_bound = leaf_asks g _ c.word_bytes-word.ensures.0; o_bound = (place_leaf_asks g _ (omega arith)).0 }
+    let w = word_some (order_of g) in
+    (c.word_bytes.ensures.0, omega (arith, w.1, c.word_bytes.ensures.0), omega (arith, w.0, c.word_bytes.ensures.0), g.decoded)
 
-pub parse_slot-returns-then-leaf-ne0 : goal.parse_slot-returns-then-leaf-ne0
-parse_slot-returns-then-leaf-ne0 t c =
+pub parse_slot-returns-in-Some-clause-is : goal.parse_slot-returns-in-Some-clause-is
+parse_slot-returns-in-Some-clause-is t c =
     let a = c.args in
-    let l = lent a.ot.now a.st.now a.vt.now a.dt.now a.hr.now a.c.now a.u.now in
-    let q = c.place_weak-leaf in
-    let z = q.ensures.placed c.if-leaf-ne0.true in
-    record {
-      u_after = weak_item a.v.now a.p.now a.k a.tr.now a.h.now a.sc.now a.s l c.requires.ready a.d q.result c.if-leaf-ne0.true c.word_bytes-word.result c.word_bytes-word.ensures.0 z.0 a.o a.done _ refl _ _ _ _ z.1;
-      index = weak_index a.v.now a.p.now a.k a.tr.now a.h.now a.sc.now a.s l c.requires.ready a.d q.result c.if-leaf-ne0.true c.word_bytes-word.result c.word_bytes-word.ensures.0 z.0 a.o a.done _ refl _ _ _ _ z.1;
-    }
+    let x = input_of a.w.now in
+    let r = c.in-Some.ensures in
+    r.read.1 (ref_at x (62 - a.d)) ∙ weak_slot x a.d a.o a.done r.read.0 (mem a.s (lent_of a.w.now))
 
-pub parse_slot-place_item-requires : goal.parse_slot-place_item-requires
-parse_slot-place_item-requires t c =
-    let a = c.args in
-    let b = c.requires.d_bound in
-    let l = lent a.ot.now a.st.now a.vt.now a.dt.now a.hr.now a.c.now a.u.now in
-    let g = unplaced_ready a.s l (c.place_weak-leaf.ensures.stays c.if-leaf-ne0.false) c.requires.ready in
-    let s = place_asks g _ _ _ b.2 b.3 (seen_got _ c.in-Got.is c.parse_ref.ensures.u_after) b.1 (omega arith) (out_index _ (seen_got (lent _ _ _ _ _ _ _) c.in-Got.is refl) c.parse_ref.ensures.index) _ c.word_bytes-word.ensures.0 in
-    record { o_bound = s.0; slots_nonzero = s.1.0; indexed = s.1.1 }
+pub parse_slot-returns-in-Some-clause-after : goal.parse_slot-returns-in-Some-clause-after
+parse_slot-returns-in-Some-clause-after t c = let r = c.in-Some.ensures in leaf_after c.requires.ready _ r.kept r.order
 
-pub parse_slot-returns-in-Refused : goal.parse_slot-returns-in-Refused
-parse_slot-returns-in-Refused t c =
+pub parse_slot-place_item-requires-clause-bounds : goal.parse_slot-place_item-requires-clause-bounds
+parse_slot-place_item-requires-clause-bounds t c =
     let a = c.args in
-    let x = input a.v.now a.p.now a.k a.tr.now in
-    let l = lent a.ot.now a.st.now a.vt.now a.dt.now a.hr.now a.c.now a.u.now in
-    record { u_after = unplaced_slot a.s l (c.place_weak-leaf.ensures.stays c.if-leaf-ne0.false) x (ref_at x (64 - a.d)) a.o a.done (slot_no _ _ _ _ _ (seen_no _ c.in-Refused.is c.parse_ref.ensures.u_after)); index = tt }
+    let q = c.place_weak.ensures in
+    let g = ready_still q.kept (c.in_default.ensures.none refl) c.requires.ready in
+    let r = c.in_ok-value.ensures in
+    let few : length c.place_weak.new.w.slots.now < 2 ^ 64 = omega (arith, ap (λ (l : Lent). length l.slots) (c.in_default.ensures.none refl)) in
+    let z = put_asks g a.d a.o a.done c.requires.depth r.after r.is few in
+    rw r.after.fixed.sheet (g.proper.sheet_usable, z.0.0, z.0.1, z.0.2, z.0.5)
 
-pub parse_slot-returns-in-Got : goal.parse_slot-returns-in-Got
-parse_slot-returns-in-Got t c =
+pub parse_slot-place_item-requires-clause-slots_nonzero : goal.parse_slot-place_item-requires-clause-slots_nonzero
+parse_slot-place_item-requires-clause-slots_nonzero t c =
     let a = c.args in
-    let x = input a.v.now a.p.now a.k a.tr.now in
-    let l = lent a.ot.now a.st.now a.vt.now a.dt.now a.hr.now a.c.now a.u.now in
-    let r = c.place_item.ensures in
-    let e = sym c.word_bytes-word.ensures.0 in
-    let i = out_index _ (seen_got (lent _ _ _ _ _ _ _) c.in-Got.is refl) c.parse_ref.ensures.index in
-    let n = c.parse_ref.new in
-    let k = lent n.ot n.st n.vt n.dt n.hr n.c n.u in
-    let f = r.l_after x k e in
-    record {
-      u_after = unplaced_slot a.s l (c.place_weak-leaf.ensures.stays c.if-leaf-ne0.false) x (ref_at x (64 - a.d)) a.o a.done (slot_got _ _ _ _ _ (seen_got _ c.in-Got.is c.parse_ref.ensures.u_after) f);
-      index = count_index (length a.p.now) (mem c.in-Got.t k) _ _ r.rest i.linked c.place_item.result (lent _ _ _ _ _ _ _) f (place_item_ground _ a.o a.done _ _) r.index;
-    }
+    let q = c.place_weak.ensures in
+    let g = ready_still q.kept (c.in_default.ensures.none refl) c.requires.ready in
+    let r = c.in_ok-value.ensures in
+    let few : length c.place_weak.new.w.slots.now < 2 ^ 64 = omega (arith, ap (λ (l : Lent). length l.slots) (c.in_default.ensures.none refl)) in
+    (put_asks g a.d a.o a.done c.requires.depth r.after r.is few).1.0
+
+pub parse_slot-returns-clause-after : goal.parse_slot-returns-clause-after
+parse_slot-returns-clause-after t c =
+    let a = c.args in
+    let q = c.place_weak.ensures in
+    let g = ready_still q.kept (c.in_default.ensures.none refl) c.requires.ready in
+    let r = c.in_ok-value.ensures in
+    let p = c.place_item.ensures in
+    after_on q.kept.0 (item_put g a.d a.o a.done c.requires.depth r.after r.is c.place_item.result p.is p.index p.rest).1

@@ -1,9 +1,5 @@
 use Rattle.std.proofs.Common.{◌+◌, ◌-◌, ◌*◌, length}
-use Rattle.readers.specs.Views.{input, mem}
-use Rattle.definition.specs.Object.{object}
-use Rattle.definition.specs.Reference.{ref_at}
-use Rattle.walker.specs.Ready.{lent}
-use Rattle.walker.proofs.NestLaws.{Nest}
+use Rattle.walker.proofs.NestLaws.{Turn}
 use Rattle.walker.proofs.walk.+walk.Given as goal
 
 abbrev pub decreases-parse_ref : goal.decreases-parse_ref
@@ -28,12 +24,11 @@ abbrev pub decreases-parse_inner : goal.decreases-parse_inner
 decreases-parse_inner l = 5 * (65 - l.d)
 
 -- what is left to read gives what the whole object gives
-abbrev pub invariant-parse_object-loop-b : goal.invariant-parse_object-loop-b
-invariant-parse_object-loop-b l =
-    let x = input l.v l.p l.k l.tr in
-    let m₀ = mem l.initial.t (lent l.initial.ot l.initial.st l.initial.vt l.initial.dt l.initial.hr l.initial.c l.initial.u) in
-    Nest x l.h l.d (object x (ref_at x (64 - l.d)) l.a l.at m₀) m₀ l.levels l.kept l.level (mem l.t (lent l.ot l.st l.vt l.dt l.hr l.c l.u)) l.sc
+abbrev pub invariant-parse_object-loop-o : goal.invariant-parse_object-loop-o
+invariant-parse_object-loop-o l =
+    Turn l.fn.w l.fn.s l.d l.at l.a l.outer.items l.level l.w l.t
 
 -- each iteration reads a byte, or ends or begins a level
-abbrev pub decreases-parse_object-loop-b : goal.decreases-parse_object-loop-b
-decreases-parse_object-loop-b l = 3 * (length l.p - l.t.at) + l.kept + (1 - l.level.done)
+abbrev pub decreases-parse_object-loop-o : goal.decreases-parse_object-loop-o
+decreases-parse_object-loop-o l =
+    3 * (length l.w.payload.now - l.t.at) + length l.outer.items + (1 - l.level.done)
