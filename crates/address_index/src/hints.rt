@@ -7,20 +7,18 @@ ghost use Rattle.tables.specs.Records.{room};
 ghost use Rattle.address_index.specs.Links.{counted};
 ghost use Rattle.address_index.specs.Entries.{HintLies};
 
-use alloc::resolve::Place;
+use crate::links::record_of;
+use alloc::resolve::{LARGE_OBJECT_SPACE, MAP_SPACE, Place, place_of};
 
-// For how many records the index has room with their hints; none where that is less than n.
+// For how many records the index has room with their hints; none where that is less than n. The bound 256 is a clause here, since
+// `hint_cell` has no `Search`.
 fn capacity(index: &[u64], n: usize) -> Option<usize>
     requires { 256 ≤ length index.now }
     ensures { IfSome result (λ r. (0 < r) × (n ≤ r) × (r < 2 ^ 31) × (256 + r * 5 ≤ length index.now)) }
 {
     let r = (index.len() - 256) / 5;
     // below 2 ^ 31, so that the remainder in `address_cell` is one of 32 bits, which takes less time than one of 64
-    if 0 < r && n <= r && r < 2147483648 {
-        Some(r)
-    } else {
-        None
-    }
+    (0 < r && n <= r && r < 2147483648).then_some(r)
 }
 
 // Where the hint for an address lies. Objects that lie near each other mostly have their hints near each other.
@@ -46,15 +44,11 @@ fn hint_at(index: &[u64], n: usize, cell: usize) -> Option<usize>
     requires { cell < length index.now }
     ensures { IfSome result (λ h. h < n) }
 {
-    let h = index[cell];
-    if 0 < h && h <= n as u64 {
-        Some((h - 1) as usize)
-    } else {
-        None
-    }
+    record_of(index[cell]).filter(|h| *h < n)
 }
 
-// The record that may come after the one at an address, in its space.
+// The record that may come after the one at an address, in its space. This hint and that for a number share `capacity` and `hint_at`; a
+// trait for the cell alone would be longer than both.
 pub fn address_hint(index: &[u64], n: usize, place: Place) -> Option<usize>
     requires { 256 ≤ length index.now }
     ensures { IfSome result (λ h. h < n) }
@@ -75,21 +69,16 @@ pub fn number_hint(index: &[u64], n: usize, space: u64, number: u64) -> Option<u
     hint_at(index, n, number_cell(r, space, number))
 }
 
-// Where record n is kept as a hint: in spaces 4 and 5, where back-references give numbers, for its number o; else for the address of record p,
-// the one before it in its space.
+// Where record n is kept as a hint: in the two spaces where back-references give numbers, for its number o; else for the address of record
+// p, the one before it in its space.
 pub fn hint_cell(table: &[u64], index: &[u64], n: usize, p: Option<usize>, o: u64) -> Option<usize>
     requires { (n < room 5 table.now) × (256 ≤ length index.now) × (counted p ≤ n) × (o ≤ n) }
     ensures { HintLies n index.now result }
 {
     let r = capacity(index, n + 1)?;
     let space = table[n * 5];
-    if space == 4 || space == 5 {
+    if space == MAP_SPACE || space == LARGE_OBJECT_SPACE {
         return Some(number_cell(r, space, o));
     }
-    let b = p?;
-    let place = Place {
-        chunk: table[b * 5 + 1],
-        offset: table[b * 5 + 2],
-    };
-    Some(address_cell(r, place))
+    Some(address_cell(r, place_of(table, p?)))
 }

@@ -9,17 +9,15 @@ ghost use Rattle.address_index.specs.KeyLaws.{address_of_space, newest_where-add
 use crate::find::{Key, Search};
 use crate::hints::address_hint;
 use crate::links::{newest, older};
-use alloc::resolve::Place;
+use alloc::resolve::{Place, place_of};
 
 impl<'a> Search<'a> {
-    // Record i, of this space, is placed at this address.
+    // Record i, of this space, is placed at this address. That the space, which `is_address` of `alloc` tests, is this one is known.
     fn is_placed_at(self, i: usize, place: Place) -> bool
         requires { i < room 5 self.table.now }
         ensures { result ≡ is_address self.entry.table.now (space_of self.entry.table.now i) place.chunk place.offset i }
     {
-        (self.table[i * 5 + 1] == place.chunk)
-            & (self.table[i * 5 + 2] == place.offset)
-            & (self.table[i * 5 + 4] == 1)
+        place_of(self.table, i) == place && self.table[i * 5 + 4] == 1
     }
 
     // The address of record i is higher than this one.
@@ -27,8 +25,7 @@ impl<'a> Search<'a> {
         requires { i < room 5 self.table.now }
         ensures { result ≡ is_after self.entry.table.now i place.chunk place.offset }
     {
-        let c = self.table[i * 5 + 1];
-        (place.chunk < c) | ((place.chunk == c) & (place.offset < self.table[i * 5 + 2]))
+        place < place_of(self.table, i)
     }
 
     // The record before record i in its space, which often is the one before it in the table: then the index need not be read.
@@ -48,11 +45,7 @@ impl<'a> Search<'a> {
         ensures { IfSome result (λ h. (h < self.entry.count) × (space_of self.entry.table.now h ≡ self.entry.space) × (is_after self.entry.table.now h place.chunk place.offset ≡ true)) }
     {
         let h = address_hint(self.links, self.count, place)?;
-        if self.table[h * 5] == self.space && self.is_higher(h, place) {
-            Some(h)
-        } else {
-            None
-        }
+        (self.table[h * 5] == self.space && self.is_higher(h, place)).then_some(h)
     }
 }
 

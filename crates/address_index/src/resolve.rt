@@ -24,7 +24,8 @@ pub struct AddressIndex<'a> {
 impl<'a> AddressIndex<'a> {
     ghost use Rattle.address_index.specs.Searches.{Searches};
 
-    // The search in a space, where the index has a place for the space and room for all records.
+    // The search in a space, where the index has a place for the space and room for all records. No `then`: tried, and the borrow checker
+    // does not cover its closure, which would lend table and index at two lifetimes; `Search` needs what is tested, so no `then_some`.
     fn search(self, space: u64) -> Option<Search<'a>>
         ensures some { IfSome result (Searches self.entry.table.now self.entry.links.now self.entry.count space) }
         ensures none { IsNone result → (256 ≤ space) ⊎ (length self.entry.links.now < 256 + self.entry.count * 3) }
@@ -41,7 +42,8 @@ impl<'a> AddressIndex<'a> {
         }
     }
 
-    // The object at an address; where there is none and an alignment is pending, the one after the filler.
+    // The object at an address; where there is none and an alignment is pending, the one after the filler. `alloc` has the same steps for
+    // the plain search: a trait of both searches with its laws would be longer than the steps.
     #[tactic(auto, using(alloc::proofs::Laws::fill_bound), unfolding(alloc::specs::Resolve::resolve_of))]
     pub fn resolve(self, space: u64, place: Place, alignment: u64, word: u64) -> Option<u64>
         requires { (place.offset < 2 ^ 32) × (word ≤ 8) }

@@ -1,19 +1,17 @@
 -- What a chunk change and an allocation keep: laws of the definitions alone, for the crates above. Assumes nothing.
-use mathlib.Core.Path.{◌≡◌, refl, ap, ◌∙◌}
-use mathlib.Core.Logic.{◌⊎◌, inl, inr, ◌≢◌}
+use mathlib.Core.Path.{◌≡◌, refl}
 use mathlib.Core.Bool.{Bool, true, false, ◌||◌}
 use mathlib.Core.List.{List, [], ◌∷◌}
 use Prim.Native.Nat.{ℕ, zero, suc, ◌+◌, ◌<◌, ◌≤◌}
 use native.Mathlib.Omega.{arith}
-use borrow.Author.Tests.{ltb-false, leb-true, leb-false, le-leb, lt-leb}
+use borrow.Author.Tests.{leb-false}
 use lib.Dec.{leb, ltb}
-use lib.ListN.{length, get_or, set, replicate, length-set, length-replicate}
-use Rattle.tables.specs.Records.{room, field, written, address_row, pick_table}
-use Rattle.tables.proofs.RecordLaws.{written_length, written_same, written_else}
+use lib.ListN.{get_or, set}
+use Rattle.tables.specs.Records.{room}
 use Rattle.alloc.specs.declared.legacy_alloc.LegacyAlloc.{LegacyAlloc}
 use Rattle.alloc.specs.declared.legacy_alloc.Request.{Request}
 use Rattle.alloc.specs.Fill.{fill_to_align}
-use Rattle.alloc.specs.Allocation.{zero_counters, pick_alloc, next_chunk, Outcome, outcome, pick_outcome, advance_of, allocate_of}
+use Rattle.alloc.specs.Allocation.{pick_alloc, next_chunk, Outcome, outcome, pick_outcome, advance_of, allocate_of}
 
 -- ---- chunk changes
 

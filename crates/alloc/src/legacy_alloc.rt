@@ -1,5 +1,6 @@
 // The chunk counters of legacy spaces, and allocation.
-ghost use Rattle.std.specs.Prelude.{◌≡◌, ◌-◌, ◌^◌, ◌<◌, ◌≤◌, length, get_or, OnErr, IfErr};
+ghost use Rattle.std.specs.Prelude.{◌≡◌, ◌-◌, ◌^◌, ◌<◌, ◌≤◌, length, get_or, OnErr, IfErr, MatchResult};
+ghost use Rattle.refusals.specs.declared.refusal.Refusal.TheVariants.{AddressTooLarge};
 ghost use Rattle.refusals.specs.Numbers.{number_of};
 ghost use Rattle.alloc.specs.Allocation.{zero_counters, spaces_of, next_chunk, advance_of, outcome, allocate_of, seen, Places};
 
@@ -7,14 +8,16 @@ use crate::fill::{fill_to_align, max_fill_to_align};
 use refusals::refusal::Refusal;
 use tables::records::add_address;
 
-// Two counters for each of 256 spaces: the current chunk, and the next free offset in it.
+// Two counters for each of 256 spaces: the current chunk, and the next free offset in it. The order fixes these two arrays: two counters
+// for each space, held by value.
 #[derive(Drop)]
 pub struct LegacyAlloc {
     pub cur: [u32; 256],
     pub used: [u32; 256],
 }
 
-// What is to be allocated: an object of so many bytes in a space, with the alignment that is pending, under words of so many bytes.
+// What is to be allocated: an object of so many bytes in a space, with the alignment that is pending, under words of so many bytes. Bounds
+// stand in clauses: `place` takes any size, and a `Place` any offset, so that a type of spaces or ghost fields would ask more of callers.
 #[derive(Clone, Copy)]
 pub struct Request {
     pub space: u64,
@@ -58,21 +61,20 @@ impl LegacyAlloc {
     }
 
     // Address record n of an object: the alignment that is pending then. Refused (no room for the record; the size, the address or the next
-    // free offset passes 2^32 - 1), nothing changes. A space without counters gets a record that is not placed, and the alignment stays pending.
+    // free offset passes 2^32 - 1), nothing changes. A space without counters gets a record that is not placed, and the alignment stays
+    // pending.
     pub fn allocate(mut self, table: &mut [u64], n: usize, spaces: u64, want: Request) -> Allocated
         requires { (want.space < 256) × (want.word ≤ 8) }
-        ensures { seen want.alignment result.alignment result.alloc table.new ≡ allocate_of table.old n spaces want self }
+        ensures is { seen want.alignment result.alignment result.alloc table.new ≡ allocate_of table.old n spaces want self }
+        ensures some { IfErr result.alignment (λ r. 0 < number_of r) }
     {
         let i = want.space as usize;
-        let alignment = match place(table, n, spaces, want, self.used[i], self.cur[i]) {
-            Ok(placed) => {
-                self.used[i] = placed.free;
-                Ok(placed.alignment)
-            }
-            Err(refusal) => Err(refusal),
-        };
+        let placed = place(table, n, spaces, want, self.used[i], self.cur[i]);
+        if let Ok(p) = placed {
+            self.used[i] = p.free;
+        }
         Allocated {
-            alignment,
+            alignment: placed.map(|p| p.alignment),
             alloc: self,
         }
     }
@@ -120,17 +122,18 @@ pub fn place(
             free: used,
         });
     }
-    let next = used as u64;
-    let offset = next + fill_to_align(next, want.alignment, want.word);
-    let free = next + advance(want.size, want.alignment, want.word);
-    if 4294967295 < offset || 4294967295 < free {
-        return Err(Refusal::AddressTooLarge);
-    }
+    let next = u64::from(used);
+    let offset = u64::from(narrow(next + fill_to_align(next, want.alignment, want.word))?);
+    let free = narrow(next + advance(want.size, want.alignment, want.word))?;
     add_address(table, n, want.space, chunk as u64, offset, want.object, 1);
-    Ok(Placed {
-        alignment: 0,
-        free: free as u32,
-    })
+    Ok(Placed { alignment: 0, free })
+}
+
+// An offset of at most 2^32 - 1; a higher one is refused.
+fn narrow(offset: u64) -> Result<u32, Refusal>
+    ensures { MatchResult result (λ n. n ≡ offset) (λ r. (r ≡ AddressTooLarge) × (2 ^ 32 ≤ offset)) }
+{
+    u32::try_from(offset).map_err(|_| Refusal::AddressTooLarge)
 }
 
 // How far the next free offset moves: by the size, and with an alignment pending by the most that a filler can take as well.

@@ -1,12 +1,19 @@
-// Which object a legacy back-reference stands for: by address, or by its number among the objects of a space.
+// Which object a legacy back-reference stands for: by address, or by its number among the objects of a space. Table and count go apart:
+// with the index they are an `AddressIndex`, and without it another struct of the two would be no plainer than both.
 ghost use Rattle.std.specs.Prelude.{◌≡◌, ◌+◌, ◌^◌, ◌<◌, ◌≤◌, length};
-ghost use Rattle.tables.specs.Records.{room};
+ghost use Rattle.tables.specs.Records.{room, field};
 ghost use Rattle.alloc.specs.Resolve.{is_address, addressed, resolve_of, ordinal_from};
 
 use crate::fill::fill_to_align;
 
+// The space of the address records whose objects are the maps that back-references give by number, whatever kMapSpace is in a version.
+pub const MAP_SPACE: u64 = 4;
+
+// The same for large objects and kLoSpace.
+pub const LARGE_OBJECT_SPACE: u64 = 5;
+
 // A place in a space.
-#[derive(Clone, Copy)]
+#[derive(Clone, Copy, PartialEq, Eq, PartialOrd, Ord)]
 pub struct Place {
     pub chunk: u64,
     pub offset: u64,
@@ -25,29 +32,32 @@ impl Place {
     }
 }
 
+// The place that record i has.
+pub fn place_of(table: &[u64], i: usize) -> Place
+    requires { i < room 5 table.now }
+    ensures { result ≡ record { chunk = field 5 table.now i 1; offset = field 5 table.now i 2 } }
+{
+    Place {
+        chunk: table[i * 5 + 1],
+        offset: table[i * 5 + 2],
+    }
+}
+
 // Record i is placed at this address.
 fn is_address(table: &[u64], i: usize, space: u64, place: Place) -> bool
     requires { i < room 5 table.now }
     ensures { result ≡ is_address table.now space place.chunk place.offset i }
 {
-    table[i * 5] == space
-        && table[i * 5 + 1] == place.chunk
-        && table[i * 5 + 2] == place.offset
-        && table[i * 5 + 4] == 1
+    table[i * 5] == space && place_of(table, i) == place && table[i * 5 + 4] == 1
 }
 
 // The object of the newest of n records that is placed at this address.
-#[tactic(auto, using(crate::proofs::Laws::last_record), unfolding(crate::specs::Resolve::addressed))]
 pub fn find_address(table: &[u64], n: usize, space: u64, place: Place) -> Option<u64>
     requires { n ≤ room 5 table.now }
     ensures { result ≡ addressed table.now space place.chunk place.offset n }
 {
-    for i in (0..n).rev() {
-        if is_address(table, i, space, place) {
-            return Some(table[i * 5 + 3]);
-        }
-    }
-    None
+    let newest = (0..n).rev().find(|i| is_address(table, *i, space, place))?;
+    Some(table[newest * 5 + 3])
 }
 
 // The object at an address; where there is none and an alignment is pending, the one after the filler.
@@ -75,19 +85,12 @@ pub fn resolve(
 }
 
 // The object whose number among the n records of a space is `index`.
-#[tactic(auto, using(crate::proofs::Laws::next_record), unfolding(crate::specs::Resolve::ordinal_from))]
 pub fn resolve_ordinal(table: &[u64], n: usize, space: u64, index: u64) -> Option<u64>
     requires { n ≤ room 5 table.now }
     ensures { result ≡ ordinal_from table.now space index 0 n }
 {
-    let mut left = index;
-    for i in 0..n {
-        if table[i * 5] == space {
-            if left == 0 {
-                return Some(table[i * 5 + 3]);
-            }
-            left -= 1;
-        }
-    }
-    None
+    let i = (0..n)
+        .filter(|i| table[*i * 5] == space)
+        .nth(index as usize)?;
+    Some(table[i * 5 + 3])
 }

@@ -87,7 +87,7 @@ module _ (x : Input) (P : List Frame → Table → Table → Table → List Even
         on_attached = (λ S m i h. tt);
         on_cleared = (λ S m h. tt);
         on_hot = (λ S m i r h l e. tt);
-        on_enter = (λ S m r h w. (h, tt));
+        on_enter = (λ S m r t h w. (h, tt));
         on_pending = (λ S m h. (h, tt));
         on_raw = (λ S m n a h l g. (on_note _ _ (passed m.at n) m.log (λ es. rules.on_passed S m.objects m.slots m.values es m.at n) h, tt));
         on_value = (λ S m v h w l. (on_note _ _ (value (fields_of v) (in_value m.values.count)) m.log (λ es. rules.on_value S m.objects m.slots m.values es (fields_of v) l) h, tt, λ n. tt));

@@ -1,6 +1,7 @@
 -- Every object that the payload refers to is listed, and each value stands where it is kept. Assumes nothing.
 use Rattle.std.specs.Prelude.{◌≡◌, refl, ◌≢◌, Bool, true, false, List, ◌∷◌, ℕ, ◌+◌, ◌-◌, ◌/◌, ◌<◌, ◌≤◌}
 use Rattle.std.proofs.Common.{arith}
+use Rattle.tables.specs.declared.values.Ref.{Ref}
 use Rattle.tables.specs.declared.values.Ref.TheVariants.{Object, Root, RoRef, Attached}
 use Rattle.tables.specs.declared.values.SlotValue.{SlotValue}
 use Rattle.tables.specs.declared.values.SlotValue.TheVariants.{Ref as IsRef, Repeat, RepeatPrev, Skip, StreamBytes, Raw as IsRaw, ClearedWeak, WeakRef, PendingRef}
@@ -10,18 +11,21 @@ use Rattle.tables.specs.Records.{room}
 use Rattle.definition.specs.Memory.{Input, word, in_map, in_slot, in_value, dropped, opened, passed, item, value, resolve, synchronize, Table, Mem}
 use Rattle.definition.specs.Slots.{resolved, waits_of}
 use Rattle.definition.specs.Call.{Rooms, Call, input_of, told_of}
-use Rattle.assurance.specs.Steps.{Frame, frame, Base, Rules, keeping_map, keeping_item, resolve_case}
+use Rattle.assurance.specs.Steps.{Frame, frame, Base, Hot, Rules, keeping_map, keeping_item, resolve_case}
 use Rattle.assurance.specs.Induct.{graph_has}
 use Rattle.assurance.specs.On.{On, on_note, on_note_two, on_told, All}
 use Rattle.assurance.proofs.EventRules.{waiter_is}
 use Rattle.assurance.proofs.Waiting.{Waits, Fresh, waits_in, renumber, slot_waits, fill_waits, found}
-use Rattle.assurance.specs.Ring.{Below, Ring, ring_enter, ring_up, ring-start}
+use Rattle.assurance.specs.Ring.{Below, Ring, ring_enter, ring_up, ring-start, hot_case}
 use Rattle.assurance.proofs.Standing.{Refers, Standing, told_standing, open_standing, value_standing, map_standing, item_standing, unknown_standing, fill_standing}
 use Rattle.assurance.specs.Words.{Accepted, LeftPending, FilledBy}
 
 -- what is known of a value that was given
 abbrev Val : ℕ → ℕ → Table → ℕ → SlotValue → Type 0
-Val objects values st pending (IsRef r) = Below objects r
+Val objects values st pending (IsRef (Object o)) = o < objects
+Val objects values st pending (IsRef (Root i)) = Unit {0}
+Val objects values st pending (IsRef (RoRef c o)) = Unit {0}
+Val objects values st pending (IsRef (Attached i)) = Unit {0}
 Val objects values st pending (Repeat n k) = k < values
 Val objects values st pending (RepeatPrev n) = Unit {0}
 Val objects values st pending (Skip n) = Unit {0}
@@ -30,6 +34,13 @@ Val objects values st pending (IsRaw r) = Unit {0}
 Val objects values st pending ClearedWeak = Unit {0}
 Val objects values st pending (WeakRef k) = k < values
 Val objects values st pending (PendingRef n) = Fresh st pending n
+
+-- it may enter the ring
+enters : (objects values : ℕ) (st : Table) (pending : ℕ) (r : Ref) → Hot r → Val objects values st pending (IsRef r) → Below objects r
+enters o n st p (Object i) t h = h
+enters o n st p (Root i) t h = tt
+enters o n st p (RoRef c i) t h = tt
+enters o n st p (Attached i) t h = absurd t
 
 raw_not : (b : Bool) → (raw_kind b ≢ 1) × (raw_kind b ≢ 7) × (raw_kind b ≢ 12) × (raw_kind b ≢ 13)
 raw_not true = ((λ e. omega arith), (λ e. omega arith), (λ e. omega arith), (λ e. omega arith))
@@ -130,8 +141,8 @@ rules x =
       on_read_only = (λ S m c o h. tt);
       on_attached = (λ S m i h. tt);
       on_cleared = (λ S m h. tt);
-      on_hot = (λ S m i r h l e. h.1 i r e);
-      on_enter = (λ S m r h w. ((h.0, ring_enter m.hot m.objects.count r w h.1, h.2), w));
+      on_hot = (λ S m i r h l e. hot_case (λ r. W m (IsRef r)) m.hot m.objects.count i r h.1 l e (λ o g. g) (λ j. tt) (λ c o. tt));
+      on_enter = (λ S m r t h w. ((h.0, ring_enter m.hot m.objects.count r (enters m.objects.count m.values.count m.slots m.pending r t w) h.1, h.2), w));
       on_pending = (λ S m h. let z = number_waits m.slots m.pending m.waiting h.2 in ((h.0, h.1, z.0), z.1));
       on_raw = (λ S m n a h l g. ((on_note _ _ (passed m.at n) m.log (λ es. told_standing m.objects.count m.slots m.values es (passed m.at n) tt refl refl) h.0, h.1, h.2), tt));
       on_value = (λ S m v h w l. ((on_note _ _ (value (fields_of v) (in_value m.values.count)) m.log (λ es. value_standing m.objects.count m.slots m.values es (fields_of v) l (val_refers _ _ m.slots m.pending v w)) h.0, h.1, h.2), omega arith, λ n. omega arith));

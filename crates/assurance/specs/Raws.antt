@@ -89,7 +89,7 @@ rules x =
       on_attached = (λ S m i h. on_map _ _ m.log (λ es g. tt) h);
       on_cleared = (λ S m h. on_map _ _ m.log (λ es g. tt) h);
       on_hot = (λ S m i r h l e. on_map _ _ m.log (λ es g. tt) h);
-      on_enter = (λ S m r h w. (h, w));
+      on_enter = (λ S m r t h w. (h, w));
       on_pending = (λ S m h. (h, on_map _ _ m.log (λ es g. tt) h));
       on_raw = (λ S m n a h l g. (on_note _ _ (passed m.at n) m.log (λ es. more (passed m.at n) es tt) h, on_note _ _ (passed m.at n) m.log (λ es i. Memᴰ.head refl) h));
       on_value = (λ S m v h w l. let e : Event = value (fields_of v) (in_value m.values.count) in (on_note _ _ e m.log (valued v (in_value m.values.count)) (on_both P (Val v) m.log h w), on_note _ _ e m.log (λ es i. tt) h, λ n. on_note _ _ e m.log (λ es i. tt) h));

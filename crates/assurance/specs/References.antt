@@ -24,7 +24,7 @@ use Rattle.assurance.specs.PlainSheet.{PlainSheet, words_pos}
 use Rattle.assurance.specs.PlainHeads.{PlainHead, head_plain}
 use Rattle.assurance.specs.ByKind.{by_kind}
 use Rattle.assurance.specs.Gives.{Gives, gives, refused, gives_then, gives-choose, byte_gives}
-use Rattle.assurance.specs.Steps.{Frame, OpensAt, Rules, entering, numbering, passing, valuing, base_same}
+use Rattle.assurance.specs.Steps.{Frame, OpensAt, Hot, Rules, entering, numbering, passing, valuing, base_same}
 use Rattle.assurance.specs.Objects.{Good, Has, good_move, byte_has, int_has, object_has}
 
 module _ (x : Input) (bytes : Bytes x.payload) (plainly : PlainSheet x.sheet) (I : List Frame → Mem → Type 0) (W : Mem → SlotValue → Type 0) (rules : Rules x I W) where
@@ -40,16 +40,16 @@ module _ (x : Input) (bytes : Bytes x.payload) (plainly : PlainSheet x.sheet) (I
     number_has : (m : Mem) → G S m → Gives (λ n. G S) (int x m)
     number_has = int_has x bytes plainly I W rules S
 
-    enter_has : (r : Ref) (m : Mem) → G S m → W m (IsRef r) → Gives (H S) (refers_hot r m)
-    enter_has r m g w =
-        let z = rules.on_enter S m r g.1 w in
+    enter_has : (r : Ref) → Hot r → (m : Mem) → G S m → W m (IsRef r) → Gives (H S) (refers_hot r m)
+    enter_has r t m g w =
+        let z = rules.on_enter S m r t g.1 w in
         gives (H S) _ _ ((base_same x S m g.0 (entering r m) g.0.within refl refl refl, z.0), z.1, tt)
 
     back_has : (i : ℕ) (m : Mem) → G S m → Gives (H S) (backref_to i m)
     unfolding backref_to
     back_has i m g =
         gives-choose (H S) (ltb i m.objects.count) _ _ m
-        (λ t. enter_has (Object i) m g (rules.on_object S m i g.1 (ltb-true _ _ t))) (λ t. refused (H S) _ _ _)
+        (λ t. enter_has (Object i) tt m g (rules.on_object S m i g.1 (ltb-true _ _ t))) (λ t. refused (H S) _ _ _)
 
     hot_has : (i : ℕ) (m : Mem) → i < 8 → G S m → Gives (H S) (hot_place i m)
     hot_has i m l g = at (hot_at m.hot i) refl
@@ -115,7 +115,7 @@ module _ (x : Input) (bytes : Bytes x.payload) (plainly : PlainSheet x.sheet) (I
           new_object_lem = (λ e m g. object_has x bytes plainly I W rules r has S a tag m (o (p.new_object_lem e)) g);
           back_reference = with_number _ (back_has S);
           hot_place_lem = (λ e m g. hot_has S a m (p.place e) g);
-          root_array_lem = with_number _ (λ i m h. enter_has S (Root i) m h (rules.on_root S m i h.1));
+          root_array_lem = with_number _ (λ i m h. enter_has S (Root i) tt m h (rules.on_root S m i h.1));
           root_constant_lem = (λ m g. gives (H S) _ _ (g, rules.on_root S m a g.1, tt));
           read_only_heap = with_number _ (λ c. with_number _ (λ o m h. gives (H S) _ _ (h, rules.on_read_only S m c o h.1, tt)));
           attached_reference = with_number _ (λ i m h. gives (H S) _ _ (h, rules.on_attached S m i h.1, tt));

@@ -1,29 +1,24 @@
--- Each object that a place of the hot ring stands for is below the object count. Assumes nothing.
+-- Each object that a place of the hot ring stands for is below the object count; no place stands for an attached one. Assumes nothing.
 use Rattle.std.specs.Prelude.{◌≡◌, List, [], ◌∷◌, ℕ, zero, suc, ◌<◌, ◌≤◌, ◌%◌, get_or, set, replicate, Option, Some, None}
 use Rattle.std.proofs.Math.Path.{refl}
-use Rattle.std.proofs.Common.{arith, sym, ◌∙◌, subst}
+use Rattle.std.proofs.Common.{arith, sym, ◌∙◌}
 use Rattle.tables.specs.declared.values.Ref.{Ref}
 use Rattle.tables.specs.declared.values.Ref.TheVariants.{Object, Root, RoRef, Attached}
 use Rattle.backref.specs.declared.hot_ring.HotRing.{HotRing}
 use Rattle.backref.specs.HotRing.{empty_ring, entered, hot_at}
 
--- an object that a reference stands for is below a count
+-- an object that a reference stands for is below a count; it is no attached reference
 abbrev pub Below : ℕ → Ref → Type 0
 Below objects (Object o) = o < objects
 Below objects (Root i) = Unit {0}
 Below objects (RoRef c o) = Unit {0}
-Below objects (Attached i) = Unit {0}
+Below objects (Attached i) = ⊥
 
 below_up : {n k : ℕ} → n ≤ k → (r : Ref) → Below n r → Below k r
 below_up l (Object o) h = omega (arith, h, l)
 below_up l (Root i) h = h
 below_up l (RoRef c o) h = h
 below_up l (Attached i) h = h
-
--- so is one that a place stands for
-abbrev Place : ℕ → Option Ref → Type 0
-Place objects (Some r) = Below objects r
-Place objects None = Unit {0}
 
 abbrev pub Ring : HotRing → ℕ → Type 0
 Ring hot objects = (i : ℕ) (r : Ref) → hot_at hot i ≡ Some r → Below objects r
@@ -53,3 +48,10 @@ empty (suc n) (suc i) = empty n i
 pub ring-start : Ring empty_ring 0
 unfolding hot_at
 ring-start i r e = let z : None ≡ Some r = sym (empty 8 i) ∙ e in cc
+
+-- what a place stands for, by its kind
+pub hot_case : (P : Ref → Type 0) (hot : HotRing) (objects i : ℕ) (r : Ref) → Ring hot objects → i < 8 → hot_at hot i ≡ Some r → ((o : ℕ) → o < objects → P (Object o)) → ((j : ℕ) → P (Root j)) → ((c o : ℕ) → P (RoRef c o)) → P r
+hot_case P hot objects i (Object o) h l e fo fr fc = fo o (h i (Object o) e)
+hot_case P hot objects i (Root j) h l e fo fr fc = fr j
+hot_case P hot objects i (RoRef c o) h l e fo fr fc = fc c o
+hot_case P hot objects i (Attached j) h l e fo fr fc = absurd (h i (Attached j) e)

@@ -75,6 +75,13 @@ keeping_item x o start v = keeping in_slot o (start / word x) start (width_of (w
 
 -- ---- the rules
 
+-- a reference that may enter the hot ring
+abbrev pub Hot : Ref → Type 0
+Hot (Object o) = Unit {0}
+Hot (Root i) = Unit {0}
+Hot (RoRef c o) = Unit {0}
+Hot (Attached i) = ⊥
+
 -- I holds of the objects that are being read and of what a reader has, W of the value that it gives
 pub record Rules (x : Input) (I : List Frame → Mem → Type 0) (W : Mem → SlotValue → Type 0) : Type 0 where
   pub on_move : (S : List Frame) (m : Mem) (at : ℕ) → I S m → m.at < at → at ≤ length x.payload → I S (moved at m)
@@ -84,7 +91,7 @@ pub record Rules (x : Input) (I : List Frame → Mem → Type 0) (W : Mem → Sl
   pub on_attached : (S : List Frame) (m : Mem) (i : ℕ) → I S m → W m (IsRef (Attached i))
   pub on_cleared : (S : List Frame) (m : Mem) → I S m → W m ClearedWeak
   pub on_hot : (S : List Frame) (m : Mem) (i : ℕ) (r : Ref) → I S m → i < 8 → hot_at m.hot i ≡ Some r → W m (IsRef r)
-  pub on_enter : (S : List Frame) (m : Mem) (r : Ref) → I S m → W m (IsRef r) → (I S (entering r m)) × (W (entering r m) (IsRef r))
+  pub on_enter : (S : List Frame) (m : Mem) (r : Ref) → Hot r → I S m → W m (IsRef r) → (I S (entering r m)) × (W (entering r m) (IsRef r))
   pub on_pending : (S : List Frame) (m : Mem) → I S m → (I S (numbering m)) × (W (numbering m) (PendingRef m.pending))
   pub on_raw : (S : List Frame) (m : Mem) (n : ℕ) (advances : Bool) → I S m → 1 ≤ n → m.at + n ≤ length x.payload → (I S (passing n m)) × (W (passing n m) (IsRaw (record { off = m.at; len = n; advances = advances })))
   pub on_value : (S : List Frame) (m : Mem) (v : SlotValue) → I S m → W m v → m.values.count < room 3 m.values.rows → (I S (valuing (fields_of v) m)) × (W (valuing (fields_of v) m) (WeakRef m.values.count)) × ((n : ℕ) → W (valuing (fields_of v) m) (Repeat n m.values.count))

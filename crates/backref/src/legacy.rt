@@ -6,7 +6,7 @@ ghost use Rattle.backref.specs.Legacy.{numbered_as, unless_zero, index_of, word_
 
 use crate::hot_ring::HotRing;
 use address_index::resolve::AddressIndex;
-use alloc::resolve::Place;
+use alloc::resolve::{LARGE_OBJECT_SPACE, MAP_SPACE, Place};
 use sheet::numbers::{lo_space, map_space, page_size_bits, six_x, space_tag_size, word_bytes};
 use stream::putint::putint;
 use tables::values::Ref;
@@ -51,9 +51,9 @@ impl<'a> LegacyReader<'a> {
         ensures { result ≡ unless_zero (numbered_as self.entry.sheet.now self.entry.space) }
     {
         if self.space == map_space(self.sheet) {
-            Some(4)
+            Some(MAP_SPACE)
         } else if self.space == lo_space(self.sheet) {
-            Some(5)
+            Some(LARGE_OBJECT_SPACE)
         } else {
             None
         }

@@ -147,6 +147,7 @@ fn walk_payload<'a>(
         hot: HotRing::new(),
         alloc: LegacyAlloc::new(),
     };
+    // All numbers by name, as the definition's `start` has them: a default would hide them.
     let start = State {
         at: 0,
         objects: 0,

@@ -7,13 +7,13 @@ use native.Mathlib.Omega.{arith}
 use borrow.Author.Tests.{le-leb, lt-leb}
 use lib.Dec.{ltb, eqb}
 use lib.ListN.{length, get_or}
-use Rattle.std.specs.Prelude.{Ok}
+use Rattle.std.specs.Prelude.{Option, Some, None as Nothing, Ok, Err, ok_or}
 use Rattle.sheet.specs.Sheet.{is_legacy}
 use Rattle.tables.specs.declared.values.SlotValue.{SlotValue}
-use Rattle.tables.specs.declared.values.SlotValue.TheVariants.{Ref as IsRef, Repeat, RepeatPrev, Skip, StreamBytes, Raw, ClearedWeak, WeakRef, PendingRef}
-use Rattle.tables.specs.declared.values.Ref.TheVariants.{Object, Root, RoRef, Attached}
+use Rattle.tables.specs.declared.values.SlotValue.TheVariants.{Ref as IsRef}
+use Rattle.tables.specs.declared.values.Ref.TheVariants.{Object}
 use Rattle.tables.specs.declared.values.Fields.{Fields}
-use Rattle.tables.specs.Values.{pick_ℕ, raw_kind, fields_of, width_of}
+use Rattle.tables.specs.Values.{pick_ℕ, fields_of, width_of}
 use Rattle.tables.specs.Records.{room, field}
 use Rattle.definition.specs.Memory.{Input, word, Table, Mem, Out, got, no, Reader, and_then, ◌>>=◌, ◌>>◌, choose, moved, cut, byte, int, in_slot}
 use Rattle.definition.specs.Slots.{add_slot}
@@ -26,6 +26,7 @@ use Rattle.laws.specs.References.{legacy_reference_keeps}
 use Rattle.laws.specs.ClosingKeeps.{Slots, entry_item-ends}
 use Rattle.laws.proofs.Fuel.{entry_items_fuel}
 use Rattle.readers.specs.declared.state.State.{State}
+use Rattle.readers.specs.declared.state.Refused.{Refused}
 use Rattle.readers.specs.declared.walker.Walker.{Walker}
 use Rattle.readers.specs.Views.{mem}
 use Rattle.readers.specs.Lent.{input_of, lent_of, Fixed}
@@ -38,7 +39,7 @@ use Rattle.walker.proofs.ReadyLaws.{Went, Free, None, ref_went}
 use Rattle.walker.proofs.SameLaws.{Leaves, same_choose, then_leaves, next_leaves, same_got}
 use Rattle.walker.proofs.GroundLaws.{Ground, ground_of, slot_ground}
 use Rattle.walker.proofs.ReferenceLaws.{records_of, Idle, byte_still, int_still, legacy_still}
-use Rattle.deferred.specs.Entry.{named_by, entry_object}
+use Rattle.deferred.specs.Entry.{Named, named_by, entry_object}
 use Rattle.objects.proofs.AnswerLaws.{fixed_refl, fixed_on, same_input}
 use Rattle.deferred.proofs.ReadyLaws.{Law, law_went, ready_after, idle_ready}
 
@@ -56,23 +57,14 @@ byte_same x m {m1} {b} e = go (ltb m.at (length x.payload)) e
 pub byte_addresses : (x : Input) (s : State) {b : ℕ} {t : State} → got b (mem t nothing) ≡ byte x (mem s nothing) → t.addresses ≡ s.addresses
 byte_addresses x s e = ap (λ (t : Table). t.count) (byte_same x (mem s nothing) e)
 
-raw_other : (t : Bool) → eqb (raw_kind t) 1 ≡ false
-raw_other true = refl
-raw_other false = refl
+-- the object that a value is, or the fault where it is none
+pub an_object : (v : SlotValue) (r : Option ℕ) (u : Refused) {o : ℕ} → Named v r → Ok o ≡ ok_or r u → v ≡ IsRef (Object o)
+an_object v (Some k) u {o} h e = let z : o ≡ k = cc in rw z h
+an_object v Nothing u h e = absurd (let z : ◌≡◌ {A = ℕ} 0 1 = cc in omega arith)
 
-other_kind : (v : SlotValue) → ((o : ℕ) → v ≡ IsRef (Object o) → ⊥) → eqb (fields_of v).kind 1 ≡ false
-other_kind (IsRef (Object o)) h = absurd (h o refl)
-other_kind (IsRef (Root i)) h = refl
-other_kind (IsRef (RoRef c o)) h = refl
-other_kind (IsRef (Attached i)) h = refl
-other_kind (Repeat n k) h = refl
-other_kind (RepeatPrev n) h = refl
-other_kind (Skip n) h = refl
-other_kind (StreamBytes n) h = refl
-other_kind (Raw r) h = raw_other r.advances
-other_kind ClearedWeak h = refl
-other_kind (WeakRef k) h = refl
-other_kind (PendingRef n) h = refl
+pub no_object : (v : SlotValue) (r : Option ℕ) (u : Refused) {e : Refused} → Named v r → Err e ≡ ok_or r u → (eqb (fields_of v).kind 1 ≡ false) × (e ≡ u)
+no_object v (Some k) u h q = absurd (let z : ◌≡◌ {A = ℕ} 0 1 = cc in omega arith)
+no_object v Nothing u {e} h q = let z : e ≡ u = cc in (h, z)
 
 module _ (x : Input) (space : ℕ) (m : Mem) where
   pub object_cut : {n q : ℕ} {m1 : Mem} → no n q m1 ≡ byte x m → no n q m1 ≡ entry_object x space m
@@ -86,8 +78,8 @@ module _ (x : Input) (space : ℕ) (m : Mem) where
       pub object_named : {o : ℕ} → v ≡ IsRef (Object o) → got o m2 ≡ entry_object x space m
       object_named k = rw (← e, ← h, k)
 
-      pub object-other : ((o : ℕ) → v ≡ IsRef (Object o) → ⊥) → no 0 m2.at m2 ≡ entry_object x space m
-      object-other k = rw (← e, ← h, other_kind v k)
+      pub object-other : eqb (fields_of v).kind 1 ≡ false → no 0 m2.at m2 ≡ entry_object x space m
+      object-other k = rw (← e, ← h, k)
 
   object_still : Idle m (entry_object x space m)
   object_still =

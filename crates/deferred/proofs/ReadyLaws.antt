@@ -1,7 +1,6 @@
 -- What holds at the start of a reader, after a reader of the driver went. Assumes nothing.
-use mathlib.Core.Path.{◌≡◌, refl, sym, subst, ◌∙◌}
+use mathlib.Core.Path.{◌≡◌, sym, subst}
 use mathlib.Core.List.{List, []}
-use native.Mathlib.Omega.{arith}
 use Rattle.std.specs.Prelude.{Ok}
 use Rattle.tables.specs.declared.values.SlotValue.{SlotValue}
 use Rattle.address_index.specs.Links.{Linked}
@@ -11,11 +10,11 @@ use Rattle.laws.specs.Rules.{Frame, Rules}
 use Rattle.laws.specs.Steps.{Good, Ends}
 use Rattle.laws.specs.Rules.{Nothing, NoValue}
 use Rattle.laws.proofs.Theorems.{rules, holds, begin}
-use Rattle.laws.specs.Addresses.{Ascending, Seated, seated_rules, stays, from, ascending_sorted}
+use Rattle.laws.specs.Addresses.{Ascending, Seated, seated_rules, stays, from}
 use Rattle.laws.specs.Numbered.{Numbered, FreshValue, Numbers, numbered-rules, orders, good}
 use Rattle.readers.specs.declared.state.State.{State}
 use Rattle.readers.specs.declared.walker.Walker.{Walker}
-use Rattle.readers.specs.Views.{Answer, mem}
+use Rattle.readers.specs.Views.{mem}
 use Rattle.readers.specs.Lent.{input_of, lent_of, Fixed, Addressed}
 use Rattle.readers.specs.Lent as Lent
 use Rattle.objects.specs.Index.{Indexed}

@@ -9,7 +9,7 @@ ghost use Rattle.readers.specs.Views.{mem, seen};
 ghost use Rattle.readers.specs.Lent.{input_of, lent_of, Kept, Addressed};
 ghost use Rattle.objects.specs.Index.{Indexed, IndexedAfter};
 ghost use Rattle.walker.specs.Ready.{Ready, After};
-ghost use Rattle.deferred.specs.Entry.{entry_object};
+ghost use Rattle.deferred.specs.Entry.{Named, entry_object};
 
 use objects::item::push_slot;
 use readers::ints::{read_byte, read_int};
@@ -64,7 +64,7 @@ fn add_slots(w: &mut Walker, s: State, o: u64, f: Fields, index: u64, n: u64) ->
 {
     let mut t = s;
     for i in 0..n {
-        let (_, u) = push_slot(w, t, o, index + i, f, 0)?;
+        let (_, u) = push_slot(w, t, o, index + i, f, false)?;
         t = u;
     }
     Ok(((), t))
@@ -77,7 +77,7 @@ fn first_index(w: &Walker, o: u64) -> u64
     field(w.objects, 4, o, 3).max(1)
 }
 
-// The items of an entry of object o, while the count is below the size.
+// The items of an entry of object o, while the count is below the size: the step is what was read, so that a `for` would be no plainer.
 fn entry_items(w: &mut Walker, s: State, o: u64, size: u64) -> Answer<()>
     requires ready { Ready w.old s }
     requires legacy { (is_legacy w.old.sheet.now ≡ true) × (size < 2 ^ 30) }
@@ -100,6 +100,16 @@ fn entry_items(w: &mut Walker, s: State, o: u64, size: u64) -> Answer<()>
     Ok(((), t))
 }
 
+// The object that a slot's value is; none where it is anything else.
+fn object_of(v: SlotValue) -> Option<u64>
+    ensures { Named v result }
+{
+    match v {
+        SlotValue::Ref(Ref::Object(o)) => Some(o),
+        _ => None,
+    }
+}
+
 // The object that an entry names: a new-object byte, then a back-reference of its space.
 fn entry_object(w: &mut Walker, s: State, space: u64) -> Answer<u64>
     requires { Addressed w.old s.addresses }
@@ -108,13 +118,8 @@ fn entry_object(w: &mut Walker, s: State, space: u64) -> Answer<u64>
 {
     let (_, t) = read_byte(w.payload, s)?;
     let (value, u) = legacy_ref(w, t, space)?;
-    let SlotValue::Ref(named) = value else {
-        return Err(u.refused(Refusal::NoEntry));
-    };
-    match named {
-        Ref::Object(o) => Ok((o, u)),
-        _ => Err(u.refused(Refusal::NoEntry)),
-    }
+    let o = object_of(value).ok_or(u.refused(Refusal::NoEntry))?;
+    Ok((o, u))
 }
 
 // An entry of a space.

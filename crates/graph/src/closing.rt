@@ -43,7 +43,7 @@ fn drop_ref(w: &mut Walker, s: State) -> Answer<()>
     Ok(((), t))
 }
 
-// Such a reference, or a deferred entry.
+// Such a reference, or a deferred entry. Asked apart from the other two kinds, so that what a fault ends is said once.
 fn one_entry(w: &mut Walker, s: State, e: Closing) -> Answer<()>
     requires ready { Ready w.old s }
     requires in_legacy { InLegacy w.old.sheet.now e }
@@ -56,7 +56,8 @@ fn one_entry(w: &mut Walker, s: State, e: Closing) -> Answer<()>
     }
 }
 
-// Entries until kSynchronize.
+// Entries until kSynchronize: the step is what was read, so that a `for` would be no plainer. No `?`, since most faults of an entry only
+// end a legacy section.
 fn entries(w: &mut Walker, s: State) -> Answer<()>
     requires ready { Ready w.old s }
     ensures is { seen result (lent_of w.new) ≡ entriesFrom (input_of w.old) (length w.old.payload.now - s.at + 1) (mem s (lent_of w.old)) }

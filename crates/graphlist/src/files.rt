@@ -88,6 +88,7 @@ fn reservations_of(alloc: Global, bytes: &[u8]) -> io::Result<Vec<u32>>
     Ok(fours.iter().map(|x| u32::from_le_bytes(*x)).collect(alloc)?)
 }
 
+// This and `read_reservations` name a file, how it is opened and what its bytes are: one function of both would take all three.
 fn read_sheet(rt: &impl Files, alloc: Global) -> io::Result<Vec<u16>>
     ensures { IfOk result (λ v. (vec_len v ≡ 0) ⊎ (vec_len v ≡ 58)) }
 {

@@ -7,7 +7,7 @@ ghost use Rattle.heads.specs.Assigning.{span_bytes, family_number, argument_numb
 use crate::kinds::Kind;
 use crate::order::{Argument, Family, ORDER, Span};
 use sheet::names::{K_BACKREF, K_FIXED_REPEAT, K_NEW_OBJECT};
-use sheet::numbers::{legacy, number, number_of_spaces, present, root_mask, six_x};
+use sheet::numbers::{legacy, number, number_of_spaces, present, present_number, root_mask, six_x};
 use usable_sheets::usable::usable;
 
 // How many bytes a name lays hold of.
@@ -82,8 +82,9 @@ fn claim_all(sheet: &[u16], heads: &mut [Head; 256])
 {
     let mask = root_mask(sheet);
     for c in ORDER.iter().rev() {
-        if present(sheet, c.name) && tested(sheet, c.family) {
-            let first = number(sheet, c.name);
+        if let Some(first) = present_number(sheet, c.name)
+            && tested(sheet, c.family)
+        {
             let n = span_of(sheet, c.span);
             assign(heads, first, n, c.kind, c.argument, mask);
         }

@@ -58,7 +58,7 @@ fn smis(rt: &impl Print) -> io::Result<()> {
     Ok(())
 }
 
-// Sheet A of document 01.
+// Sheet A, as the order has it.
 fn sheet_a() -> [u16; SHEET_LENGTH] {
     let mut sheet = [ABSENT; SHEET_LENGTH];
     sheet[K_NEW_OBJECT] = 0x00;

@@ -16,7 +16,6 @@ use Rattle.stream.specs.PutInt.{int_at}
 use Rattle.sheet.specs.Sheet.{word_bytes, usable}
 use Rattle.sheet.proofs.UsableSheet.{usable_gives}
 use Rattle.heads.specs.Heads.{head_at, Heads}
-use Rattle.heads.specs.declared.heads.Head.{Head}
 use Rattle.heads.specs.Kinds.{kind_number}
 use Rattle.tables.specs.declared.values.Ref.{Ref}
 use Rattle.tables.specs.declared.values.Ref.TheVariants.{Object, Root, RoRef}
@@ -35,7 +34,6 @@ use Rattle.readers.specs.declared.state.State.{State}
 use Rattle.readers.specs.declared.walker.Walker.{Walker}
 use Rattle.readers.specs.Views.{Lent, input, mem, hot_is, slots_is, objects_is, moved_to}
 use Rattle.readers.specs.Lent.{input_of, lent_of}
-use Rattle.readers.proofs.HeadFacts.{head_fits}
 use Rattle.readers.proofs.ViewLaws.{then_got}
 use Rattle.readers.proofs.SimpleLaws.{backref_in, hot_is_lem, legacy_to, raw_to}
 use Rattle.leaves.specs.declared.leaf.Leaf.{Leaf}
@@ -64,10 +62,6 @@ module _ (x : Input) (r : Ref) where
 int_got : (x : Input) (m : Mem) {i : Int} → int_at x.payload m.at ≡ Some i → got i.value (moved (m.at + i.count) m) ≡ int x m
 unfolding int
 int_got x m e = rw e
-
--- a hot head's argument is a place of the ring
-pub place_low : {v : List ℕ} {hs : List Head} → Heads v hs → (b : ℕ) → b < 256 → kind_number (head_at hs b).kind ≡ 7 → (head_at hs b).argument < 8
-place_low {v} h b l e = rw (h.argument b l) ((head_fits v b l).place (sym (h.kind b l) ∙ e))
 
 -- a reference that was read so, as a leaf
 ref_stands : (x : Input) (tag kind a : ℕ) (s : State) (l : Lent) (r : Ref) (next ts : ℕ) (enters : Bool) → word x ≡ ts
@@ -176,9 +170,6 @@ module _ (w : Walker) (s : State) (ts : ℕ) (r : Leaf) (decoded : Heads w.sheet
     (found : FoundIn w s ts (s.at + 1) (kind_number (head_at w.heads.now (get_or w.payload.now s.at 0)).kind) (head_at w.heads.now (get_or w.payload.now s.at 0)).argument (Some r)) where
   abbrev is : Stands (input_of w) s.at (kind_number (head_at w.heads.now (get_or w.payload.now s.at 0)).kind) (head_at w.heads.now (get_or w.payload.now s.at 0)).argument (moved_to (s.at + 1) s) (lent_of w) r
   is = found s.at (sym words)
-
-  pub item_narrow : ts ≤ 8 → r.width < 2 ^ 20
-  item_narrow few = is.narrow (rw words at few)
 
   pub item_read : (o done : ℕ) (ot st : List ℕ) (hot : HotRing) → s.slots < room 6 w.slots.now → st ≡ written w.slots.now s.slots (slot_row o ((done + s.skip) / ts) (fields_of r.value) 0) → ot ≡ set w.objects.now (o * 4 + 3) (field 4 w.objects.now o 3 + 1) → hot ≡ ring r w.hot → (inner : Reader SlotValue)
       → got (done + s.skip + r.width) (mem (stepped r s) (objects_is ot (slots_is st (hot_is hot (lent_of w))))) ≡ placed_in (input_of w) (reference (input_of w) inner) o done (mem s (lent_of w))

@@ -1,8 +1,9 @@
-// The commonest references that hold no other, read without the readers of every reference, so that a slot with one of them costs little: a
-// root, a hot place, a back-reference (in an item a legacy one too), a read-only reference and fixed raw data. What is refused is left to the
-// readers of every reference.
+// The commonest references that hold no other, read without the readers of every reference, so that a slot with one of them costs
+// little: a root, a hot place, a back-reference (in an item a legacy one too), a read-only reference and fixed raw data. What is refused
+// is left to the readers of every reference: a leaf says only None there, and those readers have to say which refusal it is and where
+// the cursor stands. So both read these kinds.
 
-ghost use Rattle.std.specs.Prelude.{true, ◌≡◌, List, ℕ, ◌+◌, ◌*◌, ◌^◌, ◌<◌, ◌≤◌, length, get_or, IfSome, IsNone};
+ghost use Rattle.std.specs.Prelude.{true, ◌≡◌, List, ℕ, ◌+◌, ◌*◌, ◌^◌, ◌<◌, length, get_or, IfSome, IsNone};
 ghost use Rattle.sheet.specs.Sheet.{word_bytes};
 ghost use Rattle.heads.specs.Heads.{head_at, Heads};
 ghost use Rattle.heads.specs.Kinds.{kind_number};
@@ -50,9 +51,11 @@ fn reference(r: Ref, next: usize, word: u64, enters: bool) -> Leaf
 
 // A reference at a place of the hot ring.
 fn hot_leaf(hot: &HotRing, place: usize, next: usize, word: u64) -> Option<Leaf>
-    requires { place < 8 }
     ensures { (p : List ℕ) (objects : ℕ) → Found p hot.now objects word next 7 place result }
 {
+    if 8 <= place {
+        return None;
+    }
     let r = hot.get(place)?;
     Some(reference(r, next, word, false))
 }
@@ -94,10 +97,10 @@ fn read_only_leaf(p: &[u8], at: usize, word: u64) -> Option<Leaf>
 
 // Fixed raw data of n words.
 fn raw_leaf(p: &[u8], at: usize, n: u64, word: u64) -> Option<Leaf>
-    requires { (n < 65536) × (word ≤ 8) }
+    requires { n < 65536 }
     ensures { (hot : HotRing) (objects : ℕ) → Found p.now hot objects word at 28 n result }
 {
-    let bytes = n * word;
+    let bytes = n.checked_mul(word)?;
     let next = raw(p, at, bytes as usize)?;
     Some(Leaf {
         value: SlotValue::Raw(Raw {
@@ -113,7 +116,6 @@ fn raw_leaf(p: &[u8], at: usize, n: u64, word: u64) -> Option<Leaf>
 
 // The leaf that a head begins, after which the cursor stands.
 fn leaf_of(w: &Walker, head: Head, at: usize, objects: usize, word: u64) -> Option<Leaf>
-    requires { (word ≤ 8) × (kind_number head.kind ≡ 7 → head.argument < 8) }
     ensures { Found w.now.payload.now w.now.hot objects word at (kind_number head.kind) head.argument result }
 {
     let p = w.payload;
@@ -131,7 +133,6 @@ fn leaf_of(w: &Walker, head: Head, at: usize, objects: usize, word: u64) -> Opti
 
 // What stands at a place, where there are so many objects.
 pub fn leaf_at(w: &Walker, at: usize, objects: usize, word: u64) -> Option<Leaf>
-    requires { (word ≤ 8) × Heads w.now.sheet.now w.now.heads.now }
     ensures { LeafAt w.now at objects word result }
 {
     if w.payload.len() <= at {
@@ -152,7 +153,6 @@ fn legacy_leaf(w: &Walker, s: State, at: usize, space: u64, word: u64) -> Option
 
 // What stands at the cursor, a legacy back-reference too.
 fn any_leaf(w: &Walker, s: State, word: u64) -> Option<Leaf>
-    requires decoded { (word ≤ 8) × Heads w.now.sheet.now w.now.heads.now }
     requires addressed { Addressed w.now s.addresses }
     ensures there { IfSome result (λ _. (s.at < length w.now.payload.now) × (get_or w.now.payload.now s.at 0 < 256)) }
     ensures found { FoundIn w.now s word (s.at + 1) (kind_number (head_at w.now.heads.now (get_or w.now.payload.now s.at 0)).kind) (head_at w.now.heads.now (get_or w.now.payload.now s.at 0)).argument result }
@@ -192,8 +192,7 @@ pub fn enter(hot: &mut HotRing, leaf: Leaf)
 
 // A leaf at the cursor as a reference that is read.
 pub fn take_leaf(w: &mut Walker, s: State, word: u64) -> Option<(SlotValue, State)>
-    requires { (word ≡ word_bytes w.old.sheet.now) × (word ≤ 8) × Heads w.old.sheet.now w.old.heads.now }
-    ensures read { IfSome result (λ r. (inner : Reader SlotValue) → got r.0 (mem r.1 (lent_of w.new)) ≡ referenceOf (input_of w.old) inner (mem s (lent_of w.old))) }
+    ensures read { IfSome result (λ r. word ≡ word_bytes w.old.sheet.now → Heads w.old.sheet.now w.old.heads.now → (inner : Reader SlotValue) → got r.0 (mem r.1 (lent_of w.new)) ≡ referenceOf (input_of w.old) inner (mem s (lent_of w.old))) }
     ensures none { IsNone result → lent_of w.new ≡ lent_of w.old }
     ensures order { StaysInOrder w.old s result w.new }
     ensures kept { Kept w.old w.new }
@@ -205,7 +204,7 @@ pub fn take_leaf(w: &mut Walker, s: State, word: u64) -> Option<(SlotValue, Stat
 }
 
 // A leaf at the cursor as an item of object o, `done` bytes of which have been read: the bytes read then. None where no leaf stands there,
-// where its slot record has no room, and at the last level, where a reference is refused; then nothing is changed.
+// where its slot record or the bytes read then have no room, and at the last level, where a reference is refused; then nothing is changed.
 pub fn place_leaf(
     w: &mut Walker,
     s: State,
@@ -214,18 +213,18 @@ pub fn place_leaf(
     word: u64,
     d: usize,
 ) -> Option<(u64, State)>
-    requires decoded { (word ≡ word_bytes w.old.sheet.now) × Heads w.old.sheet.now w.old.heads.now × Addressed w.old s.addresses }
-    requires bounds { (field 4 w.old.objects.now o 3 < 2 ^ 63) × (done < 2 ^ 60) × (s.skip < 2 ^ 60) }
-    ensures read { IfSome result (λ r. (d < 64) × ((inner : Reader SlotValue) → got r.0 (mem r.1 (lent_of w.new)) ≡ placed_in (input_of w.old) (referenceOf (input_of w.old) inner) o done (mem s (lent_of w.old)))) }
+    requires { (field 4 w.old.objects.now o 3 < 2 ^ 63) × Addressed w.old s.addresses }
+    ensures read { IfSome result (λ r. (d < 64) × (word ≡ word_bytes w.old.sheet.now → Heads w.old.sheet.now w.old.heads.now → (inner : Reader SlotValue) → got r.0 (mem r.1 (lent_of w.new)) ≡ placed_in (input_of w.old) (referenceOf (input_of w.old) inner) o done (mem s (lent_of w.old)))) }
     ensures none { IsNone result → lent_of w.new ≡ lent_of w.old }
     ensures order { StaysInOrder w.old s result w.new }
     ensures kept { Kept w.old w.new }
 {
-    if 64 <= d {
+    if 64 <= d || word == 0 {
         return None;
     }
     let leaf = any_leaf(w, s, word)?;
-    let start = done + s.skip;
+    let start = done.checked_add(s.skip)?;
+    let end = start.checked_add(leaf.width)?;
     let f = fields_of(leaf.value);
     if !add_slot(w.slots, s.slots, o as u64, start / word, f, 0) {
         return None;
@@ -238,5 +237,5 @@ pub fn place_leaf(
         skip: 0,
         ..s
     };
-    Some((start + leaf.width, t))
+    Some((end, t))
 }

@@ -1,6 +1,6 @@
 -- What is known of an object that begins, and of one that becomes a slot. Assumes nothing.
-use Rattle.std.specs.Prelude.{◌≡◌, refl, Bool, true, false, ◌&&◌, List, ℕ, ◌+◌, ◌*◌, ◌/◌, ◌<◌, ltb, eqb, length, get_or, set}
-use Rattle.std.proofs.Common.{arith, sym, ◌∙◌, ltb-true, eqb-true}
+use Rattle.std.specs.Prelude.{◌≡◌, Bool, true, false, List, ℕ, ◌+◌, ◌*◌, ◌/◌, ◌%◌, ◌^◌, ◌<◌, max, ltb, eqb, length, get_or, set}
+use Rattle.std.proofs.Common.{arith, ltb-true, eqb-true}
 use Rattle.std.proofs.lemmas.Bool.{and_parts}
 use Rattle.heads.specs.Kinds.{kind_number, new_object}
 use Rattle.heads.specs.Heads.{head_at}
@@ -8,7 +8,7 @@ use Rattle.tables.specs.declared.values.SlotValue.TheVariants.{Ref as IsRef}
 use Rattle.tables.specs.declared.values.Ref.TheVariants.{Object}
 use Rattle.tables.specs.declared.values.Fields.{Fields}
 use Rattle.tables.specs.Values.{fields_of}
-use Rattle.tables.specs.Records.{room, field, slot_row, written, has_room, Put}
+use Rattle.tables.specs.Records.{field, slot_row, Put}
 use Rattle.definition.specs.Memory.{Input, word, got, no}
 use Rattle.definition.specs.Slots.{add_slot, keep_item, place_item}
 use Rattle.readers.specs.declared.state.State.{State}
@@ -16,7 +16,6 @@ use Rattle.readers.specs.declared.walker.Walker.{Walker}
 use Rattle.readers.specs.Views.{Lent, mem, objects_is, slots_is}
 use Rattle.readers.proofs.ViewLaws.{put_full, put_done}
 use Rattle.leaves.specs.Leaf.{opens_at}
-use Rattle.levels.specs.Level.{Begins}
 
 -- a new object stands at the cursor
 pub opens : (w : Walker) (at : ℕ) → opens_at w at ≡ true → (at < length w.payload.now) × (kind_number (head_at w.heads.now (get_or w.payload.now at 0)).kind ≡ new_object)
@@ -24,6 +23,13 @@ opens w at e =
     let a : Bool = ltb at (length w.payload.now) in
     let b : Bool = eqb (kind_number (head_at w.heads.now (get_or w.payload.now at 0)).kind) new_object in
     (ltb-true at (length w.payload.now) (and_parts a b e).0, eqb-true _ new_object (and_parts a b e).1)
+
+-- the index and the bytes read then, where they fit
+pub fits : (done skip word : ℕ) → 0 < word → done + skip + word < 2 ^ 64 → ((done + skip) % 2 ^ 64 / max word 1 ≡ (done + skip) / word) × (((done + skip) % 2 ^ 64 + word) % 2 ^ 64 ≡ done + skip + word)
+fits done skip word b f =
+    let m : max word 1 ≡ word = omega (arith, b) in
+    let e : (done + skip) % 2 ^ 64 ≡ done + skip = omega (arith, f) in
+    (rw (m, e), rw e (omega (arith, f)))
 
 -- the state after the slot of an object
 abbrev after_slot : State → State

@@ -21,8 +21,8 @@ use stream::bytes::{byte, peek};
 use tables::records::{add_slot, count_slot};
 use tables::values::{Ref, SlotValue, fields_of};
 
-// An object that is being read: its number, its bytes and how many of them have been read, where its head stands, and its space. Nothing read: its
-// size and map are still to come.
+// An object that is being read: its number, its bytes and how many of them have been read, where its head stands, and its space. Nothing
+// read: its size and map are still to come. No enum of the two: each turn of the loop would take the level apart and make it again.
 #[derive(Clone, Copy, Default)]
 pub struct Level {
     pub object: usize,
@@ -37,11 +37,9 @@ pub fn unread(tag: usize, space: u64) -> Level
     ensures { result ≡ unread_at tag space }
 {
     Level {
-        object: 0,
-        size: 0,
-        done: 0,
         tag,
         space,
+        ..Level::default()
     }
 }
 
@@ -69,14 +67,14 @@ pub fn child_at(w: &Walker, at: usize) -> Level
 
 // An object that is full, as an item of the one around it: the bytes of that which have been read then.
 pub fn put_object(w: &mut Walker, s: State, outer: Level, child: usize, word: u64) -> Answer<u64>
-    requires { (field 4 w.old.objects.now outer.object 3 < 2 ^ 63) × (0 < word) × (outer.done + s.skip + word < 2 ^ 64) }
-    ensures is { (x : Input) → word_of x ≡ word → seen result (lent_of w.new) ≡ place_item x outer.object outer.done (IsRef (Object child)) (mem s (lent_of w.old)) }
+    requires { field 4 w.old.objects.now outer.object 3 < 2 ^ 63 }
+    ensures is { (x : Input) → word_of x ≡ word → 0 < word → outer.done + s.skip + word < 2 ^ 64 → seen result (lent_of w.new) ≡ place_item x outer.object outer.done (IsRef (Object child)) (mem s (lent_of w.old)) }
     ensures kept { Kept w.old w.new }
 {
     let o = outer.object as u64;
-    let start = outer.done + s.skip;
+    let start = outer.done.wrapping_add(s.skip);
     let f = fields_of(SlotValue::Ref(Ref::Object(child as u64)));
-    if !add_slot(w.slots, s.slots, o, start / word, f, 0) {
+    if !add_slot(w.slots, s.slots, o, start / word.max(1), f, 0) {
         return Err(s.refused(Refusal::NoRoom));
     }
     count_slot(w.objects, o);
@@ -85,5 +83,5 @@ pub fn put_object(w: &mut Walker, s: State, outer: Level, child: usize, word: u6
         skip: 0,
         ..s
     };
-    Ok((start + word, t))
+    Ok((start.wrapping_add(word), t))
 }

@@ -11,11 +11,13 @@ use lib.ListN.{length, get_or}
 use Rattle.tables.specs.declared.values.SlotValue.{SlotValue}
 use Rattle.tables.specs.declared.values.Fields.{Fields}
 use Rattle.tables.specs.Values.{fields_of}
+use Rattle.std.specs.Prelude.{Some}
+use Rattle.std.proofs.lemmas.Option.{none-some}
 use Rattle.stream.specs.Bytes.{peek_at}
 use Rattle.stream.proofs.ByteLaws.{peek_end}
 use Rattle.sheet.specs.Names.{k_next_chunk, k_alignment_prefix}
 use Rattle.sheet.specs.Sheet.{number, is_map_first, usable}
-use Rattle.sheet.specs.Tests.{in_span, is_next_chunk, alignment_of}
+use Rattle.sheet.specs.Tests.{in_span, is_next_chunk, alignment_of, unless_zero}
 use Rattle.sheet.proofs.UsableSheet.{usable_gives}
 use Rattle.sheet.proofs.TestsLaws.{span_from, span_below, alignment_out}
 use Rattle.tables.specs.Records.{room, address_row, written}
@@ -64,8 +66,8 @@ module _ (v : List ℕ) (u : usable v ≡ true) (b : ℕ) where
   in_span_lem true e h q = span_there e q
   in_span_lem false e h q = h (sym (alignment_out v b e))
 
-  alignment_there : {a : ℕ} → a ≡ alignment_of v b → (a ≡ 0 → ⊥) → b ≡ 256 → ⊥
-  alignment_there e h q = in_span_lem (in_span v k_alignment_prefix 3 b) refl (λ z. h (e ∙ z)) q
+  alignment_there : (alignment_of v b ≡ 0 → ⊥) → b ≡ 256 → ⊥
+  alignment_there = in_span_lem (in_span v k_alignment_prefix 3 b) refl
 
 -- ---- allocation
 
@@ -190,10 +192,14 @@ module _ (w₀ : Walker) (space : ℕ) (s : State) where
 
 -- ---- after the map
 
+not_zero : {a : ℕ} (n : ℕ) → Some a ≡ unless_zero n → n ≡ 0 → ⊥
+not_zero {a} zero e q = none-some a (sym e)
+not_zero {a} (suc m) e q = omega arith
+
 -- an alignment prefix is a byte of the payload
-module _ (w : Walker) (s : State) {b : ℕ} (eb : b ≡ peek_at w.payload.now s.at) {a : ℕ} (ea : a ≡ alignment_of w.sheet.now b) where
-  pub prefix_there : usable w.sheet.now ≡ true → (a ≡ 0 → ⊥) → s.at < length w.payload.now
-  prefix_there u n = peek-within w.payload.now s.at eb (alignment_there w.sheet.now u b ea n)
+module _ (w : Walker) (s : State) {b : ℕ} (eb : b ≡ peek_at w.payload.now s.at) {a : ℕ} (ea : Some a ≡ unless_zero (alignment_of w.sheet.now b)) where
+  pub prefix_there : usable w.sheet.now ≡ true → s.at < length w.payload.now
+  prefix_there u = peek-within w.payload.now s.at eb (alignment_there w.sheet.now u b (not_zero (alignment_of w.sheet.now b) ea))
 
 pub after_first : (x : Input) (before space bytes o : ℕ) (m : Mem) {first : Bool} → first ≡ is_map_first x.sheet → {out : Out (Unit {0})} → first ≡ true → {m₁ m₂ : Mem} → got tt m₁ ≡ alignment_byte x (aligned before m) → got tt m₂ ≡ chunk_changes x space (length x.payload - m₁.at) m₁ → out ≡ allocate x space bytes o m₂ → out ≡ after_map x before space bytes o m
 after_first x before space bytes o m g t e f h = rw (sym g ∙ t, ← e, ← f) h

@@ -1,4 +1,4 @@
--- The search for a slot that waits, a resolve, and the resolves after an object's map, at each way out of the code. Assumes nothing.
+-- A resolve, and the resolves after an object's map, at each way out of the code. Assumes nothing.
 use mathlib.Core.Path.{◌≡◌, refl, sym, ap, subst, ◌∙◌}
 use mathlib.Core.Bool.{Bool, true, false}
 use mathlib.Core.List.{List}
@@ -18,11 +18,10 @@ use Rattle.sheet.specs.Names.{k_resolve_pending_forward_ref}
 use Rattle.sheet.specs.Sheet.{number, usable}
 use Rattle.sheet.specs.Tests.{is_resolve}
 use Rattle.sheet.proofs.UsableSheet.{usable_gives}
-use Rattle.tables.specs.Values.{pick_ℕ}
 use Rattle.tables.specs.Records.{room, filled}
 use Rattle.tables.proofs.RecordLaws.{filled_length}
 use Rattle.definition.specs.Memory.{Input, Mem, got, no, moved, with_pending, byte, int, after_int}
-use Rattle.definition.specs.Slots.{waits_for, waiter, renumbered, fill_waiter, resolved}
+use Rattle.definition.specs.Slots.{waiter, renumbered, fill_waiter, resolved}
 use Rattle.definition.specs.Object.{peek, resolves}
 use Rattle.laws.specs.Waiting.{Waits, some_wait, waiter_found as waits-found}
 use Rattle.laws.specs.Numbered.{Numbered as Waiting, resolved-numbered}
@@ -33,14 +32,6 @@ use Rattle.readers.specs.Views.{Lent, mem, slots_is}
 use Rattle.objects.specs.Index.{Indexed}
 use Rattle.objects.proofs.AnswerLaws.{kept_still, kept_then}
 use Rattle.objects.proofs.WaiterLaws.{by_case, waiter_found, indexed_filled}
-
--- ---- the search, from the newest slot on
-
--- a slot that the search comes to
-pub last_waiter : (st : List ℕ) (number i : ℕ) → 0 < i → waiter st number i ≡ pick_ℕ (waits_for st number (i - 1)) i (waiter st number (i - 1))
-unfolding waiter
-last_waiter st number zero h = absurd (omega arith)
-last_waiter st number (suc i) h = let e : suc i - 1 ≡ i = omega arith in rw e
 
 -- ---- a resolve
 

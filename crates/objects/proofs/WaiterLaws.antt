@@ -10,7 +10,10 @@ use borrow.Author.Tests.{eqb-true, eqb-false, eq-eqb, ne_eqb}
 use lib.Dec.{eqb}
 use lib.ListN.{set, length-set}
 use lib.Seq.{get_or-set_same, get_or-set_other}
+use Rattle.std.proofs.Math.Bool.{and-false}
+use Rattle.std.specs.Bool.{then_some}
 use Rattle.std.proofs.lemmas.Bool.{and_parts}
+use Rattle.address_index.specs.Links.{counted}
 use Rattle.tables.specs.declared.values.Fields.{Fields}
 use Rattle.tables.specs.Records.{room, field, slot_row, written, filled}
 use Rattle.tables.proofs.RecordLaws.{written_same, written_else, filled_same, filled_else}
@@ -29,10 +32,6 @@ same_or P a b y n = by_case P (eqb a b) (λ e. y (eqb-true a b e)) (λ e. n (eqb
 clash : {P : Type 0} (t : Bool) → t ≡ true → t ≡ false → P
 clash t y n = let z : ◌≡◌ {A = ℕ} 0 1 = cc in absurd (omega arith)
 
-and_false : (t : Bool) → t && false ≡ false
-and_false true = refl
-and_false false = refl
-
 -- ---- one slot
 
 module _ (st : List ℕ) (n i : ℕ) where
@@ -40,7 +39,7 @@ module _ (st : List ℕ) (n i : ℕ) where
   waits_off h = rw (ne_eqb (field 6 st i 5) 1 h)
 
   waits_other : field 6 st i 3 ≢ n → waits_for st n i ≡ false
-  waits_other h = rw (ne_eqb (field 6 st i 3) n h) (and_false (eqb (field 6 st i 5) 1))
+  waits_other h = rw (ne_eqb (field 6 st i 3) n h) (and-false (eqb (field 6 st i 5) 1))
 
   waits_on : field 6 st i 5 ≡ 1 → field 6 st i 3 ≡ n → waits_for st n i ≡ true
   waits_on e f = rw (eq-eqb (field 6 st i 5) 1 e, eq-eqb (field 6 st i 3) n f)
@@ -113,6 +112,11 @@ module _ (st : List ℕ) (c n k : ℕ) (x : Entry st c n k) where
       (λ ne. let e : k ≡ waiter st n c = x (omega arith) in
       let r = waiter_found st n c (k - 1) (omega arith) in
       clash (waits_for st n (k - 1)) r.1 (f (omega arith) (omega (arith, r.0))))
+
+  -- what the test of the slot that it names gives
+  pub confirmed_test : 0 < k → k ≤ c → (b : Bool) → b ≡ waits_for st n (k - 1) → counted (then_some b (k - 1)) ≡ waiter st n c
+  confirmed_test h l true e = let z : suc (k - 1) ≡ k = omega arith in z ∙ confirmed_yes h l (sym e)
+  confirmed_test h l false e = confirmed_no (λ _ _. sym e)
 
 -- ---- a slot record is added
 

@@ -1,7 +1,8 @@
 // Slots and items of an object.
 
-ghost use Rattle.std.specs.Prelude.{true, ◌≡◌, ◌+◌, ◌^◌, ◌<◌, ◌≤◌};
-ghost use Rattle.sheet.specs.Sheet.{usable, word_bytes};
+ghost use Rattle.std.specs.Prelude.{◌≡◌, ◌+◌, ◌^◌, ◌<◌, ◌≤◌};
+ghost use Rattle.std.specs.Int.{from_bool};
+ghost use Rattle.sheet.specs.Sheet.{word_bytes};
 ghost use Rattle.tables.specs.Values.{width_of};
 ghost use Rattle.tables.specs.Records.{room, field};
 ghost use Rattle.definition.specs.Slots.{waits_of, repeat_previous, keep_item, place_item};
@@ -18,20 +19,22 @@ use sheet::numbers::word_bytes;
 use tables::records::{add_slot, count_slot, put};
 use tables::values::{Fields, SlotValue, fields_of, width};
 
-// A slot record of object o, if there is room, and the object's slot count with it: the record's number.
+// A slot record of object o, if there is room, and the object's slot count with it: the record's number. Other records are added alike, but
+// for table, row, count and answer: a function of these would take a closure for each.
 pub fn push_slot(
     w: &mut Walker,
     s: State,
     o: u64,
     index: u64,
     f: Fields,
-    waits: u64,
+    waits: bool,
 ) -> Answer<usize>
-    requires { (field 4 w.old.objects.now o 3 < 2 ^ 63) × (s.waiting < 2 ^ 63) × (waits ≤ 1) }
-    ensures is { seen result (lent_of w.new) ≡ slot_of o index f waits (mem s (lent_of w.old)) }
+    requires { (field 4 w.old.objects.now o 3 < 2 ^ 63) × (s.waiting < 2 ^ 63) }
+    ensures is { seen result (lent_of w.new) ≡ slot_of o index f (from_bool waits) (mem s (lent_of w.old)) }
     ensures kept { Kept w.old w.new }
 {
     let n = s.slots;
+    let waits = u64::from(waits);
     if !add_slot(w.slots, n, o, index, f, waits) {
         return Err(s.refused(Refusal::NoRoom));
     }
@@ -62,7 +65,7 @@ fn keep_previous(w: &mut Walker, s: State) -> Answer<u64>
 
 // An item that becomes a slot, after the with-skip amount that stands: the bytes read then.
 fn keep_item(w: &mut Walker, s: State, o: usize, done: u64, v: SlotValue) -> Answer<u64>
-    requires bounds { (usable w.old.sheet.now ≡ true) × (o < room 4 w.old.objects.now) × (field 4 w.old.objects.now o 3 < 2 ^ 63) × (s.waiting < 2 ^ 63) × (done + s.skip + width_of (word_bytes w.old.sheet.now) v < 2 ^ 64) }
+    requires bounds { (o < room 4 w.old.objects.now) × (field 4 w.old.objects.now o 3 < 2 ^ 63) × (s.waiting < 2 ^ 63) × (word_bytes w.old.sheet.now ≤ 8) × (0 < word_bytes w.old.sheet.now) × (done + s.skip + width_of (word_bytes w.old.sheet.now) v < 2 ^ 64) }
     requires indexed { Indexed w.old.slots.now s.slots w.old.pending.now }
     ensures is { seen result (lent_of w.new) ≡ keep_item (input_of w.old) o done v (mem s (lent_of w.old)) }
     ensures index { IndexedAfter result w.new.slots.now w.new.pending.now }
@@ -79,16 +82,17 @@ fn keep_item(w: &mut Walker, s: State, o: usize, done: u64, v: SlotValue) -> Ans
     Ok((end, State { skip: 0, ..t }))
 }
 
-// 1 for a value that waits as a slot, else 0.
-fn waits_of(v: SlotValue) -> u64
-    ensures { (result ≡ waits_of v) × (result ≤ 1) }
+// A value that waits as a slot.
+fn waits_of(v: SlotValue) -> bool
+    ensures { from_bool result ≡ waits_of v }
 {
-    u64::from(matches!(v, SlotValue::PendingRef(_)))
+    matches!(v, SlotValue::PendingRef(_))
 }
 
-// An item of object o, `done` bytes of which have been read: the bytes read then.
+// An item of object o, `done` bytes of which have been read: the bytes read then. The two are no struct: the answer has the one and not the
+// other.
 pub fn place_item(w: &mut Walker, s: State, o: usize, done: u64, v: SlotValue) -> Answer<u64>
-    requires bounds { (usable w.old.sheet.now ≡ true) × (o < room 4 w.old.objects.now) × (field 4 w.old.objects.now o 3 < 2 ^ 63) × (s.waiting < 2 ^ 63) × (done + s.skip + width_of (word_bytes w.old.sheet.now) v < 2 ^ 64) }
+    requires bounds { (o < room 4 w.old.objects.now) × (field 4 w.old.objects.now o 3 < 2 ^ 63) × (s.waiting < 2 ^ 63) × (word_bytes w.old.sheet.now ≤ 8) × (0 < word_bytes w.old.sheet.now) × (done + s.skip + width_of (word_bytes w.old.sheet.now) v < 2 ^ 64) }
     requires slots_nonzero { (0 < s.slots) × (s.slots ≤ room 6 w.old.slots.now) }
     requires indexed { Indexed w.old.slots.now s.slots w.old.pending.now }
     ensures is { seen result (lent_of w.new) ≡ place_item (input_of w.old) o done v (mem s (lent_of w.old)) }

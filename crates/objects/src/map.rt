@@ -84,20 +84,17 @@ fn allocate_object(w: &mut Walker, s: State, space: u64, bytes: u64, o: u64) -> 
         alignment: s.alignment,
         word: word_bytes(w.sheet),
     };
-    match allocate_record(w, s.addresses, want) {
-        Ok(alignment) => {
-            let t = State {
-                addresses: s.addresses + 1,
-                alignment,
-                ..s
-            };
-            Ok(((), t))
-        }
-        Err(refusal) => Err(s.refused(refusal)),
-    }
+    let alignment = allocate_record(w, s.addresses, want).map_err(|r| s.refused(r))?;
+    let t = State {
+        addresses: s.addresses + 1,
+        alignment,
+        ..s
+    };
+    Ok(((), t))
 }
 
-// Chunk changes at the cursor, as long as they name this space.
+// Chunk changes at the cursor, as long as they name this space: a `while` over the cursor, which an iterator over pairs would have to count
+// again.
 fn chunk_changes(w: &mut Walker, s: State, space: u64) -> State
     requires { (space < 256) × (s.at ≤ length w.old.payload.now) × (get_or w.old.alloc.cur space 0 ≤ s.at) × (length w.old.payload.now ≤ 16777216) }
     ensures is { got tt (mem result (lent_of w.new)) ≡ chunk_changes (input_of w.old) space (length w.old.payload.now - s.at) (mem s (lent_of w.old)) }
@@ -122,17 +119,16 @@ fn pass_prefix(w: &Walker, s: State, before: u64) -> State
     ensures is { (l : Lent) → got tt (mem result l) ≡ alignment_byte (input_of w.now) (aligned before (mem s l)) }
     ensures place { (s.at ≤ result.at) × (result.at ≤ length w.now.payload.now) × (result.addresses ≡ s.addresses) }
 {
-    let a = alignment(w.sheet, peek(w.payload, s.at));
-    if a == 0 {
-        return State {
+    match alignment(w.sheet, peek(w.payload, s.at)) {
+        Some(a) => State {
+            at: s.at + 1,
+            alignment: a,
+            ..s
+        },
+        None => State {
             alignment: before,
             ..s
-        };
-    }
-    State {
-        at: s.at + 1,
-        alignment: a,
-        ..s
+        },
     }
 }
 
@@ -170,7 +166,7 @@ pub fn is_flagged(trusted: &[u8], v: SlotValue) -> bool
     let SlotValue::Ref(Ref::Root(i)) = v else {
         return false;
     };
-    i < trusted.len() as u64 && trusted[i as usize] != 0
+    trusted.get(i as usize).is_some_and(|t| *t != 0)
 }
 
 // The object is flagged where its map is trusted.
@@ -193,6 +189,6 @@ pub fn keep_map(w: &mut Walker, s: State, o: usize, v: SlotValue) -> Answer<()>
     ensures kept { Kept w.old w.new }
 {
     flag_object(w, o, v);
-    let (_, t) = push_slot(w, s, o as u64, 0, fields_of(v), 0)?;
+    let (_, t) = push_slot(w, s, o as u64, 0, fields_of(v), false)?;
     Ok(((), t))
 }

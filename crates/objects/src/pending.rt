@@ -1,4 +1,5 @@
-// Pending forward references: their places in scratch, the search, and the resolves after an object's map.
+// Pending forward references: their places in scratch, the search, and the resolves after an object's map. No map from numbers to slots,
+// since the library has no heap.
 
 ghost use Rattle.std.specs.Prelude.{true, ◌≡◌, ℕ, ◌-◌, ◌<◌, ◌≤◌, length, set};
 ghost use Rattle.sheet.specs.Sheet.{usable};
@@ -20,7 +21,7 @@ use sheet::tests::is_tag;
 use stream::bytes::peek;
 use tables::records::fill_slot;
 
-// x at place i of the places for pending numbers, where there is that place.
+// x at place i of the places for pending numbers, where there is that place. (std does not say what a slice ends as after `get_mut`.)
 pub fn note(pending: &mut [u64], i: u64, x: u64)
     ensures { pending.new ≡ set pending.old i x }
 {
@@ -29,7 +30,7 @@ pub fn note(pending: &mut [u64], i: u64, x: u64)
     }
 }
 
-// Slot k waits under a number.
+// Slot k waits under a number. Field by field, as the table is flat: a struct would be read from it for `==` alone.
 fn waits_for(slots: &[u64], number: u64, k: usize) -> bool
     requires { k < room 6 slots.now }
     ensures { result ≡ waits_for slots.now number k }
@@ -38,17 +39,11 @@ fn waits_for(slots: &[u64], number: u64, k: usize) -> bool
 }
 
 // The newest of n slots that waits under a number: a search.
-#[tactic(auto, using(crate::proofs::ResolveLaws::last_waiter), unfolding(definition::specs::Slots::waiter))]
 fn find_waiter(slots: &[u64], number: u64, n: usize) -> Option<usize>
     requires { n ≤ room 6 slots.now }
     ensures { counted result ≡ waiter slots.now number n }
 {
-    for k in (0..n).rev() {
-        if waits_for(slots, number, k) {
-            return Some(k);
-        }
-    }
-    None
+    (0..n).rev().find(|k| waits_for(slots, number, *k))
 }
 
 // The same, from k, which stands under the number in scratch. Where no slot waits under it, k may be anything; so it counts only if the
@@ -61,11 +56,7 @@ fn confirmed(slots: &[u64], number: u64, n: usize, k: u64) -> Option<usize>
         return None;
     }
     let slot = (k - 1) as usize;
-    if waits_for(slots, number, slot) {
-        Some(slot)
-    } else {
-        None
-    }
+    waits_for(slots, number, slot).then_some(slot)
 }
 
 // The same, by scratch where it has a place; and with no search under a number that was not given out, or where no slot waits.
@@ -111,7 +102,7 @@ fn resolve(w: &mut Walker, s: State, number: u64, o: u64) -> State
     with_waiting(s, s.waiting - 1)
 }
 
-// Resolves as long as they stand at the cursor.
+// Resolves as long as they stand at the cursor: the step is what was read, so that a `for` would be no plainer.
 pub fn resolves(w: &mut Walker, s: State, o: u64) -> Answer<()>
     requires usable { (usable w.old.sheet.now ≡ true) × (s.at ≤ length w.old.payload.now) }
     requires waits { (s.slots ≤ room 6 w.old.slots.now) × Indexed w.old.slots.now s.slots w.old.pending.now × Waits w.old.slots.now s.slots s.pending s.waiting }

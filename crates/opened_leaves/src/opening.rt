@@ -1,7 +1,7 @@
 // Objects whose map is a leaf, opened without the readers of every reference.
 
 ghost use Rattle.std.specs.Prelude.{true, ◌≡◌, ℕ, ◌+◌, ◌*◌, ◌^◌, ◌<◌, ◌≤◌, IfSome, IsNone};
-ghost use Rattle.sheet.specs.Sheet.{usable, word_bytes};
+ghost use Rattle.sheet.specs.Sheet.{usable};
 ghost use Rattle.heads.specs.Heads.{Heads};
 ghost use Rattle.tables.specs.declared.values.SlotValue.{SlotValue};
 ghost use Rattle.address_index.specs.Links.{Linked};
@@ -17,15 +17,16 @@ use leaves::leaf::{Leaf, enter, leaf_at};
 use objects::map::{allocate_record, is_flagged};
 use readers::state::State;
 use readers::walker::Walker;
-use sheet::numbers::{legacy, map_first, six_x};
+use sheet::numbers::{legacy, map_first, six_x, word_bytes};
 use stream::putint::putint;
 use tables::records::{add_object, add_slot, count_slot};
 use tables::values::fields_of;
 
-// The size in words and the map of an object after whose head the cursor stands, where the map is a leaf that is not flagged. Where a large object has
-// a byte after its size, and where its map comes first, it is left to others. The address is `open_leaf`'s, and the resolves are the caller's.
+// The size in words and the map of an object after whose head the cursor stands, where the map is a leaf that is not flagged. Where a large
+// object has a byte after its size, and where its map comes first, it is left to others. The address is `open_leaf`'s, and the resolves are
+// the caller's.
 fn map_at(w: &Walker, s: State, word: u64) -> Option<(u64, Leaf)>
-    requires { (word ≤ 8) × Heads w.now.sheet.now w.now.heads.now × (s.objects < 2 ^ 63) }
+    requires { s.objects < 2 ^ 63 }
     ensures { IfSome result (λ r. MapAt w.now s word r.0 r.1) }
 {
     if six_x(w.sheet) || map_first(w.sheet) {
@@ -39,7 +40,8 @@ fn map_at(w: &Walker, s: State, word: u64) -> Option<(u64, Leaf)>
     Some((size.value as u64, map))
 }
 
-// In a legacy sheet an address record for what is wanted; in others an object has none. Where it is refused, nothing is changed.
+// In a legacy sheet an address record for what is wanted; in others an object has none. Where it is refused, nothing is changed. `objects`
+// does the like with a refusal in its answer, which is not known here: the object is read again there.
 fn give_address(w: &mut Walker, s: State, want: Request) -> Option<State>
     requires { (want.space < 256) × (want.word ≤ 8) × (want.alignment ≡ s.alignment) × Linked w.old.addresses.now s.addresses w.old.index.now }
     ensures { AddressGiven w.old s want result w.new }
@@ -57,19 +59,12 @@ fn give_address(w: &mut Walker, s: State, want: Request) -> Option<State>
     }
 }
 
-// The object after whose head the cursor stands, in this space, with its map in slot 0 and its address: its bytes. None where `map_at` finds none,
-// where a record has no room or the address is refused, and at the last level, where a map is refused; then nothing is changed.
-pub fn open_leaf(
-    w: &mut Walker,
-    s: State,
-    d: usize,
-    tag: usize,
-    space: u64,
-    word: u64,
-) -> Option<(u64, State)>
-    requires usable { (usable w.old.sheet.now ≡ true) × (word ≡ word_bytes w.old.sheet.now) × Heads w.old.sheet.now w.old.heads.now × (space < 256) × (s.objects < 2 ^ 63) }
+// The object after whose head the cursor stands, in this space, with its map in slot 0 and its address: its bytes. None where `map_at`
+// finds none, where a record has no room or the address is refused, and at the last level, where a map is refused; then nothing is changed.
+pub fn open_leaf(w: &mut Walker, s: State, d: usize, tag: usize, space: u64) -> Option<(u64, State)>
+    requires usable { (usable w.old.sheet.now ≡ true) × (space < 256) × (s.objects < 2 ^ 63) }
     requires linked_before { Linked w.old.addresses.now s.addresses w.old.index.now }
-    ensures read { IfSome result (λ r. (d < 64) × (r.0 < 2 ^ 33) × (s.objects < r.1.objects) × ((inner : Reader SlotValue) → got r.0 (mem r.1 (lent_of w.new)) ≡ opened (input_of w.old) (reference (input_of w.old) inner) space tag s.objects (mem s (lent_of w.old)))) }
+    ensures read { IfSome result (λ r. (d < 64) × (r.0 < 2 ^ 33) × (s.objects < r.1.objects) × (Heads w.old.sheet.now w.old.heads.now → (inner : Reader SlotValue) → got r.0 (mem r.1 (lent_of w.new)) ≡ opened (input_of w.old) (reference (input_of w.old) inner) space tag s.objects (mem s (lent_of w.old)))) }
     ensures linked { IfSome result (λ r. Linked w.new.addresses.now r.1.addresses w.new.index.now) }
     ensures indexed { IfSome result (λ r. Indexed w.old.slots.now s.slots w.old.pending.now → Indexed w.new.slots.now r.1.slots w.new.pending.now) }
     ensures none { IsNone result → (lent_of w.new ≡ lent_of w.old) × (w.new.index.now ≡ w.old.index.now) }
@@ -78,6 +73,7 @@ pub fn open_leaf(
     if 64 <= d {
         return None;
     }
+    let word = word_bytes(w.sheet);
     let o = s.objects;
     let n = s.slots;
     let (words, map) = map_at(w, s, word)?;

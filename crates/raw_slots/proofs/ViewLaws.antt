@@ -11,7 +11,7 @@ use Rattle.tables.specs.Records.{room, field}
 use Rattle.raw_slots.specs.View.{is_raw, view_of}
 
 module _ (slots : List ℕ) (k : ℕ) where
-  pub raw_5 : field 6 slots k 2 ≡ 5 → is_raw slots k ≡ true
+  raw_5 : field 6 slots k 2 ≡ 5 → is_raw slots k ≡ true
   raw_5 e = rw e
 
   pub raw_6 : field 6 slots k 2 ≡ 6 → is_raw slots k ≡ true

@@ -13,7 +13,7 @@ pub struct View {
     pub len: usize,
 }
 
-// The range of slot k of a slot table that holds so many records: no view where the count is above the table's room, or slot k is not
+// Table and count are as C has them, apart. The range of slot k: no view where the count is above the table's room, or slot k is not
 // listed, is not raw or has a range that is not in the payload.
 pub fn raw_range(payload: &[u8], slots: &[u64], count: usize, k: usize) -> Result<View, Refusal>
     ensures { result ≡ view_of (length payload.now) slots.now count k }
@@ -37,7 +37,7 @@ pub fn raw_range(payload: &[u8], slots: &[u64], count: usize, k: usize) -> Resul
     })
 }
 
-// The bytes of slot k; none where `raw_range` refuses.
+// The bytes of slot k; none where `raw_range` refuses. A `match`, as in `Reader::view` over another type: `map_or` would be no shorter.
 pub fn raw_bytes<'a>(payload: &'a [u8], slots: &[u64], count: usize, k: usize) -> &'a [u8]
     ensures { result.now ≡ viewed payload.now (view_of (length payload.now) slots.now count k) }
 {

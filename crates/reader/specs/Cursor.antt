@@ -1,7 +1,16 @@
 -- Where the cursor stands after a read, and the bytes of a raw range. Assumes nothing: these are definitions.
-use Rattle.std.specs.Prelude.{cond, List, [], ℕ, ◌+◌, length, take, drop, ltb, Option, Some, None}
+use Rattle.std.specs.Prelude.{cond, Bool, true, false, List, [], ℕ, ◌+◌, length, take, drop, ltb, eqb, Option, Some, None}
+use Rattle.stream.specs.Bytes.{peek_at}
 use Rattle.stream.specs.declared.putint.Int.{Int}
 use Rattle.reader.specs.declared.Reader.{Reader}
+
+-- the byte at a place; none where `peek_at` is 256, since none is left
+abbrev pub unless_end : Bool → ℕ → Option ℕ
+unless_end true b = None
+unless_end false b = Some b
+
+abbrev pub byte_at : List ℕ → ℕ → Option ℕ
+byte_at p at = unless_end (eqb (peek_at p at) 256) (peek_at p at)
 
 -- the same payload, with the cursor at another place
 abbrev pub moved_to : Reader → ℕ → Reader

@@ -2,11 +2,11 @@
 #![tactic(auto, using(std::proofs::lemmas::Bool::Decides::nat_tests), unfolding(stream::specs::Bytes::raw_at, stream::specs::PutInt::int_at))]
 
 ghost use Rattle.std.specs.Prelude.{◌≡◌, ◌+◌};
-ghost use Rattle.stream.specs.Bytes.{peek_at, raw_at};
+ghost use Rattle.stream.specs.Bytes.{raw_at};
 ghost use Rattle.stream.specs.PutInt.{int_at, Small};
-ghost use Rattle.reader.specs.Cursor.{moved_to, past_byte, past_int, past_raw, bytes_of};
+ghost use Rattle.reader.specs.Cursor.{byte_at, moved_to, past_byte, past_int, past_raw, bytes_of};
 
-use stream::bytes::{peek, raw};
+use stream::bytes::raw;
 use stream::putint::{Int, putint};
 
 #[derive(Clone, Copy)]
@@ -24,11 +24,12 @@ impl<'a> Reader<'a> {
         Self { payload, at }
     }
 
-    // The byte at the cursor, or 256 where none is left: no Option, since document 01 asks for a thin struct, and `stream` gives 256.
-    pub fn peek(self) -> u64
-        ensures { result ≡ peek_at self.entry.payload.now self.entry.at }
+    // The byte at the cursor; none where none is left.
+    #[tactic(auto, unfolding(stream::specs::Bytes::peek_at))]
+    pub fn peek(self) -> Option<u8>
+        ensures { result ≡ byte_at self.entry.payload.now self.entry.at }
     {
-        peek(self.payload, self.at)
+        self.payload.get(self.at).copied()
     }
 
     // The n bytes at the cursor, of the payload itself; none where they pass its end.
@@ -41,16 +42,15 @@ impl<'a> Reader<'a> {
         }
     }
 
-    // The byte at the cursor, or 256 where none is left. The cursor moves past the byte.
-    pub fn byte(&mut self) -> u64
-        ensures value { result ≡ peek_at self.old.payload.now self.old.at }
+    // The byte at the cursor; none where none is left. The cursor moves past the byte.
+    #[tactic(auto, using(std::proofs::lemmas::Bool::Decides::nat_tests), unfolding(stream::specs::Bytes::peek_at))]
+    pub fn byte(&mut self) -> Option<u8>
+        ensures value { result ≡ byte_at self.old.payload.now self.old.at }
         ensures cursor { self.new ≡ moved_to self.old (past_byte self.old.payload.now self.old.at) }
     {
-        let byte = self.peek();
-        if self.at < self.payload.len() {
-            self.at += 1;
-        }
-        byte
+        let byte = *self.payload.get(self.at)?;
+        self.at += 1;
+        Some(byte)
     }
 
     // The end of a raw range of n bytes at the cursor; none where it passes the payload's end. The cursor moves to that end.

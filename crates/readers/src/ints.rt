@@ -1,4 +1,5 @@
-// A byte, an integer and a with-skip amount at the cursor.
+// A byte, an integer and a with-skip amount at the cursor. What needs the payload alone takes it and the state, which is passed by value,
+// and no `Walker`; and `Below` is a clause, since no type has the bound 2 ^ 30.
 ghost use Rattle.std.specs.Prelude.{List, ◌≡◌, ℕ, ◌^◌, ◌<◌};
 ghost use Rattle.definition.specs.Memory as Memory;
 ghost use Rattle.definition.specs.Reference.{skip_amount};
@@ -26,9 +27,7 @@ pub fn read_int(p: &[u8], s: State) -> Answer<u64>
     ensures small { Below (2 ^ 30) result }
 {
     let at = s.at;
-    let Some(i) = putint(p, at) else {
-        return Err(s.cut(p));
-    };
+    let i = putint(p, at).ok_or(s.cut(p))?;
     let t = State {
         at: at + i.count,
         ..s

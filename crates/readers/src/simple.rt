@@ -41,7 +41,8 @@ fn back_ref(w: &mut Walker, s: State) -> Answer<SlotValue>
     enter(w, t, Ref::Object(i))
 }
 
-// kRootArray: a root by integer, which enters the ring.
+// kRootArray: a root by integer, which enters the ring. It and `back_ref`, like their leaves, share what they do but for one test: a
+// closure for the test would be no shorter.
 fn root_array(w: &mut Walker, s: State) -> Answer<SlotValue>
     ensures is { seen result (lent_of w.new) ≡ read_root (input_of w.old) (mem s (lent_of w.old)) }
     ensures kept { Kept w.old w.new }
@@ -55,10 +56,8 @@ fn hot_ref(w: &Walker, s: State, place: usize) -> Answer<SlotValue>
     requires { place < 8 }
     ensures { seen result (lent_of w.now) ≡ hot_place place (mem s (lent_of w.now)) }
 {
-    match w.hot.get(place) {
-        Some(r) => Ok((SlotValue::Ref(r), s)),
-        None => Err(s.refused(Refusal::EmptyHotPlace)),
-    }
+    let r = w.hot.get(place).ok_or(s.refused(Refusal::EmptyHotPlace))?;
+    Ok((SlotValue::Ref(r), s))
 }
 
 // The back-reference to a space that stands at a place.
@@ -107,9 +106,7 @@ fn raw_data(p: &[u8], s: State, n: u64, advances: bool) -> Answer<SlotValue>
     ensures { (v tr : List ℕ) (sp : ℕ) (l : Lent) → seen result l ≡ raw_data (input v p.now sp tr) n advances (mem s l) }
 {
     let at = s.at;
-    let Some(end) = raw(p, at, n as usize) else {
-        return Err(s.refused(Refusal::RawPastEnd));
-    };
+    let end = raw(p, at, n as usize).ok_or(s.refused(Refusal::RawPastEnd))?;
     let value = Raw {
         off: at as u64,
         len: n,
@@ -132,7 +129,7 @@ fn variable_raw(sheet: &[u16], p: &[u8], s: State) -> Answer<SlotValue>
     raw_data(p, t, bytes.max(1), raw_advances(sheet))
 }
 
-// The chunks of what stands off the heap: the caller's numbers of document 01.
+// The chunks of what stands off the heap are the caller's numbers, as `outside` has them (crates/definition/specs/Reference.antt).
 const CACHE: u64 = 4294967295;
 
 const BUILTIN: u64 = 4294967294;
@@ -182,7 +179,8 @@ fn pending_ref(s: State) -> Answer<SlotValue>
     Ok((SlotValue::PendingRef(s.pending), t))
 }
 
-// A head with a with-skip amount before what it is.
+// A head with a with-skip amount before what it is. Which of five it is, is asked after the amount: a closure for the rest would be no
+// shorter.
 fn with_skip(w: &mut Walker, s: State, head: Head) -> Answer<SlotValue>
     requires addressed { Addressed w.old s.addresses × (s.skip < 2 ^ 63) }
     requires place { kind_number head.kind ≡ hot_with_skip → head.argument < 8 }

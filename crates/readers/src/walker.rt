@@ -3,8 +3,10 @@ use alloc::legacy_alloc::LegacyAlloc;
 use backref::hot_ring::HotRing;
 use heads::heads::Head;
 
-// The version sheet, what each head byte means under it, the trusted list, the payload, and how many spaces have counters; the four tables; a
-// place for each pending number; the index of legacy addresses; the hot ring; and the counters of each space.
+// The version sheet, what each head byte means under it, the trusted list, the payload, and how many spaces have counters; the four tables;
+// a place for each pending number; the index of legacy addresses; the hot ring; and the counters of each space. What has to be known of
+// these stands in the clauses that need it: a ghost field would be asked of every caller, and none can speak of a state's counts, since the
+// state is passed by value, apart from what is lent.
 #[derive(Drop)]
 pub struct Walker<'a> {
     pub sheet: &'a [u16],

@@ -1,4 +1,4 @@
-// The refusals of document 01 and their numbers.
+// The refusals and their numbers.
 #![tactic(auto)]
 
 pub mod refusal;

@@ -5,10 +5,10 @@ ghost use Rattle.refusals.specs.Numbers.{number_of};
 use std::error::Error;
 use std::fmt;
 
-// The rows of document 01's table, in its order and with its numbers.
+// The order fixes these and their numbers (specs/Numbers.antt).
 #[derive(Clone, Copy, Debug, PartialEq, Eq, Hash)]
 pub enum Refusal {
-    // A deferred entry names no object: a legacy closing section ends there, and no call answers this. Document 01 gives it no number.
+    // A deferred entry names no object: a legacy closing section ends there, and no call answers this. The order gives it no number.
     NoEntry = 0,
     // The version sheet is not usable.
     UnusableSheet = 1,
@@ -48,7 +48,7 @@ pub enum Refusal {
 }
 
 impl Refusal {
-    // Document 01's number.
+    // The number that the order fixes.
     pub fn number(self) -> u64
         ensures { result ≡ number_of self }
     {

@@ -1,5 +1,5 @@
 -- The version sheet of document 01: its numbers, their defaults, and which sheets are usable and plain. Assumes nothing: these are definitions.
-use Rattle.std.specs.Prelude.{Bool, true, false, not, ◌&&◌, ◌||◌, List, ℕ, zero, suc, ◌+◌, leb, eqb, length, get_or}
+use Rattle.std.specs.Prelude.{cond, Bool, true, false, not, ◌&&◌, ◌||◌, List, ℕ, zero, suc, ◌+◌, leb, eqb, length, get_or, Option, Some, None}
 use Rattle.sheet.specs.Names.{k_new_object, k_backref, k_hot_object, k_root_array_constants, k_fixed_raw_data, k_alignment_prefix, k_hot_object_with_skip, k_root_array_constants_with_skip, k_skip, k_fixed_repeat, k_fixed_repeat_root, k_new_meta_map, k_deferred, k_number_of_spaces, k_map_space, k_lo_space, k_root_array_constants_mask, k_space_tag_size, k_page_size_bits, k_space_mask, k_backref_with_skip, tagged_size, var_raw_advances}
 
 abbrev pub pick_ℕ : Bool → ℕ → ℕ → ℕ
@@ -16,6 +16,10 @@ number v k = get_or v k 65535
 
 abbrev pub present : List ℕ → ℕ → Bool
 present v k = not (eqb (number v k) 65535)
+
+-- a number that is present; none where it is absent
+abbrev pub present_number : List ℕ → ℕ → Option ℕ
+present_number v k = cond (present v k) (Some (number v k)) None
 
 -- a constant, or its default where it is absent
 abbrev pub constant : List ℕ → ℕ → ℕ → ℕ

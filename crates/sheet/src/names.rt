@@ -1,4 +1,5 @@
-// The version sheet's numbers, by their place (docs/SHEET.md). They are indexes and no enum: C hands a sheet over as an array of numbers.
+// The version sheet's numbers, by their place (docs/SHEET.md). They are indexes and no enum: `number`, `present` and `is_tag` take any
+// place, and an enum would ask more of callers.
 
 // What an absent tag or constant has.
 pub const ABSENT: u16 = 65535;

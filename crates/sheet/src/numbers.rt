@@ -1,5 +1,6 @@
-// The numbers of a version sheet, with the defaults of those that are absent, and what they make the sheet.
-ghost use Rattle.std.specs.Prelude.{◌≡◌, ◌<◌};
+// The numbers of a version sheet, with the defaults of those that are absent, and what they make the sheet. A sheet is a slice, as C lends
+// it: a struct around it would only change how these are called. A number is a u64 below 65536, since all that is made of it has 64 bits.
+ghost use Rattle.std.specs.Prelude.{◌≡◌, ◌<◌, IfSome};
 ghost use Rattle.sheet.specs.Sheet as Sheet;
 
 use crate::names::{
@@ -8,11 +9,19 @@ use crate::names::{
     VAR_RAW_ADVANCES,
 };
 
-// The number at a place of the sheet; 65535 is absent, as is every place past the sheet's end.
+// The number at a place of the sheet; 65535 is absent, as is every place past the sheet's end. No Option: a sheet itself has 65535 there,
+// and the definitions compare it as a number.
 pub fn number(sheet: &[u16], k: usize) -> u64
     ensures { (result ≡ Sheet.number sheet.now k) × (result < 65536) }
 {
     u64::from(sheet.get(k).copied().unwrap_or(ABSENT))
+}
+
+// A number that is present.
+pub fn present_number(sheet: &[u16], k: usize) -> Option<u64>
+    ensures { (result ≡ Sheet.present_number sheet.now k) × IfSome result (λ n. n < 65536) }
+{
+    present(sheet, k).then_some(number(sheet, k))
 }
 
 pub fn present(sheet: &[u16], k: usize) -> bool
@@ -27,11 +36,7 @@ fn constant(sheet: &[u16], k: usize, default: u64) -> u64
     requires { default < 65536 }
     ensures { (result ≡ Sheet.constant sheet.now k default) × (result < 65536) }
 {
-    if present(sheet, k) {
-        number(sheet, k)
-    } else {
-        default
-    }
+    present_number(sheet, k).unwrap_or(default)
 }
 
 pub fn number_of_spaces(sheet: &[u16]) -> u64
@@ -70,7 +75,8 @@ pub fn page_size_bits(sheet: &[u16]) -> u64
     constant(sheet, K_PAGE_SIZE_BITS, 19)
 }
 
-// Bytes of a tagged word.
+// Bytes of a tagged word. It is read once and handed on as a number: a struct of it would carry one number, and its bounds as ghost fields
+// would be asked of callers who need none now.
 pub fn word_bytes(sheet: &[u16]) -> u64
     ensures { (result ≡ Sheet.word_bytes sheet.now) × (result < 65536) }
 {
@@ -84,6 +90,7 @@ pub fn raw_advances(sheet: &[u16]) -> bool
     number(sheet, VAR_RAW_ADVANCES) != 0
 }
 
+// Each name is a definition of specs/Sheet.antt: `present` with an enum would be no shorter at any of its callers.
 pub fn legacy(sheet: &[u16]) -> bool
     ensures { result ≡ Sheet.is_legacy sheet.now }
 {

@@ -38,15 +38,15 @@ pub fn opens(sheet: &[u16], b: u64) -> bool
     (number(sheet, K_NEW_OBJECT)..number(sheet, K_BACKREF)).contains(&b)
 }
 
-// An alignment prefix: 1 to 3, or 0 where the byte is none.
+// An alignment prefix: 1 to 3; none where the byte is none.
 #[tactic(auto, unfolding(crate::specs::Tests::alignment_of))]
-pub fn alignment(sheet: &[u16], b: u64) -> u64
-    ensures { result ≡ Tests.alignment_of sheet.now b }
+pub fn alignment(sheet: &[u16], b: u64) -> Option<u64>
+    ensures { result ≡ Tests.unless_zero (Tests.alignment_of sheet.now b) }
 {
     if in_span(sheet, K_ALIGNMENT_PREFIX, 3, b) {
-        b - number(sheet, K_ALIGNMENT_PREFIX) + 1
+        Some(b - number(sheet, K_ALIGNMENT_PREFIX) + 1)
     } else {
-        0
+        None
     }
 }
 
@@ -67,8 +67,7 @@ pub fn closing_entry(sheet: &[u16], b: u64) -> Closing
     if is_tag(sheet, K_SYNCHRONIZE, b) {
         return Closing::Synchronize;
     }
-    let a = alignment(sheet, b);
-    if a != 0 {
+    if let Some(a) = alignment(sheet, b) {
         return Closing::Alignment(a);
     }
     if is_entry(sheet, b) {

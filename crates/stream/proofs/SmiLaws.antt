@@ -1,15 +1,15 @@
 -- Signed numbers and Smi words at each way out. Assumes nothing.
-use mathlib.Core.Path.{◌≡◌, ap, ◌∙◌}
+use mathlib.Core.Path.{◌≡◌, refl, ap, subst, ◌∙◌}
 use mathlib.Core.Bool.{Bool, true, false}
 use mathlib.Core.List.{List}
 use Prim.Native.Nat.{ℕ, ◌-◌, ◌/◌, ◌%◌, ◌^◌, ◌<◌, ◌≤◌, suc}
 use native.Mathlib.Omega.{arith}
 use native.Mathlib.Nat.{lt_of_le_of_lt}
-use borrow.Author.Tests.{lt-ltb, le-ltb, eq-eqb, ne_eqb}
-use mir.Syntax.{w64}
+use borrow.Author.Tests.{ltb-true, ltb-false, eq-eqb, ne_eqb}
+use mir.Syntax.{w32, w64}
 use mir.Val.{SFits, to_z, of_z}
-use mir.Facts.{to_z-of_z, to_z_pos}
-use lib.IntN.{ℤ, pos, negsuc, ◌-ℤ◌}
+use mir.Facts.{to_z-of_z, to_z_pos, to_z-neg}
+use lib.IntN.{ℤ, pos, negsuc}
 use lib.Signed.{shr_z, mag, mag_shr}
 use lib.ListN.{length}
 use lib.Dec.{ltb}
@@ -23,13 +23,16 @@ pick_mag true a b h l = h
 pick_mag false a b h l = l
 
 module _ (n : ℕ) where
-  pub signed_low : n < 2 ^ 31 → to_z w64 n ≡ signed n
-  unfolding signed
-  signed_low h = rw (lt-ltb n (2 ^ 31) h, to_z_pos w64 {n = n} (omega arith))
+  signed_by : n < 2 ^ 32 → (t : Bool) → ltb n (2 ^ 31) ≡ t → to_z w32 n ≡ pick_ℤ t (pos n) (negsuc (2 ^ 32 - suc n))
+  signed_by l true e = to_z_pos w32 {n = n} (ltb-true n (2 ^ 31) e)
+  signed_by l false e =
+      let high : 2 ^ 31 ≤ n = ltb-false n (2 ^ 31) e in
+      subst (λ m. to_z w32 m ≡ negsuc (2 ^ 32 - suc n)) (omega arith) (to_z-neg w32 (2 ^ 32 - suc n) (omega arith))
 
-  pub signed_high : 2 ^ 31 ≤ n → n < 2 ^ 32 → to_z w64 n -ℤ pos 4294967296 ≡ signed n
+  -- what 32 bits are as a signed number
+  pub signed_is : n < 2 ^ 32 → to_z w32 n ≡ signed n
   unfolding signed
-  signed_high h l = rw (le-ltb n (2 ^ 31) h, to_z_pos w64 {n = n} (omega arith), lt-ltb n 4294967296 l)
+  signed_is l = signed_by l (ltb n (2 ^ 31)) refl
 
   -- 32 bits fit a word of 64
   pub signed_fits : n < 2 ^ 32 → SFits w64 (signed n)

@@ -1,4 +1,5 @@
-// Bytes, little-endian numbers and raw ranges at a place of the payload.
+// Bytes, little-endian numbers and raw ranges at a place of the payload. Payload and place go apart, since the walk keeps its place in a
+// state that goes by value; `Reader` (crate `reader`) is both in one.
 ghost use Rattle.std.specs.Prelude.{◌≡◌, ℕ, ◌+◌, ◌<◌, ◌≤◌, length, get_or};
 ghost use Rattle.stream.specs.Bytes.{little_endian, peek_at, raw_at};
 
@@ -7,17 +8,19 @@ pub fn byte(p: &[u8], at: usize) -> u64
     requires { at < length p.now }
     ensures { (result ≡ get_or p.now at 0) × (result < 256) }
 {
-    p[at] as u64
+    u64::from(p[at])
 }
 
-// The byte at a place, or 256 where none is left: no tag has that value.
+// The byte at a place, or 256 where none is left: no tag has that value, so that a test for a tag needs none for the end, as it would of an
+// Option.
+#[tactic(auto, unfolding(crate::specs::Bytes::peek_at))]
 pub fn peek(p: &[u8], at: usize) -> u64
     ensures { result ≡ peek_at p.now at }
 {
-    if at < p.len() { byte(p, at) } else { 256 }
+    p.get(at).map_or(256, |b| u64::from(*b))
 }
 
-// n bytes as a number, the first byte lowest.
+// n bytes as a number, the first byte lowest: by shifts and or; `from_le_bytes` takes no n.
 pub fn little_endian(p: &[u8], at: usize, n: usize) -> u64
     requires { (at + n ≤ length p.now) × (n ≤ 8) }
     ensures { result ≡ little_endian p.now at n }

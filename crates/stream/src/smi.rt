@@ -5,12 +5,12 @@ ghost use Rattle.stream.specs.Smi.{signed, smi_of};
 use crate::bytes::little_endian;
 
 // The signed number whose 32 bits are n.
+#[tactic(auto, using(crate::proofs::SmiLaws::signed_is))]
 fn signed32(n: u64) -> i64
     requires { n < 2 ^ 32 }
     ensures { result ≡ signed n }
 {
-    let v = n as i64;
-    if n < 2147483648 { v } else { v - 4294967296 }
+    i64::from((n as u32).cast_signed())
 }
 
 // Eight bytes with a zero lower half hold the upper half; four bytes, even, hold half; all else is no Smi.

@@ -1,5 +1,6 @@
 // The four tables of records: objects, slots, values and addresses. They stay flat numbers in memory that the caller lends, since C reads
-// them as they are.
+// them as they are. The widths 4, 6, 3 and 5 and the places of fields are numbers in all crates, as the clauses have them (as in `room 6`):
+// constants of a trait would give each a second name.
 ghost use Rattle.std.specs.Prelude.{◌≡◌, ◌+◌, ◌*◌, ◌^◌, ◌<◌, ◌≤◌, length, replicate, set};
 ghost use Rattle.tables.specs.Values.{triple, fields_of};
 ghost use Rattle.tables.specs.Records.{room, field as field_of, Put, object_row, slot_row, value_row, address_row, filled};
@@ -39,7 +40,8 @@ pub fn add_object(t: &mut [u64], n: usize, bytes: u64, tag: u64) -> bool
     put(t, n, &[bytes, tag, 0, 0])
 }
 
-// A slot record: object, index, the value's kind, a and b, and whether it waits.
+// A slot record: object, index, the value's kind, a and b, and whether it waits: `waits`, and `placed` of an address record, are numbers as
+// the record has them, since a bool would ask more of callers.
 pub fn add_slot(t: &mut [u64], n: usize, object: u64, index: u64, f: Fields, waits: u64) -> bool
     ensures { Put t.old n (slot_row object index f waits) result t.new }
 {
@@ -80,7 +82,7 @@ pub fn field(t: &[u64], fields: u64, n: u64, k: u64) -> u64
     t.get((n * fields + k) as usize).copied().unwrap_or(0)
 }
 
-// Value record n, as a value; zeros past the table.
+// Value record n, as a value; zeros past the table. No `From`, since it reads three numbers of a table.
 pub fn value_fields(t: &[u64], n: u64) -> Fields
     ensures { result ≡ triple (field_of 3 t.now n 0) (field_of 3 t.now n 1) (field_of 3 t.now n 2) }
 {
@@ -91,7 +93,8 @@ pub fn value_fields(t: &[u64], n: u64) -> Fields
     }
 }
 
-// One more in the slot count of object o; a table without that object stays.
+// One more in the slot count of object o; a table without that object stays. Who adds a slot calls `add_slot` and this: one function of
+// both would take both tables and all fields, and be no plainer than two calls.
 pub fn count_slot(t: &mut [u64], o: u64)
     requires { field_of 4 t.old o 3 < 2 ^ 63 }
     ensures { t.new ≡ set t.old (o * 4 + 3) (field_of 4 t.old o 3 + 1) }

@@ -19,7 +19,7 @@ pub struct Raw {
     pub advances: bool,
 }
 
-// The value of a slot. A repeat and a weak reference name a value record.
+// The value of a slot. A repeat and a weak reference name a value record by its number, since a Box would need heap.
 #[derive(Clone, Copy)]
 pub enum SlotValue {
     Ref(Ref),
@@ -33,7 +33,7 @@ pub enum SlotValue {
     PendingRef(u64),
 }
 
-// A value as a record has it: document 01's kind, a and b. The kind stays a number, as C reads it from the table; `SlotValue` is the enum.
+// A value as a record has it: the kind, a and b that the order fixes. The kind is a number, as C reads it; `SlotValue` is the enum.
 #[derive(Clone, Copy)]
 pub struct Fields {
     pub kind: u64,

@@ -13,7 +13,7 @@ use sheet::numbers::{
     word_bytes,
 };
 
-// At most so much, or absent where that may be.
+// At most so much, or absent where that may be: `<=` is as plain as `contains` of a range.
 fn within(most: u64, absent: bool, x: u64) -> bool
     ensures { result ≡ Sheet.within most absent x }
 {

@@ -26,7 +26,7 @@ pub struct Case {
 }
 
 // The refusal's number or 0; then the four record counts and the cursor at the finish, or the refusal's place.
-#[derive(Clone, Copy)]
+#[derive(Clone, Copy, PartialEq, Eq)]
 pub struct Outcome {
     pub number: u64,
     pub objects: u64,
@@ -64,7 +64,8 @@ impl From<Result<Graph, Refused>> for Outcome {
     }
 }
 
-// So many numbers of a sheet in the file of sheets, which has 59 of two bytes for each; zeros where it ends. Sheet 500 and later are sheet 0.
+// So many numbers of a sheet in the file of sheets, which has 59 of two bytes for each; zeros where it ends. Sheet 500 and later are sheet
+// 0: a sheet, and no sign of none.
 fn sheet(alloc: Global, sheets: &[u8], which: u64, len: usize) -> Result<Vec<u16>, AllocError>
     ensures { IfOk result (λ v. vec_len v ≡ len) }
 {
@@ -118,18 +119,6 @@ fn called(
         scratch: &mut scratch,
     };
     Outcome::from(parse_with(call, &mut tables))
-}
-
-fn is_same(o: Outcome, p: Outcome) -> bool
-    ensures { IsTrue result ↔ (o ≡ p) }
-{
-    (o.number == p.number)
-        & (o.objects == p.objects)
-        & (o.slots == p.slots)
-        & (o.values == p.values)
-        & (o.addresses == p.addresses)
-        & (o.end == p.end)
-        & (o.place == p.place)
 }
 
 impl Case {
@@ -190,7 +179,7 @@ impl Case {
             IsTrue result.addresses ↔ ¬ IsFrozen c (places frozen.addresses 5) self.now.addresses.items }
     {
         Differences {
-            outcome: !is_same(o, frozen),
+            outcome: o != frozen,
             objects: !numbers.is_frozen(&self.objects, frozen.objects, 4),
             slots: !numbers.is_frozen(&self.slots, frozen.slots, 6),
             values: !numbers.is_frozen(&self.values, frozen.values, 3),

@@ -93,7 +93,8 @@ impl Numbers<'_> {
         same
     }
 
-    // Whether a table has the frozen records, so many of some fields, and zeros after them. 100,000 records or more count as none.
+    // Whether a table has the frozen records, so many of some fields, and zeros after them. 100,000 records or more count as none: an empty
+    // table is meant, and no sign of none.
     pub fn is_frozen(&mut self, table: &[u64], count: u64, fields: u64) -> bool
         ensures same { IsTrue result ↔ IsFrozen self.old.0.now (places count fields) table.now }
         ensures rest { self.new.0.now ≡ after_table self.old.0.now (places count fields) table.now }

@@ -5,6 +5,7 @@ use native.Mathlib.Omega.{arith}
 use lib.ListN.{length}
 use Rattle.std.specs.Prelude.{Ok}
 use Rattle.sheet.specs.Sheet.{word_bytes}
+use Rattle.heads.specs.Heads.{Heads}
 use Rattle.address_index.specs.Links.{Linked}
 use Rattle.tables.specs.declared.values.SlotValue.{SlotValue}
 use Rattle.tables.specs.Values.{width_of}
@@ -92,10 +93,10 @@ module _ {w : Walker} {s : State} (g : Ready w s) (d o done : ℕ) (b : (d ≤ 6
 
 -- ---- an object that was opened with its map, before its resolves
 
-module _ {w : Walker} {s : State} (g : Ready w s) (d space tag : ℕ) (low : space < 256) {n : ℕ} {t : State} {w₁ : Walker} (e : (d < 64) × (n < 2 ^ 33) × (s.objects < t.objects) × ((inner : Reader SlotValue) → got n (mem t (lent_of w₁)) ≡ opened (input_of w) (reference (input_of w) inner) space tag s.objects (mem s (lent_of w)))) (r : Fixed w w₁ × (w₁.pending.now ≡ w.pending.now)) where
+module _ {w : Walker} {s : State} (g : Ready w s) (d space tag : ℕ) (low : space < 256) {n : ℕ} {t : State} {w₁ : Walker} (e : (d < 64) × (n < 2 ^ 33) × (s.objects < t.objects) × (Heads w.sheet.now w.heads.now → (inner : Reader SlotValue) → got n (mem t (lent_of w₁)) ≡ opened (input_of w) (reference (input_of w) inner) space tag s.objects (mem s (lent_of w)))) (r : Fixed w w₁ × (w₁.pending.now ≡ w.pending.now)) where
   opened_is : got n (mem t (lent_of w₁)) ≡ opened (input_of w) (ref_at (input_of w) (64 - d)) space tag s.objects (mem s (lent_of w))
   unfolding ref_at
-  opened_is = let z : 64 - d ≡ suc (63 - d) = omega (arith, e.0) in rw z (e.3 (ref_at (input_of w) (63 - d)))
+  opened_is = let z : 64 - d ≡ suc (63 - d) = omega (arith, e.0) in rw z (e.3 g.decoded (ref_at (input_of w) (63 - d)))
 
   pub leaf_opened : Indexed w₁.slots.now t.slots w₁.pending.now → Linked w₁.addresses.now t.addresses w₁.index.now → Ready w₁ t
   leaf_opened i k = ready_on r.0 (map_ready (order_of g) (64 - d) space tag low opened_is (record { pending = i; linked = k }))

@@ -311,18 +311,23 @@ module _ {w₀ : Walker} {s₀ : State} {d tag a : ℕ} {ls : List Level} {l : L
 
   -- an object that is full, in the innermost of those around it
   module _ (b : 0 < l.done) (e : l.done ≡ l.size) (ls₁ : List Level) (around : Level) (z : ls ≡ ls₁ ++ around ∷ []) where
-    pub turn_put : length w.slots.now < 2 ^ 64 → (v : ℕ) → v ≡ word x → (field 4 w.objects.now around.object 3 < 2 ^ 63) × (0 < v) × (around.done + t.skip + v < 2 ^ 64)
-    turn_put few v ev =
+    pub turn_put : length w.slots.now < 2 ^ 64 → field 4 w.objects.now around.object 3 < 2 ^ 63
+    turn_put few = let g = u.nest.ready in omega (arith, g.counted.count_low around.object, g.sound.slots_fit)
+
+    put_fits : (v : ℕ) → v ≡ word x → (0 < v) × (around.done + t.skip + v < 2 ^ 64)
+    put_fits v ev =
         let g = u.nest.ready in
         let q = (parts x w₀.heads.now d u.nest b e ls₁ around z).1 in
         let y = word_some g in
-        (omega (arith, g.counted.count_low around.object, g.sound.slots_fit), omega (arith, y.1, ev), omega (arith, q.0.small, q.2, y.0, ev, g.sound.skip_low, g.sound.within, g.proper.short))
+        (omega (arith, y.1, ev), omega (arith, q.0.small, q.2, y.0, ev, g.sound.skip_low, g.sound.within, g.proper.short))
 
-    pub turn_roomless : {n q : ℕ} {m : Mem} → no n q m ≡ place_item x around.object around.done (Ref (Object l.object)) (mem t (lent_of w)) → no n q m ≡ object x (ref_at x (64 - d)) a tag (mem s₀ (lent_of w₀))
-    turn_roomless f = nest_roomless x w₀.heads.now d u.nest b e ls₁ around z f
+    pub turn_roomless : {n q : ℕ} {m : Mem} → (v : ℕ) → v ≡ word x → ((x : Input) → word x ≡ v → 0 < v → around.done + t.skip + v < 2 ^ 64 → no n q m ≡ place_item x around.object around.done (Ref (Object l.object)) (mem t (lent_of w))) → no n q m ≡ object x (ref_at x (64 - d)) a tag (mem s₀ (lent_of w₀))
+    turn_roomless v ev f = let y = put_fits v ev in nest_roomless x w₀.heads.now d u.nest b e ls₁ around z (f x (sym ev) y.0 y.1)
 
-    pub turn_ends : {n : ℕ} {y : State} {w₁ : Walker} → got n (mem y (lent_of w₁)) ≡ place_item x around.object around.done (Ref (Object l.object)) (mem t (lent_of w)) → Kept w w₁ → (Turn w₀ s₀ d tag a ls₁ (done_is n around) w₁ y) × (0 < n) × (t.at ≤ y.at)
-    turn_ends f r =
+    pub turn_ends : {n : ℕ} {y : State} {w₁ : Walker} → (v : ℕ) → v ≡ word x → ((x : Input) → word x ≡ v → 0 < v → around.done + t.skip + v < 2 ^ 64 → got n (mem y (lent_of w₁)) ≡ place_item x around.object around.done (Ref (Object l.object)) (mem t (lent_of w))) → Kept w w₁ → (Turn w₀ s₀ d tag a ls₁ (done_is n around) w₁ y) × (0 < n) × (t.at ≤ y.at)
+    turn_ends v ev h r =
+        let y = put_fits v ev in
+        let f = h x (sym ev) y.0 y.1 in
         let i = object_index x around.object around.done l.object (mem t (lent_of w)) (scratch_of w) u.nest.ready.index f in
         let q = nest_ends x w₀.heads.now d u.nest b e ls₁ around z f (record { pending = rw r.1.0 i.pending; linked = rw r.1.1 i.linked }) in
         (record { nest = q.0; fixed = fixed_on u.fixed r.0 }, q.1, q.2)

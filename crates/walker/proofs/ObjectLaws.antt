@@ -107,7 +107,7 @@ module _ (x : Input) (o : ℕ) (v : SlotValue) (m : Mem) {m' : Mem} (sc : List �
   unfolding keep_map flag_object
   map_indexed e = flag_indexed (flags x v) e
 
--- the size of an object is one of whole words
+-- the size of an object is one of whole words: `mul-mod_left` of Math Nat under an equation, which its three callers have
 pub bytes_whole : (words : ℕ) {w k : ℕ} → w ≡ k → (words * w) % k ≡ 0
 bytes_whole words {w} {k} e = rw e (mul-mod_left words k)
 

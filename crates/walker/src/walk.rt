@@ -29,7 +29,7 @@ use stream::bytes::{byte, peek};
 use tables::values::{Ref, SlotValue};
 use weak_leaves::weak::place_weak;
 
-// How deep a reference may stand.
+// How deep a reference may stand. Depths are numbers: clauses compute with them, and a type of depths would be opened at each call.
 const DEEPEST: usize = 64;
 
 // A reference at depth d.
@@ -80,7 +80,8 @@ fn parse_inner(w: &mut Walker, s: State, d: usize) -> Answer<SlotValue>
 }
 
 // An object at depth d in space a, whose head stands at `at`; the cursor stands after it. Objects within it are read in the same loop, as
-// many levels down as `outer` has room for: it has the objects around the current one, the outermost first.
+// many levels down as `outer` has room for: it has the objects around the current one, the outermost first. What a turn does is read off
+// the level's numbers, and its step is what was read, so that neither an enum of states nor an iterator would be plainer.
 #[cycle(walk)]
 pub fn parse_object(w: &mut Walker, s: State, d: usize, at: usize, a: u64) -> Answer<SlotValue>
     requires ready { Ready w.old s }
@@ -138,7 +139,7 @@ fn parse_head(w: &mut Walker, s: State, d: usize, at: usize, a: u64) -> Answer<u
 {
     let o = s.objects;
     let word = word_bytes(w.sheet);
-    if let Some((n, t)) = open_leaf(w, s, d, at, a, word) {
+    if let Some((n, t)) = open_leaf(w, s, d, at, a) {
         let ((), u) = resolves(w, t, o as u64)?;
         return Ok((n, u));
     }

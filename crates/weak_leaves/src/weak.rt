@@ -1,6 +1,6 @@
 // Weak references to a leaf, read without the readers of every reference.
 
-ghost use Rattle.std.specs.Prelude.{◌≡◌, ◌+◌, ◌^◌, ◌<◌, ◌≤◌, IfSome, IsNone};
+ghost use Rattle.std.specs.Prelude.{◌≡◌, ◌+◌, ◌^◌, ◌<◌, IfSome, IsNone};
 ghost use Rattle.sheet.specs.Sheet.{word_bytes};
 ghost use Rattle.heads.specs.Heads.{Heads};
 ghost use Rattle.tables.specs.declared.values.SlotValue.{SlotValue};
@@ -22,7 +22,6 @@ use tables::values::{SlotValue, fields_of};
 
 // A leaf after a weak prefix at the cursor. A weak reference in an object at depth d is one level below it, and the leaf two.
 fn weak_leaf(w: &Walker, s: State, word: u64, d: usize) -> Option<Leaf>
-    requires { (word ≤ 8) × Heads w.now.sheet.now w.now.heads.now }
     ensures { IfSome result (WeakAt w.now s word d) }
 {
     if 63 <= d || w.payload.len() <= s.at {
@@ -36,7 +35,7 @@ fn weak_leaf(w: &Walker, s: State, word: u64, d: usize) -> Option<Leaf>
 }
 
 // A weak reference to a leaf at the cursor as an item of object o, `done` bytes of which have been read: the bytes read then. None where
-// none stands there and where a record has no room; then nothing is changed.
+// none stands there and where a record or the bytes read then have no room; then nothing is changed.
 pub fn place_weak(
     w: &mut Walker,
     s: State,
@@ -45,20 +44,20 @@ pub fn place_weak(
     word: u64,
     d: usize,
 ) -> Option<(u64, State)>
-    requires decoded { (word ≡ word_bytes w.old.sheet.now) × (0 < word) × (word ≤ 8) × Heads w.old.sheet.now w.old.heads.now }
-    requires bounds { (field 4 w.old.objects.now o 3 < 2 ^ 63) × (done < 2 ^ 60) × (s.skip < 2 ^ 60) }
-    ensures read { IfSome result (λ r. (d < 63) × ((inner : Reader SlotValue) → got r.0 (mem r.1 (lent_of w.new)) ≡ placed_in (input_of w.old) (reference (input_of w.old) (reference (input_of w.old) inner)) o done (mem s (lent_of w.old)))) }
+    requires { field 4 w.old.objects.now o 3 < 2 ^ 63 }
+    ensures read { IfSome result (λ r. (d < 63) × (word ≡ word_bytes w.old.sheet.now → Heads w.old.sheet.now w.old.heads.now → (inner : Reader SlotValue) → got r.0 (mem r.1 (lent_of w.new)) ≡ placed_in (input_of w.old) (reference (input_of w.old) (reference (input_of w.old) inner)) o done (mem s (lent_of w.old)))) }
     ensures none { IsNone result → lent_of w.new ≡ lent_of w.old }
     ensures kept { Kept w.old w.new }
     ensures order { StaysInOrder w.old s result w.new }
 {
     let leaf = weak_leaf(w, s, word, d)?;
+    let start = done.checked_add(s.skip)?;
+    let end = start.checked_add(word)?;
     let n = s.slots;
     let k = s.values;
-    if w.slots.len() / 6 <= n || !add_value(w.values, k, leaf.value) {
+    if word == 0 || w.slots.len() / 6 <= n || !add_value(w.values, k, leaf.value) {
         return None;
     }
-    let start = done + s.skip;
     let weak = fields_of(SlotValue::WeakRef(k as u64));
     add_slot(w.slots, n, o as u64, start / word, weak, 0);
     count_slot(w.objects, o as u64);
@@ -70,5 +69,5 @@ pub fn place_weak(
         skip: 0,
         ..s
     };
-    Some((start + word, t))
+    Some((end, t))
 }

@@ -1,9 +1,7 @@
-use mathlib.Core.Path.{◌≡◌}
-use Rattle.tables.specs.declared.values.Ref.TheVariants.{Object}
 use Rattle.std.proofs.lemmas.Result.{err_from_is_err_and}
 use Rattle.readers.specs.Lent.{input_of}
 use Rattle.readers.proofs.ViewLaws.{nothing}
-use Rattle.deferred.proofs.EntryLaws.{byte_addresses, object_cut, object_no, object_named, object-other}
+use Rattle.deferred.proofs.EntryLaws.{byte_addresses, object_cut, object_no, object_named, object-other, an_object, no_object}
 use Rattle.deferred.proofs.entry.entry_object.Goals as goal
 
 pub legacy_ref-requires : goal.legacy_ref-requires
@@ -15,13 +13,11 @@ returns-in_err-t-clause-is c = let p = err_from_is_err_and c.from_residual.resul
 pub returns-in_err-value-clause-is : goal.returns-in_err-value-clause-is
 returns-in_err-value-clause-is c = let p = err_from_is_err_and c.from_residual-in_err-value.result c.from_residual-in_err-value.ensures.1 in rw (p.1, p.2) (object_no _ _ _ (c.in_ok-t.ensures.by_index _ _ _ _) c.in_err-value.ensures.is)
 
-pub returns-in_default-clause-is : goal.returns-in_default-clause-is
-returns-in_default-clause-is c = rw c.refused.ensures (object-other _ _ _ (c.in_ok-t.ensures.by_index _ _ _ _) c.in_ok-value.ensures.is (λ o. c.in_default.not-Ref (Object o)))
+pub returns-in_err-o-clause-is : goal.returns-in_err-o-clause-is
+returns-in_err-o-clause-is c =
+    let p = err_from_is_err_and c.from_residual-in_err-o.result c.from_residual-in_err-o.ensures.1 in
+    let n = no_object _ _ _ c.object_of.ensures c.in_err-o.ensures.value in
+    rw (p.1, p.2, n.1, c.refused.ensures) (object-other _ _ _ (c.in_ok-t.ensures.by_index _ _ _ _) c.in_ok-value.ensures.is n.0)
 
-pub returns-in-Object-clause-is : goal.returns-in-Object-clause-is
-returns-in-Object-clause-is c = object_named _ _ _ (c.in_ok-t.ensures.by_index _ _ _ _) c.in_ok-value.ensures.is (rw c.in-Object.is at c.in-Ref.is)
-
-pub returns-in_default-named-clause-is : goal.returns-in_default-named-clause-is
-returns-in_default-named-clause-is c =
-    let h = c.in-Ref.is in
-    rw c.refused-in_default-named.ensures (object-other _ _ _ (c.in_ok-t.ensures.by_index _ _ _ _) c.in_ok-value.ensures.is (λ o e. c.in_default-named.not-Object o (let z : c.in-Ref.named ≡ Object o = cc in z)))
+pub returns-clause-is : goal.returns-clause-is
+returns-clause-is c = object_named _ _ _ (c.in_ok-t.ensures.by_index _ _ _ _) c.in_ok-value.ensures.is (an_object _ _ _ c.object_of.ensures c.in_ok-o.ensures.value)

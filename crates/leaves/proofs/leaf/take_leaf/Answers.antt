@@ -6,5 +6,4 @@ use Rattle.leaves.proofs.leaf.take_leaf.Goals as goal
 pub returns-clause-read : goal.returns-clause-read
 returns-clause-read c =
     let a = c.args in
-    let q = c.requires in
-    λ inner. rw c.enter.ensures (leaf_read a.w.now a.s.at a.s.objects a.word c.in_ok-leaf.leaf q.2 q.0 c.in_ok-leaf.ensures inner a.s (lent_of a.w.now) refl refl refl)
+    λ ew h inner. rw c.enter.ensures (leaf_read a.w.now a.s.at a.s.objects a.word c.in_ok-leaf.leaf h ew c.in_ok-leaf.ensures inner a.s (lent_of a.w.now) refl refl refl)

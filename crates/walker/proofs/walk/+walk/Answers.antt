@@ -1,5 +1,5 @@
 -- The goals of the seven readers that the search leaves, each by its laws in proofs/.
-use Rattle.std.proofs.Common.{◌<◌, ◌-◌, ◌^◌, length, refl, sym, ap, ◌∙◌, arith}
+use Rattle.std.proofs.Common.{◌<◌, ◌-◌, ◌^◌, length, refl, ap, ◌∙◌, arith}
 use Rattle.std.proofs.lemmas.Bool.{false≢true}
 use Rattle.heads.specs.Heads.{head_at}
 use Rattle.definition.specs.Reference.{ref_at}
@@ -67,16 +67,11 @@ parse_head-returns-clause-small t c = bytes_small _ c.requires.ready.proper.shee
 
 -- ---- parse_inner
 
-pub parse_inner-take_leaf-requires : goal.parse_inner-take_leaf-requires
-parse_inner-take_leaf-requires t c =
-    let w = word_some (order_of c.requires.ready) in
-    (c.word_bytes.ensures.0, omega (arith, w.0, c.word_bytes.ensures.0), c.requires.ready.decoded)
-
 pub parse_inner-returns-in-Some-clause-is : goal.parse_inner-returns-in-Some-clause-is
 parse_inner-returns-in-Some-clause-is t c =
     let a = c.args in
     let x = input_of a.w.now in
-    c.in-Some.ensures.read (ref_at x (63 - a.d)) ∙ one_level x a.d c.if-d-lt-DEEPEST.true (mem a.s (lent_of a.w.now))
+    c.in-Some.ensures.read c.word_bytes.ensures.0 c.requires.ready.decoded (ref_at x (63 - a.d)) ∙ one_level x a.d c.if-d-lt-DEEPEST.true (mem a.s (lent_of a.w.now))
 
 pub parse_inner-returns-in-Some-clause-after : goal.parse_inner-returns-in-Some-clause-after
 parse_inner-returns-in-Some-clause-after t c = let r = c.in-Some.ensures in leaf_after c.requires.ready _ r.kept r.order
@@ -96,7 +91,7 @@ parse_item-returns-in-Some-clause-is t c =
     let x = input_of a.w.now in
     let r = c.in-Some.ensures in
     let n = deferred_not a.w.now.sheet.now a.w.now.payload.now a.s.at c.peek.ensures c.is_tag.ensures c.if-is_tag.false in
-    item_slot x (ref_at x (64 - a.d)) a.level.object a.level.size a.level.done (mem a.s (lent_of a.w.now)) n (r.read.1 (ref_at x (63 - a.d)) ∙ leaf_slot x a.d a.level.object a.level.done r.read.0 (mem a.s (lent_of a.w.now)))
+    item_slot x (ref_at x (64 - a.d)) a.level.object a.level.size a.level.done (mem a.s (lent_of a.w.now)) n (r.read.1 c.word_bytes-word.ensures.0 c.requires.ready.decoded (ref_at x (63 - a.d)) ∙ leaf_slot x a.d a.level.object a.level.done r.read.0 (mem a.s (lent_of a.w.now)))
 
 -- ---- parse_map
 
@@ -203,23 +198,23 @@ parse_object-returns-in_default-clause-is t c =
 
 pub parse_object-put_object-requires : goal.parse_object-put_object-requires
 parse_object-put_object-requires t c =
-    turn_put c.loop-o.invariant (omega arith) c.if-done-level.false _ _ c.in-Some.ensures.items (omega arith) _ c.word_bytes-word.ensures.0
+    turn_put c.loop-o.invariant (omega arith) c.if-done-level.false _ _ c.in-Some.ensures.items (omega arith)
 
 pub parse_object-returns-in_err-read-clause-is : goal.parse_object-returns-in_err-read-clause-is
 parse_object-returns-in_err-read-clause-is t c =
     passed_on _ _ _ c.from_residual-in_err-read.ensures.1
-    ∙ turn_roomless c.loop-o.invariant (omega arith) c.if-done-level.false _ _ c.in-Some.ensures.items (c.in_err-read.ensures.is (input_of c.args.w.now) (sym c.word_bytes-word.ensures.0))
+    ∙ turn_roomless c.loop-o.invariant (omega arith) c.if-done-level.false _ _ c.in-Some.ensures.items _ c.word_bytes-word.ensures.0 c.in_err-read.ensures.is
 
 pub parse_object-loop-o-smaller-then-level-done : goal.parse_object-loop-o-smaller-then-level-done
 parse_object-loop-o-smaller-then-level-done t c =
     let q = c.in_ok-read.ensures in
-    let z = turn_ends c.loop-o.invariant (omega arith) c.if-done-level.false _ _ c.in-Some.ensures.items (q.is (input_of c.args.w.now) (sym c.word_bytes-word.ensures.0)) q.kept in
+    let z = turn_ends c.loop-o.invariant (omega arith) c.if-done-level.false _ _ c.in-Some.ensures.items _ c.word_bytes-word.ensures.0 q.is q.kept in
     rw q.kept.0.payload (omega (arith, c.in-Some.ensures.len))
 
 pub parse_object-loop-o-preserved-then-level-done : goal.parse_object-loop-o-preserved-then-level-done
 parse_object-loop-o-preserved-then-level-done t c =
     let q = c.in_ok-read.ensures in
-    (turn_ends c.loop-o.invariant (omega arith) c.if-done-level.false _ _ c.in-Some.ensures.items (q.is (input_of c.args.w.now) (sym c.word_bytes-word.ensures.0)) q.kept).0
+    (turn_ends c.loop-o.invariant (omega arith) c.if-done-level.false _ _ c.in-Some.ensures.items _ c.word_bytes-word.ensures.0 q.is q.kept).0
 
 -- the next item
 
@@ -296,18 +291,12 @@ parse_ref-returns-in_ok-value-in-Inner t c =
 
 -- ---- parse_slot
 
-pub parse_slot-place_weak-requires-clause-decoded : goal.parse_slot-place_weak-requires-clause-decoded
-parse_slot-place_weak-requires-clause-decoded t c =
-    let g = c.requires.ready in
-    let w = word_some (order_of g) in
-    (c.word_bytes.ensures.0, omega (arith, w.1, c.word_bytes.ensures.0), omega (arith, w.0, c.word_bytes.ensures.0), g.decoded)
-
 pub parse_slot-returns-in-Some-clause-is : goal.parse_slot-returns-in-Some-clause-is
 parse_slot-returns-in-Some-clause-is t c =
     let a = c.args in
     let x = input_of a.w.now in
     let r = c.in-Some.ensures in
-    r.read.1 (ref_at x (62 - a.d)) ∙ weak_slot x a.d a.o a.done r.read.0 (mem a.s (lent_of a.w.now))
+    r.read.1 c.word_bytes.ensures.0 c.requires.ready.decoded (ref_at x (62 - a.d)) ∙ weak_slot x a.d a.o a.done r.read.0 (mem a.s (lent_of a.w.now))
 
 pub parse_slot-returns-in-Some-clause-after : goal.parse_slot-returns-in-Some-clause-after
 parse_slot-returns-in-Some-clause-after t c = let r = c.in-Some.ensures in leaf_after c.requires.ready _ r.kept r.order
@@ -319,8 +308,7 @@ parse_slot-place_item-requires-clause-bounds t c =
     let g = ready_still q.kept (c.in_default.ensures.none refl) c.requires.ready in
     let r = c.in_ok-value.ensures in
     let few : length c.place_weak.new.w.slots.now < 2 ^ 64 = omega (arith, ap (λ (l : Lent). length l.slots) (c.in_default.ensures.none refl)) in
-    let z = put_asks g a.d a.o a.done c.requires.depth r.after r.is few in
-    rw r.after.fixed.sheet (g.proper.sheet_usable, z.0.0, z.0.1, z.0.2, z.0.5)
+    rw r.after.fixed.sheet (put_asks g a.d a.o a.done c.requires.depth r.after r.is few).0
 
 pub parse_slot-place_item-requires-clause-slots_nonzero : goal.parse_slot-place_item-requires-clause-slots_nonzero
 parse_slot-place_item-requires-clause-slots_nonzero t c =

@@ -6,7 +6,8 @@ pub returns-clause-read : goal.returns-clause-read
 returns-clause-read c =
     let a = c.args in
     let q = c.in_ok-leaf.ensures in
-    (q.deep, λ inner. weak_placed a.w.now a.s a.word a.d c.in_ok-leaf.leaf c.requires.decoded.3 c.requires.decoded.0 q a.o a.done (omega (arith, c.if-w-n.false)) c.add_value.ensures c.if-not-add_value.false c.fields_of-weak.ensures c.add_slot.ensures c.count_slot.ensures c.enter.ensures inner)
+    let e = c.in_ok-start.ensures.1 in
+    (q.deep, λ ew h inner. rw (c.in_ok-end.ensures.1, e) (weak_placed a.w.now a.s a.word a.d c.in_ok-leaf.leaf h ew q a.o a.done (omega (arith, c.if-w-n.false)) c.add_value.ensures c.if-not-add_value.false c.fields_of-weak.ensures (rw e at c.add_slot.ensures) c.count_slot.ensures c.enter.ensures inner))
 
 pub returns-clause-order : goal.returns-clause-order
 returns-clause-order c =
