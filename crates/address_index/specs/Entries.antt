@@ -1,7 +1,15 @@
 -- What the index is to keep of a new record. Assumes nothing: these are definitions.
-use Rattle.std.specs.Prelude.{◌≡◌, List, ℕ, ◌+◌, ◌*◌, ◌≤◌, ◌<◌, length, Option, Some, None}
+use Rattle.std.specs.Prelude.{◌≡◌, List, ℕ, ◌+◌, ◌*◌, ◌≤◌, ◌<◌, length, Option, Some, None, IfSome}
 use Rattle.address_index.specs.Links.{counted, space_of, newest, count_in, JumpOf}
 use Rattle.address_index.specs.declared.links.Entry.{Entry}
+
+-- the index has a place for each of 256 spaces
+abbrev pub HasHeads : List ℕ → Type 0
+HasHeads index = 256 ≤ length index
+
+-- a hint names one of the first n records, or is of no use
+abbrev pub Hinted : ℕ → Option ℕ → Type 0
+Hinted n r = IfSome r (λ h. h < n)
 
 -- a hint of record n lies behind what is kept of the first n + 1 records
 abbrev pub HintLies : ℕ → List ℕ → Option ℕ → Type 0

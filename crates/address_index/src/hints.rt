@@ -5,15 +5,16 @@
 ghost use Rattle.std.specs.Prelude.{◌+◌, ◌*◌, ◌^◌, ◌<◌, ◌≤◌, length, IfSome};
 ghost use Rattle.tables.specs.Records.{room};
 ghost use Rattle.address_index.specs.Links.{counted};
-ghost use Rattle.address_index.specs.Entries.{HintLies};
+ghost use Rattle.address_index.specs.Entries.{HasHeads, Hinted, HintLies};
 
-use crate::links::record_of;
-use alloc::resolve::{LARGE_OBJECT_SPACE, MAP_SPACE, Place, place_of};
+use crate::links::{record_of, space_of};
+use alloc::resolve::{LARGE_OBJECT_SPACE, MAP_SPACE, Place};
+use tables::records::address_at;
 
 // For how many records the index has room with their hints; none where that is less than n. The bound 256 is a clause here, since
 // `hint_cell` has no `Search`.
 fn capacity(index: &[u64], n: usize) -> Option<usize>
-    requires { 256 ≤ length index.now }
+    requires { HasHeads index.now }
     ensures { IfSome result (λ r. (0 < r) × (n ≤ r) × (r < 2 ^ 31) × (256 + r * 5 ≤ length index.now)) }
 {
     let r = (index.len() - 256) / 5;
@@ -42,7 +43,7 @@ fn number_cell(r: usize, space: u64, number: u64) -> usize
 // The record that a hint names, where it is one of the first n.
 fn hint_at(index: &[u64], n: usize, cell: usize) -> Option<usize>
     requires { cell < length index.now }
-    ensures { IfSome result (λ h. h < n) }
+    ensures { Hinted n result }
 {
     record_of(index[cell]).filter(|h| *h < n)
 }
@@ -50,8 +51,8 @@ fn hint_at(index: &[u64], n: usize, cell: usize) -> Option<usize>
 // The record that may come after the one at an address, in its space. This hint and that for a number share `capacity` and `hint_at`; a
 // trait for the cell alone would be longer than both.
 pub fn address_hint(index: &[u64], n: usize, place: Place) -> Option<usize>
-    requires { 256 ≤ length index.now }
-    ensures { IfSome result (λ h. h < n) }
+    requires { HasHeads index.now }
+    ensures { Hinted n result }
 {
     let r = capacity(index, n)?;
     hint_at(index, n, address_cell(r, place))
@@ -59,8 +60,8 @@ pub fn address_hint(index: &[u64], n: usize, place: Place) -> Option<usize>
 
 // The record that may have a number in a space.
 pub fn number_hint(index: &[u64], n: usize, space: u64, number: u64) -> Option<usize>
-    requires { 256 ≤ length index.now }
-    ensures { IfSome result (λ h. h < n) }
+    requires { HasHeads index.now }
+    ensures { Hinted n result }
 {
     let r = capacity(index, n)?;
     if r as u64 <= number {
@@ -72,13 +73,13 @@ pub fn number_hint(index: &[u64], n: usize, space: u64, number: u64) -> Option<u
 // Where record n is kept as a hint: in the two spaces where back-references give numbers, for its number o; else for the address of record
 // p, the one before it in its space.
 pub fn hint_cell(table: &[u64], index: &[u64], n: usize, p: Option<usize>, o: u64) -> Option<usize>
-    requires { (n < room 5 table.now) × (256 ≤ length index.now) × (counted p ≤ n) × (o ≤ n) }
+    requires { (n < room 5 table.now) × HasHeads index.now × (counted p ≤ n) × (o ≤ n) }
     ensures { HintLies n index.now result }
 {
     let r = capacity(index, n + 1)?;
-    let space = table[n * 5];
+    let space = space_of(table, n);
     if space == MAP_SPACE || space == LARGE_OBJECT_SPACE {
         return Some(number_cell(r, space, o));
     }
-    Some(address_cell(r, place_of(table, p?)))
+    Some(address_cell(r, address_at(table, p?).into()))
 }

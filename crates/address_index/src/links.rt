@@ -9,16 +9,21 @@ ghost use Rattle.address_index.specs.Links.{counted, space_of, newest as newestO
 ghost use Rattle.address_index.specs.Entries.{EntryFits, IsEntry};
 
 use crate::hints::hint_cell;
+use tables::records::address_at;
+
+// The space of address record i.
+pub fn space_of(table: &[u64], i: usize) -> u64
+    requires { i < room 5 table.now }
+    ensures { result ≡ space_of table.now i }
+{
+    address_at(table, i).space
+}
 
 // The record that the index names by a number.
 pub fn record_of(number: u64) -> Option<usize>
     ensures { counted result ≡ number }
 {
-    if number == 0 {
-        None
-    } else {
-        Some((number - 1) as usize)
-    }
+    number.checked_sub(1).map(|i| i as usize)
 }
 
 // The number by which the index names a record.
@@ -125,7 +130,7 @@ pub fn entry_of(table: &[u64], index: &[u64], n: usize) -> Entry
     requires { (n < room 5 table.now) × (space_of table.now n < 256) × Roomy n index.now × Linked table.now n index.now }
     ensures { IsEntry table.now n index.now result }
 {
-    let space = table[n * 5] as usize;
+    let space = space_of(table, n) as usize;
     let before = newest(index, space);
     let ordinal = ordinal_after(table, index, n, before);
     Entry {

@@ -6,14 +6,14 @@ ghost use Rattle.address_index.specs.KeyLaws.{numbered_of_space, newest_where-or
 
 use crate::find::{Key, Search};
 use crate::hints::number_hint;
-use crate::links::{newest, ordinal};
+use crate::links::{newest, ordinal, space_of};
 
 // A number among the records of a space.
 #[derive(Clone, Copy)]
 pub struct Ordinal(pub u64);
 
 impl Key for Ordinal {
-    ghost Needs = { λ t n. Unit {0} };
+    ghost Needs = { λ s. Unit {0} };
 
     ghost matches = { λ o t space i. is_numbered t space o.0 i };
 
@@ -34,7 +34,7 @@ impl Key for Ordinal {
     // A hinted record that is of this space and has this number in it, else the newest of the space.
     fn start(self, among: Search<'_>) -> Option<usize> {
         if let Some(h) = number_hint(among.links, among.count, among.space, self.0)
-            && among.table[h * 5] == among.space
+            && space_of(among.table, h) == among.space
             && ordinal(among.links, h) == self.0
         {
             return Some(h);

@@ -8,16 +8,20 @@ ghost use Rattle.address_index.specs.KeyLaws.{address_of_space, newest_where-add
 
 use crate::find::{Key, Search};
 use crate::hints::address_hint;
-use crate::links::{newest, older};
-use alloc::resolve::{Place, place_of};
+use crate::links::{newest, older, space_of};
+use alloc::resolve::Place;
+use tables::records::address_at;
 
 impl<'a> Search<'a> {
+    ghost use Rattle.address_index.specs.Searches.{OfSpace};
+
     // Record i, of this space, is placed at this address. That the space, which `is_address` of `alloc` tests, is this one is known.
     fn is_placed_at(self, i: usize, place: Place) -> bool
         requires { i < room 5 self.table.now }
         ensures { result ≡ is_address self.entry.table.now (space_of self.entry.table.now i) place.chunk place.offset i }
     {
-        place_of(self.table, i) == place && self.table[i * 5 + 4] == 1
+        let a = address_at(self.table, i);
+        Place::from(a) == place && a.placed == 1
     }
 
     // The address of record i is higher than this one.
@@ -25,7 +29,7 @@ impl<'a> Search<'a> {
         requires { i < room 5 self.table.now }
         ensures { result ≡ is_after self.entry.table.now i place.chunk place.offset }
     {
-        place < place_of(self.table, i)
+        place < address_at(self.table, i).into()
     }
 
     // The record before record i in its space, which often is the one before it in the table: then the index need not be read.
@@ -34,7 +38,7 @@ impl<'a> Search<'a> {
         requires { i < self.count }
         ensures { counted result ≡ newestOf self.entry.table.now (space_of self.entry.table.now i) i }
     {
-        if 0 < i && self.table[(i - 1) * 5] == self.table[i * 5] {
+        if 0 < i && space_of(self.table, i - 1) == space_of(self.table, i) {
             return Some(i - 1);
         }
         older(self.links, i)
@@ -42,15 +46,15 @@ impl<'a> Search<'a> {
 
     // A hinted record of this space whose address is higher than this one.
     fn hinted_after(self, place: Place) -> Option<usize>
-        ensures { IfSome result (λ h. (h < self.entry.count) × (space_of self.entry.table.now h ≡ self.entry.space) × (is_after self.entry.table.now h place.chunk place.offset ≡ true)) }
+        ensures { IfSome result (λ h. OfSpace self.entry h × (is_after self.entry.table.now h place.chunk place.offset ≡ true)) }
     {
         let h = address_hint(self.links, self.count, place)?;
-        (self.table[h * 5] == self.space && self.is_higher(h, place)).then_some(h)
+        (space_of(self.table, h) == self.space && self.is_higher(h, place)).then_some(h)
     }
 }
 
 impl Key for Place {
-    ghost Needs = { Sorted };
+    ghost Needs = { λ s. Sorted s.table.now s.count };
 
     ghost matches = { λ p t space i. is_address t space p.chunk p.offset i };
 

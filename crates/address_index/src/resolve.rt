@@ -7,8 +7,7 @@ ghost use Rattle.address_index.specs.Sorted.{Sorted, Sorted-prop};
 
 use crate::find::Search;
 use crate::ordinals::Ordinal;
-use alloc::fill::fill_to_align;
-use alloc::resolve::Place;
+use alloc::resolve::{Place, resolve_by};
 
 // The first `count` address records and their index.
 #[derive(Clone, Copy)]
@@ -42,25 +41,15 @@ impl<'a> AddressIndex<'a> {
         }
     }
 
-    // The object at an address; where there is none and an alignment is pending, the one after the filler. `alloc` has the same steps for
-    // the plain search: a trait of both searches with its laws would be longer than the steps.
-    #[tactic(auto, using(alloc::proofs::Laws::fill_bound), unfolding(alloc::specs::Resolve::resolve_of))]
+    // The object at an address; where there is none and an alignment is pending, the one after the filler.
     pub fn resolve(self, space: u64, place: Place, alignment: u64, word: u64) -> Option<u64>
         requires { (place.offset < 2 ^ 32) × (word ≤ 8) }
         ensures { result ≡ resolve_of self.entry.table.now self.entry.count space place.chunk place.offset alignment word }
     {
-        let Some(search) = self.search(space) else {
-            return alloc::resolve::resolve(self.table, self.count, space, place, alignment, word);
-        };
-        let found = search.find(place);
-        if found.is_some() {
-            return found;
+        match self.search(space) {
+            Some(search) => resolve_by(|p| search.find(p), place, alignment, word),
+            None => alloc::resolve::resolve(self.table, self.count, space, place, alignment, word),
         }
-        let pad = fill_to_align(place.offset, alignment, word);
-        if pad == 0 {
-            return None;
-        }
-        search.find(place.after(pad))
     }
 
     // The object whose number among the records of a space is `number`.

@@ -1,5 +1,5 @@
 -- The searches by address and by number, from what `find` and `nth` answer. Assumes nothing.
-use Rattle.std.proofs.Common.{◌≡◌, refl, sym, ◌∙◌, ap, subst, cond, Bool, true, false, List, [], ◌∷◌, ℕ, zero, suc, ◌+◌, ◌-◌, ◌*◌, ◌<◌, eqb, length, get_or, Option, Some, None, option_map, find, filter, slice_get, arith}
+use Rattle.std.proofs.Common.{◌≡◌, refl, sym, ◌∙◌, ap, subst, cond, Bool, true, false, List, [], ◌∷◌, ℕ, zero, suc, ◌+◌, ◌-◌, ◌<◌, eqb, length, Option, Some, None, option_map, find, filter, slice_get, arith}
 use Rattle.std.specs.List.{range_with_len}
 use Rattle.std.specs.declared.iter.Rev.{Rev}
 use Rattle.std.specs.declared.iter.Filter.{Filter}
@@ -20,7 +20,7 @@ use Rattle.tables.specs.Records.{field}
 use Rattle.alloc.specs.Resolve.{pick_found, is_address, addressed, ordinal_from}
 
 -- the k numbers from a on, the highest first
-abbrev pub falling : ℕ → ℕ → List ℕ
+abbrev falling : ℕ → ℕ → List ℕ
 falling a zero = []
 falling a (suc k) = (a + k) ∷ falling a k
 
@@ -38,7 +38,7 @@ one_left s x t p =
     falls-step (rev_source t).start ((rev_source t).end - (rev_source t).start) (sym p.0) (omega (arith, p.0, p.1)) (omega (arith, p.0, p.1))
 
 -- a range from 0 on that is run from its end
-pub YieldsList-from_rev_range : {s : Rev (Range ℕ)} (n : ℕ) → rev_source s ≡ record { start = 0; end = n } → YieldsList (rev_steps nat_range_steps_back) (λ x. x) s (falling 0 n)
+YieldsList-from_rev_range : {s : Rev (Range ℕ)} (n : ℕ) → rev_source s ≡ record { start = 0; end = n } → YieldsList (rev_steps nat_range_steps_back) (λ x. x) s (falling 0 n)
 YieldsList-from_rev_range {s} n e =
     let all : n - 0 ≡ n = omega arith in
     subst (λ k. YieldsList (rev_steps nat_range_steps_back) (λ x. x) s (falling 0 k)) all
@@ -108,14 +108,13 @@ row_low false k index i m xs e h l = h index e
 
 module _ (t : List ℕ) (space : ℕ) where
   abbrev of_space : ℕ → Bool
-  of_space i = eqb (get_or t (i * 5) 0) space
+  of_space i = eqb (field 5 t i 0) space
 
   numbered_is : (n k index : ℕ) → option_map (λ i. field 5 t i 3) (slice_get (filter of_space (range_with_len k n)) index) ≡ ordinal_from t space index k n
   unfolding ordinal_from
   numbered_is zero k index = refl
   numbered_is (suc n) k index =
-      let z : k * 5 + 0 ≡ k * 5 = omega arith in
-      rw z (in_row (λ i. field 5 t i 3) (of_space k) k index (filter of_space (range_with_len (k + 1) n)) _ _ (numbered_is n (k + 1) (index - 1)) (numbered_is n (k + 1) index))
+      in_row (λ i. field 5 t i 3) (of_space k) k index (filter of_space (range_with_len (k + 1) n)) _ _ (numbered_is n (k + 1) (index - 1)) (numbered_is n (k + 1) index)
 
   numbered_below : (n k index i : ℕ) → Some i ≡ slice_get (filter of_space (range_with_len k n)) index → i < k + n
   numbered_below zero k index i e = absurd (none-some i (sym e))

@@ -6,7 +6,7 @@ ghost use Rattle.alloc.specs.Allocation.{zero_counters, spaces_of, next_chunk, a
 
 use crate::fill::{fill_to_align, max_fill_to_align};
 use refusals::refusal::Refusal;
-use tables::records::add_address;
+use tables::records::{ADDRESS_FIELDS, Address, add_address, has_room};
 
 // Two counters for each of 256 spaces: the current chunk, and the next free offset in it. The order fixes these two arrays: two counters
 // for each space, held by value.
@@ -25,6 +25,21 @@ pub struct Request {
     pub object: u64,
     pub alignment: u64,
     pub word: u64,
+}
+
+impl Request {
+    // The address that its object gets.
+    fn address(self, chunk: u64, offset: u64, placed: u64) -> Address
+        ensures { result ≡ record { space = self.space; chunk = chunk; offset = offset; object = self.object; placed = placed } }
+    {
+        Address {
+            space: self.space,
+            chunk,
+            offset,
+            object: self.object,
+            placed,
+        }
+    }
 }
 
 // The alignment that is pending now or a refusal, and the counters.
@@ -94,7 +109,8 @@ impl LegacyAlloc {
     }
 }
 
-// The tests of an allocation and its record, in a space with this next free offset and this chunk. Refused, nothing changes.
+// The tests of an allocation and its record, in a space with this next free offset and this chunk. Refused, nothing changes. That there is
+// no room is told before that the size is too large, so the room is asked first; `add_address` then has it.
 #[tactic(auto, using(crate::proofs::Laws::fill_bound, crate::proofs::Laws::advance_bound), unfolding(crate::specs::Allocation::allocate_of))]
 pub fn place(
     table: &mut [u64],
@@ -109,14 +125,14 @@ pub fn place(
     ensures refused { OnErr result (table.new ≡ table.old) }
     ensures some { IfErr result (λ r. 0 < number_of r) }
 {
-    if table.len() / 5 <= n {
+    if !has_room(table, ADDRESS_FIELDS, n) {
         return Err(Refusal::NoRoom);
     }
     if 4294967295 < want.size {
         return Err(Refusal::AddressTooLarge);
     }
     if spaces <= want.space {
-        add_address(table, n, want.space, 0, 0, want.object, 0);
+        add_address(table, n, want.address(0, 0, 0));
         return Ok(Placed {
             alignment: want.alignment,
             free: used,
@@ -125,7 +141,7 @@ pub fn place(
     let next = u64::from(used);
     let offset = u64::from(narrow(next + fill_to_align(next, want.alignment, want.word))?);
     let free = narrow(next + advance(want.size, want.alignment, want.word))?;
-    add_address(table, n, want.space, chunk as u64, offset, want.object, 1);
+    add_address(table, n, want.address(u64::from(chunk), offset, 1));
     Ok(Placed { alignment: 0, free })
 }
 

@@ -1,10 +1,12 @@
 // Which object a legacy back-reference stands for: by address, or by its number among the objects of a space. Table and count go apart:
-// with the index they are an `AddressIndex`, and without it another struct of the two would be no plainer than both.
-ghost use Rattle.std.specs.Prelude.{◌≡◌, ◌+◌, ◌^◌, ◌<◌, ◌≤◌, length};
-ghost use Rattle.tables.specs.Records.{room, field};
-ghost use Rattle.alloc.specs.Resolve.{is_address, addressed, resolve_of, ordinal_from};
+// with the index they are an `AddressIndex`, `resolve_by` takes neither, and for the plain search another struct of the two would be no
+// plainer than both.
+ghost use Rattle.std.specs.Prelude.{◌≡◌, ℕ, ◌+◌, ◌^◌, ◌<◌, ◌≤◌, length, Option};
+ghost use Rattle.tables.specs.Records.{room};
+ghost use Rattle.alloc.specs.Resolve.{is_address, addressed, resolve_by, resolve_of, Finds, ordinal_from};
 
 use crate::fill::fill_to_align;
+use tables::records::{Address, address_at};
 
 // The space of the address records whose objects are the maps that back-references give by number, whatever kMapSpace is in a version.
 pub const MAP_SPACE: u64 = 4;
@@ -32,14 +34,15 @@ impl Place {
     }
 }
 
-// The place that record i has.
-pub fn place_of(table: &[u64], i: usize) -> Place
-    requires { i < room 5 table.now }
-    ensures { result ≡ record { chunk = field 5 table.now i 1; offset = field 5 table.now i 2 } }
-{
-    Place {
-        chunk: table[i * 5 + 1],
-        offset: table[i * 5 + 2],
+// The place of an address.
+impl From<Address> for Place {
+    ghost from_gives = { λ a p. p ≡ record { chunk = a.chunk; offset = a.offset } };
+
+    fn from(a: Address) -> Place {
+        Place {
+            chunk: a.chunk,
+            offset: a.offset,
+        }
     }
 }
 
@@ -48,7 +51,8 @@ fn is_address(table: &[u64], i: usize, space: u64, place: Place) -> bool
     requires { i < room 5 table.now }
     ensures { result ≡ is_address table.now space place.chunk place.offset i }
 {
-    table[i * 5] == space && place_of(table, i) == place && table[i * 5 + 4] == 1
+    let a = address_at(table, i);
+    a.space == space && Place::from(a) == place && a.placed == 1
 }
 
 // The object of the newest of n records that is placed at this address.
@@ -57,11 +61,34 @@ pub fn find_address(table: &[u64], n: usize, space: u64, place: Place) -> Option
     ensures { result ≡ addressed table.now space place.chunk place.offset n }
 {
     let newest = (0..n).rev().find(|i| is_address(table, *i, space, place))?;
-    Some(table[newest * 5 + 3])
+    Some(address_at(table, newest).object)
 }
 
-// The object at an address; where there is none and an alignment is pending, the one after the filler.
-#[tactic(auto, using(crate::proofs::Laws::fill_bound), unfolding(crate::specs::Resolve::resolve_of))]
+// The object at an address, as `find` finds it; where there is none and an alignment is pending, the one after the filler. The plain search
+// and the one through an index (`address_index`) both go by these steps.
+#[tactic(auto, using(crate::proofs::Laws::fill_bound))]
+pub fn resolve_by<F: Fn(Place) -> Option<u64>>(
+    find: F,
+    place: Place,
+    alignment: u64,
+    word: u64,
+) -> Option<u64>
+    requires callable { F.IsAlwaysCallable find }
+    requires low { (place.offset < 2 ^ 32) × (word ≤ 8) }
+    ensures { (at : ℕ → ℕ → Option ℕ) → Finds at (F.post find) → result ≡ resolve_by at place.chunk place.offset alignment word }
+{
+    let found = find(place);
+    if found.is_some() {
+        return found;
+    }
+    let pad = fill_to_align(place.offset, alignment, word);
+    if pad == 0 {
+        return None;
+    }
+    find(place.after(pad))
+}
+
+// The same, by the plain search.
 pub fn resolve(
     table: &[u64],
     n: usize,
@@ -73,15 +100,7 @@ pub fn resolve(
     requires { (n ≤ room 5 table.now) × (place.offset < 2 ^ 32) × (word ≤ 8) }
     ensures { result ≡ resolve_of table.now n space place.chunk place.offset alignment word }
 {
-    let found = find_address(table, n, space, place);
-    if found.is_some() {
-        return found;
-    }
-    let pad = fill_to_align(place.offset, alignment, word);
-    if pad == 0 {
-        return None;
-    }
-    find_address(table, n, space, place.after(pad))
+    resolve_by(|p| find_address(table, n, space, p), place, alignment, word)
 }
 
 // The object whose number among the n records of a space is `index`.
@@ -90,7 +109,7 @@ pub fn resolve_ordinal(table: &[u64], n: usize, space: u64, index: u64) -> Optio
     ensures { result ≡ ordinal_from table.now space index 0 n }
 {
     let i = (0..n)
-        .filter(|i| table[*i * 5] == space)
+        .filter(|i| address_at(table, *i).space == space)
         .nth(index as usize)?;
-    Some(table[i * 5 + 3])
+    Some(address_at(table, i).object)
 }

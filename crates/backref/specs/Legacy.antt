@@ -1,5 +1,5 @@
 -- Legacy back-references (`legacy_backref`): what one stands for, and what enters the ring. Assumes nothing: these are definitions.
-use Rattle.std.specs.Prelude.{Bool, true, false, List, ℕ, zero, suc, ◌+◌, ◌-◌, ◌*◌, ◌/◌, ◌%◌, ◌^◌, eqb, Option, Some, None, Result, Ok, Err}
+use Rattle.std.specs.Prelude.{Bool, true, false, List, ℕ, ◌+◌, ◌-◌, ◌*◌, ◌/◌, ◌%◌, ◌^◌, eqb, Option, Some, None, Result, Ok, Err}
 use Rattle.stream.specs.declared.putint.Int.{Int}
 use Rattle.stream.specs.PutInt.{int_at}
 use Rattle.sheet.specs.Sheet.{pick_ℕ, is_six_x, map_space, lo_space, space_tag_size, page_size_bits, word_bytes}
@@ -24,11 +24,6 @@ pick_backref false a b = b
 -- 0 for a space that is not numbered
 abbrev pub numbered_as : List ℕ → ℕ → ℕ
 numbered_as v space = pick_ℕ (eqb space (map_space v)) 4 (pick_ℕ (eqb space (lo_space v)) 5 0)
-
--- such a space, or none
-abbrev pub unless_zero : ℕ → Option ℕ
-unless_zero zero = None
-unless_zero (suc n) = Some (suc n)
 
 -- the object with a number; none: refusal 15 at the cursor
 abbrev pub by_number : Option ℕ → ℕ → Answer

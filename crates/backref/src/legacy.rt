@@ -2,7 +2,8 @@
 // integer.
 ghost use Rattle.std.specs.Prelude.{true, ◌≡◌, ◌^◌, ◌<◌, ◌≤◌};
 ghost use Rattle.sheet.specs.Sheet.{usable};
-ghost use Rattle.backref.specs.Legacy.{numbered_as, unless_zero, index_of, word_bits, unpacked, ring_after};
+ghost use Rattle.sheet.specs.Tests.{unless_zero};
+ghost use Rattle.backref.specs.Legacy.{numbered_as, index_of, word_bits, unpacked, ring_after};
 
 use crate::hot_ring::HotRing;
 use address_index::resolve::AddressIndex;

@@ -18,8 +18,8 @@ use readers::state::{Answer, State};
 use readers::walker::Walker;
 use refusals::refusal::Refusal;
 use sheet::numbers::word_bytes;
-use tables::records::{field, value_fields};
-use tables::values::{Fields, Ref, SlotValue, fields_of, width};
+use tables::records::{slot_count, value_fields};
+use tables::values::{Fields, Ref, SlotValue, width};
 use walker::walk::parse_ref;
 
 // A slot's value in an entry: what a repeat holds, else the value itself.
@@ -28,7 +28,7 @@ fn entry_fields(w: &Walker, v: SlotValue) -> Fields
 {
     match v {
         SlotValue::Repeat(_, k) => value_fields(w.values, k),
-        _ => fields_of(v),
+        _ => Fields::from(v),
     }
 }
 
@@ -74,7 +74,7 @@ fn add_slots(w: &mut Walker, s: State, o: u64, f: Fields, index: u64, n: u64) ->
 fn first_index(w: &Walker, o: u64) -> u64
     ensures { result ≡ max (field_of 4 w.now.objects.now o 3) 1 }
 {
-    field(w.objects, 4, o, 3).max(1)
+    slot_count(w.objects, o).max(1)
 }
 
 // The items of an entry of object o, while the count is below the size: the step is what was read, so that a `for` would be no plainer.
@@ -110,7 +110,8 @@ fn object_of(v: SlotValue) -> Option<u64>
     }
 }
 
-// The object that an entry names: a new-object byte, then a back-reference of its space.
+// The object that an entry names: a new-object byte, then a back-reference of its space. `NoEntry` has the number 0, as the definition has
+// it there: it only ends a legacy closing section, and an error type of its own for this crate and `graph` would hold it and `Refused`.
 fn entry_object(w: &mut Walker, s: State, space: u64) -> Answer<u64>
     requires { Addressed w.old s.addresses }
     ensures is { seen result (lent_of w.new) ≡ entry_object (input_of w.old) space (mem s (lent_of w.old)) }

@@ -1,42 +1,37 @@
 -- The closing section at each way out of the code. Assumes nothing.
 use mathlib.Core.Path.{◌≡◌, refl, sym, subst, ◌∙◌}
 use mathlib.Core.Bool.{true, false}
-use mathlib.Core.List.{[]}
 use Prim.Native.Nat.{ℕ, suc, ◌+◌, ◌-◌, ◌<◌, ◌≤◌}
 use native.Mathlib.Omega.{arith}
 use borrow.Author.Tests.{le-leb, lt-leb, lt-ltb}
-use lib.ListN.{length, get_or}
-use Rattle.std.specs.Prelude.{Ok}
+use lib.ListN.{length}
+use Rattle.std.specs.Prelude.{Ok, Err}
 use Rattle.stream.specs.Bytes.{peek_at}
-use Rattle.heads.specs.Heads.{head_at}
+use Rattle.refusals.specs.Numbers.{number_of}
 use Rattle.sheet.specs.Sheet.{is_legacy}
 use Rattle.sheet.specs.declared.tests.Closing.{Closing}
 use Rattle.sheet.specs.declared.tests.Closing.TheVariants.{Synchronize, Alignment, Deferred, Reference}
 use Rattle.sheet.specs.Tests.{closing_of}
 use Rattle.tables.specs.declared.values.SlotValue.{SlotValue}
 use Rattle.tables.specs.Values.{fields_of}
-use Rattle.definition.specs.Memory.{Input, dropped, value, Mem, Out, got, no, Reader, tell, byte}
+use Rattle.definition.specs.Memory.{Input, dropped, value, Mem, Out, got, no, Reader, choose, give, refuse_at, tell, byte}
 use Rattle.definition.specs.Object.{peek, object}
 use Rattle.definition.specs.Reference.{ref_at}
-use Rattle.definition.specs.Closing.{drop_reference, ends_legacy, after_entry, by_entry, entries, closing}
-use Rattle.laws.specs.Steps.{Ends}
+use Rattle.definition.specs.Closing.{entry, drop_reference, ends_legacy, after_entry, by_entry, entries, closing}
 use Rattle.laws.specs.Keeps.{Reads}
 use Rattle.laws.specs.Leaves.{deferred_legacy}
 use Rattle.laws.specs.ClosingKeeps.{entry-ends, drop_reference_ends}
 use Rattle.laws.proofs.Fuel.{entries_fuel}
 use Rattle.readers.specs.declared.state.State.{State}
+use Rattle.readers.specs.declared.state.Refused.{Refused}
 use Rattle.readers.specs.declared.walker.Walker.{Walker}
-use Rattle.readers.specs.Views.{Lent, mem, moved_to}
+use Rattle.readers.specs.Views.{Lent, Answer, mem, seen, moved_to}
 use Rattle.readers.specs.Lent.{input_of, lent_of, Fixed}
 use Rattle.readers.proofs.ViewLaws.{then_got, then_no}
-use Rattle.leaves.specs.Leaf.{opens_at}
-use Rattle.levels.proofs.LevelLaws.{opens}
 use Rattle.walker.specs.Ready.{Ready, After}
 use Rattle.walker.proofs.ReadyLaws.{Went, None, moved_ready}
-use Rattle.walker.proofs.ReferenceLaws.{ref_object, space_low}
 use Rattle.objects.proofs.AnswerLaws.{fixed_on, same_input}
 use Rattle.deferred.proofs.ReadyLaws.{Law, law_went, went_ready}
-use Rattle.graph.specs.Driver.{one_entry, InLegacy}
 use Rattle.graph.proofs.PaddingLaws.{padding_from}
 
 -- ---- a reference that is dropped
@@ -71,16 +66,6 @@ module _ (x : Input) (m : Mem) where
     unfolding entries
     left_by = rw (one_more, lt-leb (length x.payload) m.at h, c)
 
--- neither kSynchronize nor an alignment: an entry that holds references
-abbrev IsReading : Closing → Type 0
-IsReading e = (e ≡ Synchronize → ⊥) × ((a : ℕ) → e ≡ Alignment a → ⊥)
-
-by_one : (x : Input) (k : Reader (Unit {0})) (e : Closing) → IsReading e → (m : Mem) → after_entry x k (one_entry x e m) ≡ by_entry x k e m
-by_one x k Synchronize h m = absurd (h.0 refl)
-by_one x k (Alignment a) h m = absurd (h.1 a refl)
-by_one x k (Deferred space) h m = refl
-by_one x k Reference h m = refl
-
 -- the state with an alignment that stands, after a byte
 abbrev aligned_to : ℕ → State → State
 aligned_to a s =
@@ -92,6 +77,12 @@ pub record Loop (w₀ : Walker) (s₀ : State) (w : Walker) (s : State) : Type 0
   pub ready : Ready w s
   pub same : entries_left (input_of w) (mem s (lent_of w)) ≡ entries_left (input_of w₀) (mem s₀ (lent_of w₀))
   pub fixed : Fixed w₀ w
+
+-- what is known of the answer to an entry that holds references: how the section goes on, and what stays in order
+pub record Answered (w₀ : Walker) (s₀ : State) (w : Walker) (s : State) (r : Answer (Unit {0})) (w₁ : Walker) : Type 1 where
+  pub same : after_entry (input_of w) (entries (input_of w) (length w.payload.now - s.at)) (seen r (lent_of w₁)) ≡ entries_left (input_of w₀) (mem s₀ (lent_of w₀))
+  pub law : Law (input_of w) Reads (mem s (lent_of w)) (seen r (lent_of w₁))
+  pub after : After w r w₁
 
 module _ {w₀ : Walker} {s₀ : State} {w : Walker} {s : State} (a : Loop w₀ s₀ w s) where
   abbrev x : Input
@@ -146,58 +137,38 @@ module _ {w₀ : Walker} {s₀ : State} {w : Walker} {s : State} (a : Loop w₀ 
           record { ready = g; same = fuel ∙ left_aligned ∙ a.same; fixed = a.fixed }
 
     -- an entry that holds references
-    module _ (t : IsReading e) where
-      pub in_legacy : InLegacy w.sheet.now e
-      in_legacy space q = deferred_legacy w.sheet.now (peek x m) space (c ∙ q)
+    module _ {r : Answer (Unit {0})} {w₁ : Walker} (i : After w r w₁) where
+      pub deferred_answer : {space : ℕ} → e ≡ Deferred space → seen r (lent_of w₁) ≡ entry x space m → Answered w₀ s₀ w s r w₁
+      deferred_answer {space} q f =
+          record {
+            same = rw f (left_by x m b (Deferred space) (c ∙ q) ∙ a.same);
+            law = rw f (λ I W R g. entry-ends a.ready.proper R (deferred_legacy w.sheet.now (peek x m) space (c ∙ q)) space g);
+            after = i;
+          }
 
-      one_law : Law x Reads m (one_entry x e m)
-      one_law I W R g = go e in_legacy
-        where
-          go : (e : Closing) → InLegacy w.sheet.now e → Ends x I m (λ _. []) (Reads m) (one_entry x e m)
-          go (Deferred space) q = entry-ends a.ready.proper R (q space refl) space g
-          go Reference q = drop_reference_ends a.ready.proper R g
-          go Synchronize q = drop_reference_ends a.ready.proper R g
-          go (Alignment n) q = drop_reference_ends a.ready.proper R g
+      pub reference_answer : e ≡ Reference → seen r (lent_of w₁) ≡ drop_reference x m → Answered w₀ s₀ w s r w₁
+      reference_answer q f =
+          record { same = rw f (left_by x m b Reference (c ∙ q) ∙ a.same); law = rw f (λ I W R g. drop_reference_ends a.ready.proper R g); after = i }
 
-      after : {out : Out (Unit {0})} {o : Out (Unit {0})} → o ≡ one_entry x e m → out ≡ after_entry x (entries x (length w.payload.now - s.at)) o → out ≡ whole
-      after {out} q f =
-          let z : out ≡ after_entry x (entries x (length w.payload.now - s.at)) (one_entry x e m) = rw (← q) f in
-          z ∙ by_one x (entries x (length w.payload.now - s.at)) e t m ∙ left_by x m b e c ∙ a.same
+  -- after it, by its answer
+  module _ {r : Answer (Unit {0})} {w₁ : Walker} (z : Answered w₀ s₀ w s r w₁) where
+    pub loop_fault : {f : Refused} → r ≡ Err f → choose (ends_legacy (input_of w₁) (number_of f.refusal)) (give tt) (refuse_at (number_of f.refusal) f.place) (mem f.state (lent_of w₁)) ≡ whole
+    loop_fault q = rw z.after.fixed.sheet (rw q at z.same)
 
-      module _ {n q : ℕ} {m1 : Mem} (f : no n q m1 ≡ one_entry x e m) {w1 : Walker} (i : Fixed w w1) where
-        pub loop_fault_ends : ends_legacy (input_of w1) n ≡ true → got tt m1 ≡ whole
-        loop_fault_ends y = let z : ends_legacy x n ≡ true = rw i.sheet at y in after f (rw z)
+    module _ {s₁ : State} (q : r ≡ Ok (tt {0}, s₁)) where
+      answer_went : Went x m (Reads m) None (tt {0}) (mem s₁ (lent_of w₁))
+      answer_went = law_went a.ready.proper a.ready.sound a.ready.counted a.ready.numbered a.ready.ascending Reads z.law (rw q)
 
-        pub loop_fault : ends_legacy (input_of w1) n ≡ false → no n q m1 ≡ whole
-        loop_fault y = let z : ends_legacy x n ≡ false = rw i.sheet at y in after f (rw z)
+      pub loop_smaller : length w₀.payload.now - s₁.at < length w₀.payload.now - s.at
+      loop_smaller = let k = answer_went in omega (arith, same_payload, k.more, k.kept.sound.within)
 
-      module _ (w1 : Walker) {s1 : State} (f : got tt (mem s1 (lent_of w1)) ≡ one_entry x e m) where
-        entry_went : Went x m (Reads m) None (tt {0}) (mem s1 (lent_of w1))
-        entry_went = law_went a.ready.proper a.ready.sound a.ready.counted a.ready.numbered a.ready.ascending Reads one_law f
-
-        loop_reads : (s.at < s1.at) × (s1.at ≤ length w.payload.now)
-        loop_reads = (entry_went.more, entry_went.kept.sound.within)
-
-        pub loop_smaller : length w₀.payload.now - s1.at < length w₀.payload.now - s.at
-        loop_smaller = omega (arith, same_payload, loop_reads)
-
-        pub loop_turn : After w (Ok (tt {0}, s1)) w1 → Loop w₀ s₀ w1 s1
-        loop_turn i =
-            let k = entry_went in
-            let fuel : entries_left x (mem s1 (lent_of w1)) ≡ entries x (length w.payload.now - s.at) (mem s1 (lent_of w1)) = entries_fuel a.ready.proper _ _ (mem s1 (lent_of w1)) k.kept.sound k.kept.counted (omega arith) (omega (arith, k.more, k.kept.sound.within)) in
-            record { ready = went_ready a.ready i k; same = subst (λ x. entries_left x (mem s1 (lent_of w1)) ≡ whole) (sym (same_input i.fixed)) (after f fuel); fixed = fixed_on a.fixed i.fixed }
-
--- a new object at the cursor, as a reference
-module _ {w : Walker} {s : State} (g : Ready w s) (h : opens_at w s.at ≡ true) where
-  pub object_inside : s.at < length w.payload.now
-  object_inside = (opens w s.at h).0
-
-  module _ {a : ℕ} (e : a ≡ (head_at w.heads.now (get_or w.payload.now s.at 0)).argument) (b : get_or w.payload.now s.at 0 < 256) where
-    pub object_space : a < 256
-    object_space = rw e (space_low g object_inside (get_or w.payload.now s.at 0) (refl, b) (opens w s.at h).1)
-
-    pub object_ref : {o : Out SlotValue} → o ≡ object (input_of w) (ref_at (input_of w) 64) a s.at (mem (moved_to (s.at + 1) s) (lent_of w)) → o ≡ ref_at (input_of w) 65 (mem s (lent_of w))
-    object_ref q = rw e at q ∙ ref_object g object_inside (get_or w.payload.now s.at 0) (refl, b) (opens w s.at h).1 0 (omega arith)
+      pub loop_turn : Loop w₀ s₀ w₁ s₁
+      loop_turn =
+          let k = answer_went in
+          let i = rw q at z.after in
+          let h = rw q at z.same in
+          let fuel : entries_left x (mem s₁ (lent_of w₁)) ≡ entries x (length w.payload.now - s.at) (mem s₁ (lent_of w₁)) = entries_fuel a.ready.proper _ _ (mem s₁ (lent_of w₁)) k.kept.sound k.kept.counted (omega arith) (omega (arith, k.more, k.kept.sound.within)) in
+          record { ready = went_ready a.ready i k; same = subst (λ x. entries_left x (mem s₁ (lent_of w₁)) ≡ whole) (sym (same_input i.fixed)) (fuel ∙ h); fixed = fixed_on a.fixed i.fixed }
 
 -- ---- the section
 

@@ -6,12 +6,10 @@ ghost use Rattle.definition.specs.Closing.{ends_legacy, drop_reference, entries 
 ghost use Rattle.readers.specs.Views.{input, mem, seen};
 ghost use Rattle.readers.specs.Lent.{input_of, lent_of, Fixed};
 ghost use Rattle.walker.specs.Ready.{Ready, After};
-ghost use Rattle.graph.specs.Driver.{one_entry, InLegacy};
 
 use crate::padding::padding;
 use deferred::entry::entry;
-use leaves::leaf::opens_object;
-use levels::level::child_at;
+use objects::head::new_object_at;
 use readers::state::{Answer, Refused, State};
 use readers::walker::Walker;
 use refusals::refusal::Refusal;
@@ -33,31 +31,17 @@ fn drop_ref(w: &mut Walker, s: State) -> Answer<()>
     ensures is { seen result (lent_of w.new) ≡ drop_reference (input_of w.old) (mem s (lent_of w.old)) }
     ensures after { After w.old result w.new }
 {
-    let at = s.at;
-    if !opens_object(w, at) {
+    let Some(new) = new_object_at(w, s.at) else {
         let (_, t) = parse_ref(w, s, 0)?;
         return Ok(((), t));
-    }
-    let a = child_at(w, at).space;
-    let (_, t) = parse_object(w, State { at: at + 1, ..s }, 0, at, a)?;
+    };
+    let (_, t) = parse_object(w, State { at: s.at + 1, ..s }, 0, new)?;
     Ok(((), t))
-}
-
-// Such a reference, or a deferred entry. Asked apart from the other two kinds, so that what a fault ends is said once.
-fn one_entry(w: &mut Walker, s: State, e: Closing) -> Answer<()>
-    requires ready { Ready w.old s }
-    requires in_legacy { InLegacy w.old.sheet.now e }
-    ensures is { seen result (lent_of w.new) ≡ one_entry (input_of w.old) e (mem s (lent_of w.old)) }
-    ensures after { After w.old result w.new }
-{
-    match e {
-        Closing::Deferred(space) => entry(w, s, space),
-        _ => drop_ref(w, s),
-    }
 }
 
 // Entries until kSynchronize: the step is what was read, so that a `for` would be no plainer. No `?`, since most faults of an entry only
 // end a legacy section.
+#[tactic(auto, using(crate::proofs::ClosingLaws::loop_synchronize, crate::proofs::ClosingLaws::loop_end, crate::proofs::ClosingLaws::loop_cut, laws::specs::Leaves::deferred_legacy))]
 fn entries(w: &mut Walker, s: State) -> Answer<()>
     requires ready { Ready w.old s }
     ensures is { seen result (lent_of w.new) ≡ entriesFrom (input_of w.old) (length w.old.payload.now - s.at + 1) (mem s (lent_of w.old)) }
@@ -67,8 +51,7 @@ fn entries(w: &mut Walker, s: State) -> Answer<()>
     let mut t = s;
     while t.at < p.len() {
         let at = t.at;
-        let e = closing_entry(w.sheet, peek(p, at));
-        match e {
+        let done = match closing_entry(w.sheet, peek(p, at)) {
             Closing::Synchronize => return Ok(((), State { at: at + 1, ..t })),
             Closing::Alignment(alignment) => {
                 t = State {
@@ -76,12 +59,15 @@ fn entries(w: &mut Walker, s: State) -> Answer<()>
                     alignment,
                     ..t
                 };
+                continue;
             }
-            _ => match one_entry(w, t, e) {
-                Ok(((), u)) => t = u,
-                Err(e) if ends_legacy(w.sheet, e.refusal) => return Ok(((), e.state)),
-                Err(e) => return Err(e),
-            },
+            Closing::Deferred(space) => entry(w, t, space),
+            Closing::Reference => drop_ref(w, t),
+        };
+        match done {
+            Ok(((), u)) => t = u,
+            Err(e) if ends_legacy(w.sheet, e.refusal) => return Ok(((), e.state)),
+            Err(e) => return Err(e),
         }
     }
     if legacy(w.sheet) {

@@ -9,6 +9,7 @@ ghost use Rattle.walker.specs.Ready.{Ready};
 ghost use Rattle.graph.specs.Driver.{top_object, ReadyAfter};
 
 use crate::closing::closing;
+use objects::head::NewObject;
 use readers::ints::read_byte;
 use readers::state::{Answer, State};
 use readers::walker::Walker;
@@ -43,8 +44,11 @@ fn top_object(w: &mut Walker, s: State) -> Answer<SlotValue>
     if !opens(w.sheet, b) {
         return Err(t.refused_at(0, Refusal::NoObjectFirst));
     }
-    let a = top_space(w.sheet, b);
-    parse_object(w, t, 0, 0, a)
+    let new = NewObject {
+        tag: 0,
+        space: top_space(w.sheet, b),
+    };
+    parse_object(w, t, 0, new)
 }
 
 // The top object, then the closing section.

@@ -66,8 +66,7 @@ module _ (v : List ℕ) (r : Row) (rows : List Row) (t : List CodeHead) (w : Ans
   answers_absent e = answers_same (λ b. rw e)
 
   answers_untested : tests v r.family ≡ false → Answers v (r ∷ rows) t
-  answers_untested e =
-      answers_same (λ b. rw e (untested (present v r.name) (leb (number v r.name) b) (ltb b (number v r.name + span_of v r.span))))
+  answers_untested e = answers_same (λ b. rw e (untested _ _ _))
 
   -- one that applies has its bytes, and no others
   module _ (p : present v r.name ≡ true) (q : tests v r.family ≡ true) (kind : Kind) (ke : kind_number kind ≡ r.kind) (after : List CodeHead) (d : Assigned t (number v r.name) (span_of v r.span) kind r.argument (root_mask v) after) where

@@ -5,14 +5,14 @@ use alloc::fill::fill_to_align;
 use alloc::legacy_alloc::{LegacyAlloc, Request};
 use alloc::resolve::{Place, resolve};
 use heads::heads::decode;
-use raw_slots::view::raw_range;
+use raw_slots::view::Slots;
 use refusals::refusal::Refusal;
 use sheet::names::*;
 use std::io;
 use stream::putint::{Int, putint};
 use stream::smi::decode_smi_bytes;
-use tables::records::add_slot;
-use tables::values::{Raw, SlotValue, fields_of};
+use tables::records::{Slot, add_slot};
+use tables::values::{Raw, SlotValue};
 use usable_sheets::usable::{plain, usable};
 
 // The integer at a place of some bytes: its value and byte count.
@@ -162,17 +162,27 @@ fn addresses(rt: &impl Print) -> io::Result<()> {
 // The view of a raw slot, of one whose range ends past the payload, and of one that is not listed.
 fn views(rt: &impl Print) -> io::Result<()> {
     let payload = [7u8; 4];
-    let mut slots = [0u64; 12];
+    let mut table = [0u64; 12];
     for (k, off) in [1, 2].into_iter().enumerate() {
         let raw = SlotValue::Raw(Raw {
             off,
             len: 3,
             advances: true,
         });
-        add_slot(&mut slots, k, 0, k as u64 + 1, fields_of(raw), 0);
+        let slot = Slot {
+            object: 0,
+            index: k as u64 + 1,
+            value: raw.into(),
+            waits: 0,
+        };
+        add_slot(&mut table, k, slot);
     }
+    let slots = Slots {
+        table: &table,
+        count: 2,
+    };
     for k in 0..3 {
-        match raw_range(&payload, &slots, 2, k) {
+        match slots.raw_range(&payload, k) {
             Ok(view) => println!(rt; "view {} {}", view.offset, view.len)?,
             Err(refusal) => println!(rt; "refused {} 0", refusal.number())?,
         }

@@ -7,7 +7,7 @@ use Prim.Native.Nat.{ℕ, ◌+◌, ◌*◌, ◌/◌, ◌^◌, ◌<◌, ◌≤◌
 use native.Mathlib.Nat.{mul-le-mul, le_of_lt}
 use native.Mathlib.Omega.{arith}
 use borrow.Author.Tests.{lt-ltb}
-use lib.ListN.{length, get_or, set}
+use lib.ListN.{length, get_or}
 use Rattle.std.specs.Prelude.{Option, Some, None, Ok, Err}
 use Rattle.std.specs.Result.{result_ok}
 use Rattle.stream.specs.Bytes.{raw_at}
@@ -22,7 +22,7 @@ use Rattle.tables.specs.declared.values.Ref.TheVariants.{Object, Root, RoRef}
 use Rattle.tables.specs.declared.values.SlotValue.{SlotValue}
 use Rattle.tables.specs.declared.values.SlotValue.TheVariants.{Ref as IsRef, Raw as IsRaw}
 use Rattle.tables.specs.Values.{fields_of, width_of}
-use Rattle.tables.specs.Records.{room, field, slot_row, written, pick_table, Put}
+use Rattle.tables.specs.Records.{room, slot_row, written, pick_table, counted, Put}
 use Rattle.backref.specs.declared.hot_ring.HotRing.{HotRing}
 use Rattle.backref.specs.HotRing.{hot_at}
 use Rattle.backref.specs.declared.legacy.Backref.{Backref}
@@ -37,16 +37,16 @@ use Rattle.readers.specs.Lent.{input_of, lent_of}
 use Rattle.readers.proofs.ViewLaws.{then_got}
 use Rattle.readers.proofs.SimpleLaws.{backref_in, hot_is_lem, legacy_to, raw_to}
 use Rattle.leaves.specs.declared.leaf.Leaf.{Leaf}
-use Rattle.leaves.specs.Leaf.{ring_with, ring, after, Stands, Found, LeafAt, FoundIn, placed_in}
+use Rattle.leaves.specs.Leaf.{ring_with, ring, after, Stands, Found, LeafAt, FoundIn, slot_in}
 
 -- a reference that is one word wide
 abbrev one_word : Ref → ℕ → ℕ → Bool → Leaf
 one_word r next ts enters = record { value = IsRef r; width = ts; next = next; enters = enters }
 
 -- what is right in every sheet is right in one
-pub found_in : (w : Walker) (s : State) (ts at kind a : ℕ) (r : Option Leaf) → Found w.payload.now w.hot s.objects ts at kind a r → FoundIn w s ts at kind a r
-found_in w s ts at kind a (Some r) f = λ tag ew. f w.sheet.now w.trusted.now w.spaces tag (moved_to at s) (lent_of w) ew refl refl
-found_in w s ts at kind a None f = tt
+pub found_in : (w : Walker) (s : State) (at kind a : ℕ) (r : Option Leaf) → Found w.payload.now w.hot s.objects (word_bytes w.sheet.now) at kind a r → FoundIn w s at kind a r
+found_in w s at kind a (Some r) f = λ tag. f w.sheet.now w.trusted.now w.spaces tag (moved_to at s) (lent_of w) refl refl refl
+found_in w s at kind a None f = tt
 
 -- what holds at a kind holds of what is that kind
 pub found_kind : (p : List ℕ) (hot : HotRing) (objects ts at a : ℕ) (r : Option Leaf) {kind key : ℕ} → kind ≡ key → Found p hot objects ts at key a r → Found p hot objects ts at kind a r
@@ -129,11 +129,11 @@ answer_ok (Ok q) r e = let z : q ≡ r = cc in rw z
 answer_ok (Err q) r e = absurd (let z : ◌≡◌ {A = ℕ} 0 1 = cc in omega arith)
 
 -- a legacy back-reference
-pub legacy_found : (w : Walker) (s : State) (ts at space : ℕ) {b : Answer} → b ≡ backref_of w.sheet.now w.payload.now w.addresses.now s.addresses s.alignment space at → (r : Backref) → b ≡ Ok r
-    → FoundIn w s ts at 3 space (Some (one_word r.target r.next ts true))
+pub legacy_found : (w : Walker) (s : State) (ts at space : ℕ) {b : Answer} → ts ≡ word_bytes w.sheet.now → b ≡ backref_of w.sheet.now w.payload.now w.addresses.now s.addresses s.alignment space at → (r : Backref) → b ≡ Ok r
+    → FoundIn w s at 3 space (Some (one_word r.target r.next ts true))
 unfolding by_head
-legacy_found w s ts at space {b} e r k tag ew =
-    ref_stands (input_of w) tag 3 space (moved_to at s) (lent_of w) r.target r.next ts true ew (λ inner. legacy_to (input_of w) space (mem (moved_to at s) (lent_of w)) e k)
+legacy_found w s ts at space {b} ew e r k tag =
+    ref_stands (input_of w) tag 3 space (moved_to at s) (lent_of w) r.target r.next ts true (sym ew) (λ inner. legacy_to (input_of w) space (mem (moved_to at s) (lent_of w)) e k)
 
 -- ---- a leaf as a reference
 
@@ -143,10 +143,10 @@ head_read : (w : Walker) (s : State) (l : Lent) (inner : Reader SlotValue) → H
 unfolding reference byte
 head_read w s l inner h b c = rw (lt-ltb s.at (length w.payload.now) b, h.kind (get_or w.payload.now s.at 0) c, h.argument (get_or w.payload.now s.at 0) c)
 
-module _ (w : Walker) (at objects ts : ℕ) (r : Leaf) (decoded : Heads w.sheet.now w.heads.now) (words : ts ≡ word_bytes w.sheet.now) (found : LeafAt w at objects ts (Some r)) where
+module _ (w : Walker) (at objects : ℕ) (r : Leaf) (decoded : Heads w.sheet.now w.heads.now) (found : LeafAt w at objects (Some r)) where
   pub leaf_read : (inner : Reader SlotValue) (s : State) (l : Lent) → s.at ≡ at → s.objects ≡ objects → l.hot ≡ w.hot → got r.value (mem (after r s) (hot_is (ring r l.hot) l)) ≡ reference (input_of w) inner (mem s l)
   leaf_read inner s l ea eo eh =
-      let stands = rw (← eh) at (found.1 w.sheet.now w.trusted.now w.spaces s.at (moved_to (s.at + 1) s) l (sym words) (ap (λ (i : ℕ). i + 1) ea) eo) in
+      let stands = rw (← eh) at (found.1 w.sheet.now w.trusted.now w.spaces s.at (moved_to (s.at + 1) s) l refl (ap (λ (i : ℕ). i + 1) ea) eo) in
       stands.is inner ∙ rw (← ea) (head_read w s l inner decoded (rw ea found.0.0) (rw ea found.0.1))
 
 -- ---- its slot
@@ -158,7 +158,7 @@ stepped r s =
     { at = r.next; objects = s.objects; slots = s.slots + 1; values = s.values; addresses = s.addresses; pending = s.pending; waiting = s.waiting; skip = 0; alignment = s.alignment }
 
 -- a leaf's slot is that of an item with its value
-slot_kept : (x : Input) (o done : ℕ) (s : State) (l : Lent) (r : Leaf) {w : ℕ} → word x ≡ w → r.width ≡ width_of w r.value → 0 ≡ waits_of r.value → s.slots < room 6 l.slots → {ot st : List ℕ} → st ≡ written l.slots s.slots (slot_row o ((done + s.skip) / w) (fields_of r.value) 0) → ot ≡ set l.objects (o * 4 + 3) (field 4 l.objects o 3 + 1)
+slot_kept : (x : Input) (o done : ℕ) (s : State) (l : Lent) (r : Leaf) {w : ℕ} → word x ≡ w → r.width ≡ width_of w r.value → 0 ≡ waits_of r.value → s.slots < room 6 l.slots → {ot st : List ℕ} → st ≡ written l.slots s.slots (slot_row o ((done + s.skip) / w) (fields_of r.value) 0) → ot ≡ counted l.objects o
     → got (done + s.skip + r.width) (mem (stepped r s) (objects_is ot (slots_is st l))) ≡ keep_item x o done r.value (mem (after r s) l)
 unfolding keep_item add_slot
 slot_kept x o done s l r ew eb ez b es eo =
@@ -166,18 +166,18 @@ slot_kept x o done s l r ew eb ez b es eo =
     rw (ew, ← ez, lt-ltb s.slots (room 6 l.slots) b, es, eo, z, eb)
 
 -- a leaf at the cursor as an item of object o
-module _ (w : Walker) (s : State) (ts : ℕ) (r : Leaf) (decoded : Heads w.sheet.now w.heads.now) (words : ts ≡ word_bytes w.sheet.now) (in_payload : s.at < length w.payload.now) (small : get_or w.payload.now s.at 0 < 256)
-    (found : FoundIn w s ts (s.at + 1) (kind_number (head_at w.heads.now (get_or w.payload.now s.at 0)).kind) (head_at w.heads.now (get_or w.payload.now s.at 0)).argument (Some r)) where
+module _ (w : Walker) (s : State) (r : Leaf) (decoded : Heads w.sheet.now w.heads.now) (in_payload : s.at < length w.payload.now) (small : get_or w.payload.now s.at 0 < 256)
+    (found : FoundIn w s (s.at + 1) (kind_number (head_at w.heads.now (get_or w.payload.now s.at 0)).kind) (head_at w.heads.now (get_or w.payload.now s.at 0)).argument (Some r)) where
   abbrev is : Stands (input_of w) s.at (kind_number (head_at w.heads.now (get_or w.payload.now s.at 0)).kind) (head_at w.heads.now (get_or w.payload.now s.at 0)).argument (moved_to (s.at + 1) s) (lent_of w) r
-  is = found s.at (sym words)
+  is = found s.at
 
-  pub item_read : (o done : ℕ) (ot st : List ℕ) (hot : HotRing) → s.slots < room 6 w.slots.now → st ≡ written w.slots.now s.slots (slot_row o ((done + s.skip) / ts) (fields_of r.value) 0) → ot ≡ set w.objects.now (o * 4 + 3) (field 4 w.objects.now o 3 + 1) → hot ≡ ring r w.hot → (inner : Reader SlotValue)
-      → got (done + s.skip + r.width) (mem (stepped r s) (objects_is ot (slots_is st (hot_is hot (lent_of w))))) ≡ placed_in (input_of w) (reference (input_of w) inner) o done (mem s (lent_of w))
+  pub item_read : (o done : ℕ) (ot st : List ℕ) (hot : HotRing) → s.slots < room 6 w.slots.now → st ≡ written w.slots.now s.slots (slot_row o ((done + s.skip) / word_bytes w.sheet.now) (fields_of r.value) 0) → ot ≡ counted w.objects.now o → hot ≡ ring r w.hot → (inner : Reader SlotValue)
+      → got (done + s.skip + r.width) (mem (stepped r s) (objects_is ot (slots_is st (hot_is hot (lent_of w))))) ≡ slot_in (input_of w) (reference (input_of w) inner) o done (mem s (lent_of w))
   item_read o done ot st hot b es eo eh inner =
       let m : Mem = mem (after r s) (hot_is (ring r w.hot) (lent_of w)) in
       let read : got r.value m ≡ reference (input_of w) inner (mem s (lent_of w)) = is.is inner ∙ head_read w s (lent_of w) inner decoded in_payload small in
       let k : got (done + s.skip + r.width) (mem (stepped r s) (objects_is ot (slots_is st (hot_is (ring r w.hot) (lent_of w))))) ≡ keep_item (input_of w) o done r.value m =
-      slot_kept (input_of w) o done s (hot_is (ring r w.hot) (lent_of w)) r (sym words) (is.width ∙ ap (λ (k : ℕ). width_of k r.value) (sym words)) is.waits b es eo in
+      slot_kept (input_of w) o done s (hot_is (ring r w.hot) (lent_of w)) r refl is.width is.waits b es eo in
       rw eh (then_got (place_item (input_of w) o done) read (k ∙ is.kept o done m))
 
 -- a record for which there is room is put

@@ -1,8 +1,8 @@
 -- A reference that holds no other, read without the readers of every reference. Assumes nothing: these are definitions.
-use Rattle.std.specs.Prelude.{◌≡◌, Bool, true, ◌&&◌, List, ℕ, ◌+◌, ◌^◌, ◌<◌, ◌≤◌, ltb, eqb, length, get_or, Option, Some, None, IfSome}
+use Rattle.std.specs.Prelude.{◌≡◌, Bool, true, List, ℕ, ◌+◌, ◌^◌, ◌<◌, ◌≤◌, length, get_or, Option, Some, None, IfSome}
 use Rattle.sheet.specs.Sheet.{word_bytes}
 use Rattle.heads.specs.Heads.{head_at}
-use Rattle.heads.specs.Kinds.{kind_number, new_object}
+use Rattle.heads.specs.Kinds.{kind_number}
 use Rattle.tables.specs.declared.values.SlotValue.{SlotValue}
 use Rattle.tables.specs.declared.values.SlotValue.TheVariants.{Ref as IsRef}
 use Rattle.tables.specs.Values.{width_of}
@@ -48,28 +48,24 @@ Found p hot objects ts at kind a (Some r) =
 Found p hot objects ts at kind a None = Unit {0}
 
 -- the leaf that stands at a place, where the head byte there begins one
-abbrev pub LeafAt : Walker → ℕ → ℕ → ℕ → Option Leaf → Type 0
-LeafAt w at objects ts r =
+abbrev pub LeafAt : Walker → ℕ → ℕ → Option Leaf → Type 0
+LeafAt w at objects r =
     IfSome r (λ _. (at < length w.payload.now) × (get_or w.payload.now at 0 < 256))
-    × Found w.payload.now w.hot objects ts (at + 1) (kind_number (head_at w.heads.now (get_or w.payload.now at 0)).kind) (head_at w.heads.now (get_or w.payload.now at 0)).argument r
+    × Found w.payload.now w.hot objects (word_bytes w.sheet.now) (at + 1) (kind_number (head_at w.heads.now (get_or w.payload.now at 0)).kind) (head_at w.heads.now (get_or w.payload.now at 0)).argument r
 
 -- the same of a leaf in one state: a legacy back-reference needs the address records
-abbrev pub FoundIn : Walker → State → ℕ → ℕ → ℕ → ℕ → Option Leaf → Type 0
-FoundIn w s ts at kind a (Some r) = (tag : ℕ) → word_bytes w.sheet.now ≡ ts → Stands (input_of w) tag kind a (moved_to at s) (lent_of w) r
-FoundIn w s ts at kind a None = Unit {0}
-
--- a new object stands at a place
-abbrev pub opens_at : Walker → ℕ → Bool
-opens_at w at =
-    ltb at (length w.payload.now) && eqb (kind_number (head_at w.heads.now (get_or w.payload.now at 0)).kind) new_object
+abbrev pub FoundIn : Walker → State → ℕ → ℕ → ℕ → Option Leaf → Type 0
+FoundIn w s at kind a (Some r) = (tag : ℕ) → Stands (input_of w) tag kind a (moved_to at s) (lent_of w) r
+FoundIn w s at kind a None = Unit {0}
 
 -- a reference as an item of object o, `done` bytes of which have been read
-abbrev pub placed_in : Input → Reader SlotValue → ℕ → ℕ → Reader ℕ
-placed_in x r o done = r >>= place_item x o done
+abbrev pub slot_in : Input → Reader SlotValue → ℕ → ℕ → Reader ℕ
+slot_in x r o done = r >>= place_item x o done
 
--- scratch that is in order stays so: the places of pending numbers, and the index of legacy addresses
+-- scratch that is in order stays so: the places of pending numbers, and the index of legacy addresses; where nothing is read, nothing is
+-- changed
 abbrev pub StaysInOrder : {A : Type 0} → Walker → State → Option (A × State) → Walker → Type 0
 StaysInOrder w s (Some r) w' =
     (Indexed w.slots.now s.slots w.pending.now → Indexed w'.slots.now r.1.slots w'.pending.now)
     × (Linked w.addresses.now s.addresses w.index.now → Linked w'.addresses.now r.1.addresses w'.index.now)
-StaysInOrder w s None w' = Unit {0}
+StaysInOrder w s None w' = lent_of w' ≡ lent_of w

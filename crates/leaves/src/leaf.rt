@@ -3,7 +3,7 @@
 // is left to the readers of every reference: a leaf says only None there, and those readers have to say which refusal it is and where
 // the cursor stands. So both read these kinds.
 
-ghost use Rattle.std.specs.Prelude.{true, ◌≡◌, List, ℕ, ◌+◌, ◌*◌, ◌^◌, ◌<◌, length, get_or, IfSome, IsNone};
+ghost use Rattle.std.specs.Prelude.{◌≡◌, List, ℕ, ◌+◌, ◌*◌, ◌^◌, ◌<◌, length, get_or, IfSome};
 ghost use Rattle.sheet.specs.Sheet.{word_bytes};
 ghost use Rattle.heads.specs.Heads.{head_at, Heads};
 ghost use Rattle.heads.specs.Kinds.{kind_number};
@@ -15,18 +15,20 @@ ghost use Rattle.definition.specs.Memory.{Reader, got};
 ghost use Rattle.definition.specs.Reference.{reference as referenceOf};
 ghost use Rattle.readers.specs.Views.{mem};
 ghost use Rattle.readers.specs.Lent.{input_of, lent_of, Kept, Addressed};
-ghost use Rattle.leaves.specs.Leaf.{Found, LeafAt, FoundIn, StaysInOrder, opens_at, placed_in, ring_with};
+ghost use Rattle.leaves.specs.Leaf.{Found, LeafAt, FoundIn, StaysInOrder, slot_in, ring_with};
 
 use backref::hot_ring::HotRing;
 use heads::heads::Head;
 use heads::kinds::Kind;
+use objects::item::Level;
 use readers::simple::find_backref;
 use readers::state::State;
-use readers::walker::Walker;
-use stream::bytes::{byte, raw};
+use readers::walker::{DEEPEST, Walker};
+use sheet::numbers::word_bytes;
+use stream::bytes::raw;
 use stream::putint::putint;
-use tables::records::{add_slot, count_slot};
-use tables::values::{Raw, Ref, SlotValue, fields_of};
+use tables::records::{Slot, append_slot};
+use tables::values::{Fields, Raw, Ref, SlotValue};
 
 // A value, its width as an item, the cursor after it, and whether it enters the hot ring.
 #[derive(Clone, Copy)]
@@ -60,7 +62,8 @@ fn hot_leaf(hot: &HotRing, place: usize, next: usize, word: u64) -> Option<Leaf>
     Some(reference(r, next, word, false))
 }
 
-// An object by plain index, which enters the ring.
+// An object by plain index, which enters the ring. It and `root_array_leaf` share all but a test, as `back_ref` and `root_array` of readers
+// do: a closure for the test would be no shorter.
 fn back_leaf(p: &[u8], at: usize, objects: usize, word: u64) -> Option<Leaf>
     ensures { (hot : HotRing) (i : ℕ) → Found p.now hot objects word at 2 i result }
 {
@@ -115,10 +118,11 @@ fn raw_leaf(p: &[u8], at: usize, n: u64, word: u64) -> Option<Leaf>
 }
 
 // The leaf that a head begins, after which the cursor stands.
-fn leaf_of(w: &Walker, head: Head, at: usize, objects: usize, word: u64) -> Option<Leaf>
-    ensures { Found w.now.payload.now w.now.hot objects word at (kind_number head.kind) head.argument result }
+fn leaf_of(w: &Walker, head: Head, at: usize, objects: usize) -> Option<Leaf>
+    ensures { Found w.now.payload.now w.now.hot objects (word_bytes w.now.sheet.now) at (kind_number head.kind) head.argument result }
 {
     let p = w.payload;
+    let word = word_bytes(w.sheet);
     let a = head.argument as u64;
     match head.kind {
         Kind::Backref => back_leaf(p, at, objects, word),
@@ -132,54 +136,37 @@ fn leaf_of(w: &Walker, head: Head, at: usize, objects: usize, word: u64) -> Opti
 }
 
 // What stands at a place, where there are so many objects.
-pub fn leaf_at(w: &Walker, at: usize, objects: usize, word: u64) -> Option<Leaf>
-    ensures { LeafAt w.now at objects word result }
+pub fn leaf_at(w: &Walker, at: usize, objects: usize) -> Option<Leaf>
+    ensures { LeafAt w.now at objects result }
 {
-    if w.payload.len() <= at {
-        return None;
-    }
-    let head = w.heads[byte(w.payload, at) as usize];
-    leaf_of(w, head, at + 1, objects, word)
+    leaf_of(w, w.head_at(at)?, at + 1, objects)
 }
 
 // A legacy back-reference to a space, which enters the ring. The cursor stands after its head.
-fn legacy_leaf(w: &Walker, s: State, at: usize, space: u64, word: u64) -> Option<Leaf>
+fn legacy_leaf(w: &Walker, s: State, at: usize, space: u64) -> Option<Leaf>
     requires addressed { Addressed w.now s.addresses }
-    ensures { FoundIn w.now s word at 3 space result }
+    ensures { FoundIn w.now s at 3 space result }
 {
     let b = find_backref(w, s, space, at).ok()?;
-    Some(reference(b.target, b.next, word, true))
+    Some(reference(b.target, b.next, word_bytes(w.sheet), true))
 }
 
 // What stands at the cursor, a legacy back-reference too.
-fn any_leaf(w: &Walker, s: State, word: u64) -> Option<Leaf>
+fn any_leaf(w: &Walker, s: State) -> Option<Leaf>
     requires addressed { Addressed w.now s.addresses }
     ensures there { IfSome result (λ _. (s.at < length w.now.payload.now) × (get_or w.now.payload.now s.at 0 < 256)) }
-    ensures found { FoundIn w.now s word (s.at + 1) (kind_number (head_at w.now.heads.now (get_or w.now.payload.now s.at 0)).kind) (head_at w.now.heads.now (get_or w.now.payload.now s.at 0)).argument result }
+    ensures found { FoundIn w.now s (s.at + 1) (kind_number (head_at w.now.heads.now (get_or w.now.payload.now s.at 0)).kind) (head_at w.now.heads.now (get_or w.now.payload.now s.at 0)).argument result }
 {
-    if w.payload.len() <= s.at {
-        return None;
-    }
-    let head = w.heads[byte(w.payload, s.at) as usize];
+    let head = w.head_at(s.at)?;
     match head.kind {
         Kind::NewObject => None,
-        Kind::LegacyBackref => legacy_leaf(w, s, s.at + 1, head.argument as u64, word),
-        _ => leaf_of(w, head, s.at + 1, s.objects, word),
+        Kind::LegacyBackref => legacy_leaf(w, s, s.at + 1, head.argument as u64),
+        _ => leaf_of(w, head, s.at + 1, s.objects),
     }
-}
-
-// A new object stands at a place: the commonest of what is no leaf, so that it is looked for first.
-pub fn opens_object(w: &Walker, at: usize) -> bool
-    ensures { result ≡ opens_at w.now at }
-{
-    if w.payload.len() <= at {
-        return false;
-    }
-    let head = w.heads[byte(w.payload, at) as usize];
-    head.kind == Kind::NewObject
 }
 
 // The ring after a leaf.
+#[inline(always)]
 pub fn enter(hot: &mut HotRing, leaf: Leaf)
     ensures { hot.new ≡ ring_with leaf.enters leaf.value hot.old }
 {
@@ -191,45 +178,38 @@ pub fn enter(hot: &mut HotRing, leaf: Leaf)
 }
 
 // A leaf at the cursor as a reference that is read.
-pub fn take_leaf(w: &mut Walker, s: State, word: u64) -> Option<(SlotValue, State)>
-    ensures read { IfSome result (λ r. word ≡ word_bytes w.old.sheet.now → Heads w.old.sheet.now w.old.heads.now → (inner : Reader SlotValue) → got r.0 (mem r.1 (lent_of w.new)) ≡ referenceOf (input_of w.old) inner (mem s (lent_of w.old))) }
-    ensures none { IsNone result → lent_of w.new ≡ lent_of w.old }
+pub fn take_leaf(w: &mut Walker, s: State) -> Option<(SlotValue, State)>
+    ensures read { IfSome result (λ r. Heads w.old.sheet.now w.old.heads.now → (inner : Reader SlotValue) → got r.0 (mem r.1 (lent_of w.new)) ≡ referenceOf (input_of w.old) inner (mem s (lent_of w.old))) }
     ensures order { StaysInOrder w.old s result w.new }
     ensures kept { Kept w.old w.new }
 {
-    let leaf = leaf_at(w, s.at, s.objects, word)?;
+    let leaf = leaf_at(w, s.at, s.objects)?;
     enter(&mut w.hot, leaf);
     let t = State { at: leaf.next, ..s };
     Some((leaf.value, t))
 }
 
-// A leaf at the cursor as an item of object o, `done` bytes of which have been read: the bytes read then. None where no leaf stands there,
-// where its slot record or the bytes read then have no room, and at the last level, where a reference is refused; then nothing is changed.
-pub fn place_leaf(
-    w: &mut Walker,
-    s: State,
-    o: usize,
-    done: u64,
-    word: u64,
-    d: usize,
-) -> Option<(u64, State)>
-    requires { (field 4 w.old.objects.now o 3 < 2 ^ 63) × Addressed w.old s.addresses }
-    ensures read { IfSome result (λ r. (d < 64) × (word ≡ word_bytes w.old.sheet.now → Heads w.old.sheet.now w.old.heads.now → (inner : Reader SlotValue) → got r.0 (mem r.1 (lent_of w.new)) ≡ placed_in (input_of w.old) (referenceOf (input_of w.old) inner) o done (mem s (lent_of w.old)))) }
-    ensures none { IsNone result → lent_of w.new ≡ lent_of w.old }
+// A leaf at the cursor as an item of the object that is read at depth d: the bytes read then. None where no leaf stands there, where its
+// slot record or the bytes read then have no room, and at the last level, where a reference is refused; then nothing is changed.
+pub fn place_leaf(w: &mut Walker, s: State, d: usize, level: Level) -> Option<(u64, State)>
+    requires { (field 4 w.old.objects.now level.object 3 < 2 ^ 63) × Addressed w.old s.addresses }
+    ensures read { IfSome result (λ r. (d < 64) × (Heads w.old.sheet.now w.old.heads.now → (inner : Reader SlotValue) → got r.0 (mem r.1 (lent_of w.new)) ≡ slot_in (input_of w.old) (referenceOf (input_of w.old) inner) level.object level.done (mem s (lent_of w.old)))) }
     ensures order { StaysInOrder w.old s result w.new }
     ensures kept { Kept w.old w.new }
 {
-    if 64 <= d || word == 0 {
+    if DEEPEST <= d {
         return None;
     }
-    let leaf = any_leaf(w, s, word)?;
-    let start = done.checked_add(s.skip)?;
+    let leaf = any_leaf(w, s)?;
+    let start = level.done.checked_add(s.skip)?;
     let end = start.checked_add(leaf.width)?;
-    let f = fields_of(leaf.value);
-    if !add_slot(w.slots, s.slots, o as u64, start / word, f, 0) {
-        return None;
-    }
-    count_slot(w.objects, o as u64);
+    let slot = Slot {
+        object: level.object as u64,
+        index: start / word_bytes(w.sheet),
+        value: Fields::from(leaf.value),
+        waits: 0,
+    };
+    append_slot(w.slots, w.objects, s.slots, slot)?;
     enter(&mut w.hot, leaf);
     let t = State {
         at: leaf.next,

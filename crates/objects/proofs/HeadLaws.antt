@@ -2,20 +2,13 @@
 use mathlib.Core.Path.{◌≡◌, sym, ◌∙◌}
 use mathlib.Core.Bool.{Bool, true, false}
 use mathlib.Core.List.{List}
-use Prim.Native.Nat.{ℕ, ◌+◌, ◌*◌, ◌^◌, ◌<◌}
-use mathlib.Core.Logic.{⊎_elim}
+use Prim.Native.Nat.{ℕ, ◌*◌, ◌^◌, ◌<◌}
 use native.Mathlib.Nat.{mul-le-mul_left}
 use native.Mathlib.Omega.{arith}
 use borrow.Author.Tests.{eq-eqb, ne_eqb}
 use Rattle.sheet.specs.Sheet.{is_six_x, lo_space, word_bytes, usable}
-use Rattle.sheet.proofs.UsableSheet.{usable_gives}
 use Rattle.backref.proofs.BackrefLaws.{word_small}
-use Rattle.tables.specs.Records.{object_row, Put}
-use Rattle.definition.specs.Memory.{Input, Mem, Out, got, no, table, with_objects, byte, int}
-use Rattle.definition.specs.Object.{add_object}
-use Rattle.readers.specs.declared.state.State.{State}
-use Rattle.readers.specs.Views.{Lent, mem, objects_is}
-use Rattle.readers.proofs.ViewLaws.{put_full, put_done}
+use Rattle.definition.specs.Memory.{Input, Mem, Out, got, no, byte, int}
 use Rattle.objects.specs.Head.{recording, opening}
 
 -- ---- the record
@@ -23,19 +16,6 @@ use Rattle.objects.specs.Head.{recording, opening}
 -- an object's declared bytes
 pub bytes_small : (v : List ℕ) → usable v ≡ true → {word words : ℕ} → word ≡ word_bytes v → words < 2 ^ 30 → words * word < 2 ^ 33
 bytes_small v u {word} {words} e h = omega (arith, mul-le-mul_left words (word_small v u e))
-
--- a tagged word has bytes
-pub word_some : (v : List ℕ) → usable v ≡ true → {word : ℕ} → word ≡ word_bytes v → 0 < word
-word_some v u w = ⊎_elim (λ e. omega arith) (λ e. omega arith) (usable_gives v u).word
-
-module _ (x : Input) (s : State) (tag words : ℕ) (l : Lent) {after : List ℕ} {bytes : ℕ} {r : Bool} (b : bytes ≡ word_bytes x.sheet) (p : Put l.objects s.objects (object_row (words * bytes) tag) r after) where
-  pub record_full : r ≡ false → no 3 s.at (mem s (objects_is after l)) ≡ recording x tag words (mem s l)
-  unfolding add_object
-  record_full e = rw ((put_full p e).0, (put_full p e).1)
-
-  pub record_put : r ≡ true → got words (with_objects (table after (s.objects + 1)) (mem s l)) ≡ recording x tag words (mem s l)
-  unfolding add_object
-  record_put e = rw ((put_done p e).0, (put_done p e).1, b)
 
 -- ---- the size, and the byte of a large object
 

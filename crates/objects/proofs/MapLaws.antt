@@ -8,9 +8,6 @@ use native.Mathlib.Omega.{arith}
 use borrow.Author.Tests.{ltb-true, ltb-false, eq-eqb, ne_eqb}
 use lib.Dec.{eqb, ltb}
 use lib.ListN.{length, get_or}
-use Rattle.tables.specs.declared.values.SlotValue.{SlotValue}
-use Rattle.tables.specs.declared.values.Fields.{Fields}
-use Rattle.tables.specs.Values.{fields_of}
 use Rattle.std.specs.Prelude.{Some}
 use Rattle.std.proofs.lemmas.Option.{none-some}
 use Rattle.stream.specs.Bytes.{peek_at}
@@ -31,16 +28,14 @@ use Rattle.alloc.specs.Allocation.{next_chunk, Outcome, outcome, allocate_of}
 use Rattle.alloc.proofs.AllocationLaws.{next_chunk_cur, allocate_room}
 use Rattle.address_index.specs.Links.{space_of, Linked}
 use Rattle.address_index.proofs.LinkLaws.{linked_same}
-use Rattle.definition.specs.Memory.{Input, word, in_map, Mem, Out, got, no, Reader, choose, has_room, moved, aligned}
-use Rattle.definition.specs.Slots.{add_slot}
-use Rattle.definition.specs.Object.{peek, change_chunk, allocate, alignment_byte, chunk_changes, flag_object, keep_map}
+use Rattle.definition.specs.Memory.{Input, word, Mem, Out, got, no, moved, aligned}
+use Rattle.definition.specs.Object.{peek, change_chunk, allocate, alignment_byte, chunk_changes}
 use Rattle.laws.specs.Addresses.{Shape, bare, seated, allocate_shape, old_space, new_space}
 use Rattle.readers.specs.declared.state.State.{State}
 use Rattle.readers.specs.declared.walker.Walker.{Walker}
 use Rattle.readers.specs.Lent.{input_of, lent_of, Kept}
 use Rattle.readers.specs.Views.{Lent, mem, addresses_is, alloc_is}
-use Rattle.objects.specs.Item.{slot_of}
-use Rattle.objects.specs.Map.{after_map, map_kept}
+use Rattle.objects.specs.Map.{after_map}
 use Rattle.objects.proofs.AnswerLaws.{kept_still}
 
 -- ---- a byte that is an alignment prefix is there
@@ -203,23 +198,3 @@ module _ (w : Walker) (s : State) {b : ℕ} (eb : b ≡ peek_at w.payload.now s.
 
 pub after_first : (x : Input) (before space bytes o : ℕ) (m : Mem) {first : Bool} → first ≡ is_map_first x.sheet → {out : Out (Unit {0})} → first ≡ true → {m₁ m₂ : Mem} → got tt m₁ ≡ alignment_byte x (aligned before m) → got tt m₂ ≡ chunk_changes x space (length x.payload - m₁.at) m₁ → out ≡ allocate x space bytes o m₂ → out ≡ after_map x before space bytes o m
 after_first x before space bytes o m g t e f h = rw (sym g ∙ t, ← e, ← f) h
-
--- ---- slot 0
-
-chosen : (b : Bool) (f g h : Reader ℕ) (m : Mem) → f m ≡ g m → choose b f h m ≡ choose b g h m
-chosen true f g h m e = e
-chosen false f g h m e = refl
-
--- nobody is told where the map is kept
-map_slot : (o index : ℕ) (f : Fields) (waits : ℕ) (s : State) (l : Lent) → slot_of o index f waits (mem s l) ≡ add_slot o index f waits in_map (mem s l)
-unfolding add_slot
-map_slot o index f waits s l = chosen (has_room 6 (mem s l).slots) _ _ _ (mem s l) refl
-
-module _ (x : Input) (o : ℕ) (v : SlotValue) (s : State) (l : Lent) (m : Mem) (e : got tt (mem s l) ≡ flag_object x o v m) where
-  pub keep_no : {n q : ℕ} {m' : Mem} → no n q m' ≡ slot_of o 0 (fields_of v) 0 (mem s l) → no n q m' ≡ map_kept x o v m
-  unfolding keep_map
-  keep_no h = rw (← e, ← map_slot o 0 (fields_of v) 0 s l, ← h)
-
-  pub keep_got : {k : ℕ} (t : State) (l' : Lent) → got k (mem t l') ≡ slot_of o 0 (fields_of v) 0 (mem s l) → got tt (mem t l') ≡ map_kept x o v m
-  unfolding keep_map
-  keep_got t l' h = rw (← e, ← map_slot o 0 (fields_of v) 0 s l, ← h)

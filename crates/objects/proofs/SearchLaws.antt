@@ -31,7 +31,7 @@ down a (suc n) = (a + n) ∷ down a n
 one_more : (a b x n m : ℕ) → n ≡ suc m → x ≡ a + m → b ≡ a → down a n ≡ x ∷ down b m
 one_more a b x n m e f g = rw (e, f, g) refl
 
-abbrev pub DownSteps : Rev (Range ℕ) → Option ℕ → Rev (Range ℕ) → Type 0
+abbrev DownSteps : Rev (Range ℕ) → Option ℕ → Rev (Range ℕ) → Type 0
 DownSteps = rev_steps (range_steps_back (λ a b. b - a) (λ a b. b ≡ a + 1))
 
 goes_down : (s : Rev (Range ℕ)) → YieldsList DownSteps (λ x. x) s (down s.iter.start (s.iter.end - s.iter.start))

@@ -1,6 +1,6 @@
 -- Which slot waits under each number after a slot record is added and after one is filled, and the index with it. Assumes nothing.
 use mathlib.Core.Path.{◌≡◌, refl, sym, subst, ◌∙◌}
-use mathlib.Core.Bool.{Bool, true, false, ◌&&◌}
+use mathlib.Core.Bool.{Bool, true, false}
 use mathlib.Core.List.{List}
 use mathlib.Core.Logic.{◌≢◌}
 use Prim.Native.Nat.{ℕ, zero, suc, ◌+◌, ◌-◌, ◌<◌, ◌≤◌}
@@ -79,6 +79,11 @@ module _ (st : List ℕ) (n : ℕ) where
   waiter_none zero h = refl
   waiter_none (suc c) h = rw (h c (omega arith)) (waiter_none c (λ i l. h i (omega arith)))
 
+  pub waiter_low : (c : ℕ) → waiter st n c ≤ c
+  waiter_low zero = omega (arith, waiter_zero st n 0)
+  waiter_low (suc c) =
+      by_case _ (waits_for st n c) (λ t. omega (arith, waiter_yes st n c t)) (λ f. omega (arith, waiter_no st n c f, waiter_low c))
+
   -- the waiter is one of the slots, and waits
   pub waiter_found : (c j : ℕ) → waiter st n c ≡ suc j → (j < c) × (waits_for st n j ≡ true)
   waiter_found zero j e = absurd (let z = waiter_zero st n 0 in omega (arith, z))
@@ -101,22 +106,22 @@ module _ (st : List ℕ) (n : ℕ) where
 pub indexed_start : (st sc : List ℕ) → Indexed st 0 sc
 indexed_start st sc n h w = absurd (omega (arith, waiter_zero st n 0))
 
--- an entry whose slot waits is the waiter; where it does not, no slot waits
-module _ (st : List ℕ) (c n k : ℕ) (x : Entry st c n k) where
-  pub confirmed_yes : 0 < k → k ≤ c → waits_for st n (k - 1) ≡ true → k ≡ waiter st n c
-  confirmed_yes h l e = x (waiter_some st n c (k - 1) (omega arith) e)
+-- an entry k whose slot j waits is the waiter; where it does not, no slot waits
+module _ (st : List ℕ) (c n : ℕ) {k j : ℕ} (x : Entry st c n k) (e : (1 ≤ k) × (j ≡ k - 1)) where
+  confirmed_yes : j < c → waits_for st n j ≡ true → suc j ≡ waiter st n c
+  confirmed_yes l t = let z : suc j ≡ k = omega arith in z ∙ x (waiter_some st n c j l t)
 
-  pub confirmed_no : (0 < k → k ≤ c → waits_for st n (k - 1) ≡ false) → 0 ≡ waiter st n c
+  confirmed_no : (j < c → waits_for st n j ≡ false) → 0 ≡ waiter st n c
   confirmed_no f =
       same_or _ (waiter st n c) 0 sym
-      (λ ne. let e : k ≡ waiter st n c = x (omega arith) in
-      let r = waiter_found st n c (k - 1) (omega arith) in
-      clash (waits_for st n (k - 1)) r.1 (f (omega arith) (omega (arith, r.0))))
+      (λ ne. let y : k ≡ waiter st n c = x (omega arith) in
+      let r = waiter_found st n c j (omega arith) in
+      clash (waits_for st n j) r.1 (f r.0))
 
   -- what the test of the slot that it names gives
-  pub confirmed_test : 0 < k → k ≤ c → (b : Bool) → b ≡ waits_for st n (k - 1) → counted (then_some b (k - 1)) ≡ waiter st n c
-  confirmed_test h l true e = let z : suc (k - 1) ≡ k = omega arith in z ∙ confirmed_yes h l (sym e)
-  confirmed_test h l false e = confirmed_no (λ _ _. sym e)
+  pub confirmed_test : j < c → {b : Bool} → b ≡ waits_for st n j → counted (then_some b j) ≡ waiter st n c
+  confirmed_test l {b = true} t = confirmed_yes l (sym t)
+  confirmed_test l {b = false} t = confirmed_no (λ _. sym t)
 
 -- ---- a slot record is added
 

@@ -1,11 +1,27 @@
 -- An object's head, as the code reads it: the size in words is given back, and the object's number is the object count before. Assumes
 -- nothing: these are definitions.
-use Rattle.std.specs.Prelude.{ℕ}
+use Rattle.std.specs.Prelude.{◌≡◌, Bool, ◌&&◌, ℕ, ◌<◌, ltb, eqb, length, get_or}
+use Rattle.heads.specs.Heads.{head_at}
+use Rattle.heads.specs.Kinds.{kind_number, new_object}
 use Rattle.definition.specs.Memory.{Input, Reader, ◌>>=◌, ◌>>◌, give, int}
 use Rattle.definition.specs.Object.{large_byte, add_object}
+use Rattle.readers.specs.declared.walker.Walker.{Walker}
+use Rattle.objects.specs.declared.head.NewObject.{NewObject}
 
 abbrev pub recording : Input → ℕ → ℕ → Reader ℕ
 recording x tag words = add_object x tag words >> give words
 
 abbrev pub opening : Input → ℕ → ℕ → Reader ℕ
 opening x space tag = int x >>= (λ words. large_byte x space >> recording x tag words)
+
+-- a new object stands at a place
+abbrev pub opens_at : Walker → ℕ → Bool
+opens_at w at =
+    ltb at (length w.payload.now) && eqb (kind_number (head_at w.heads.now (get_or w.payload.now at 0)).kind) new_object
+
+-- it is this one
+pub record NewAt (w : Walker) (at : ℕ) (new : NewObject) : Type 0 where
+  pub inside : at < length w.payload.now
+  pub low : get_or w.payload.now at 0 < 256
+  pub kind : kind_number (head_at w.heads.now (get_or w.payload.now at 0)).kind ≡ new_object
+  pub is : new ≡ record { tag = at; space = (head_at w.heads.now (get_or w.payload.now at 0)).argument }

@@ -1,11 +1,12 @@
 // An object's head: its size, and its record.
 
-ghost use Rattle.std.specs.Prelude.{true, ◌≡◌, ◌^◌, ◌<◌};
+ghost use Rattle.std.specs.Prelude.{true, false, ◌≡◌, ◌^◌, ◌<◌, IfSome, IsNone};
 ghost use Rattle.sheet.specs.Sheet.{usable};
 ghost use Rattle.readers.specs.Views.{mem, seen, Below};
 ghost use Rattle.readers.specs.Lent.{input_of, lent_of, Kept};
-ghost use Rattle.objects.specs.Head.{recording, opening};
+ghost use Rattle.objects.specs.Head.{recording, opening, opens_at, NewAt};
 
+use heads::kinds::Kind;
 use readers::ints::{read_byte, read_int};
 use readers::state::{Answer, State};
 use readers::walker::Walker;
@@ -13,22 +14,46 @@ use refusals::refusal::Refusal;
 use sheet::numbers::{lo_space, six_x, word_bytes};
 use tables::records::add_object;
 
-// The size in words of an object whose head stands at `tag`; its record is added. A 6.x large object has one more byte.
-pub fn open_object(w: &mut Walker, s: State, tag: usize, space: u64) -> Answer<u64>
+// A new object: where its head stands, and its space. That the space is below 256 stands in clauses (`Heads` gives it, which no walker
+// promises): a ghost field would be asked of `new_object_at`.
+#[derive(Clone, Copy)]
+pub struct NewObject {
+    pub tag: usize,
+    pub space: u64,
+}
+
+// The new object whose head stands at a place.
+pub fn new_object_at(w: &Walker, at: usize) -> Option<NewObject>
+    ensures some { IfSome result (NewAt w.now at) }
+    ensures none { IsNone result → opens_at w.now at ≡ false }
+{
+    let head = w.head_at(at)?;
+    if head.kind != Kind::NewObject {
+        return None;
+    }
+    Some(NewObject {
+        tag: at,
+        space: head.argument as u64,
+    })
+}
+
+// The size in words of an object after whose head the cursor stands; its record is added. A 6.x large object has one more byte.
+pub fn open_object(w: &mut Walker, s: State, new: NewObject) -> Answer<u64>
     requires { usable w.old.sheet.now ≡ true }
-    ensures is { seen result (lent_of w.new) ≡ opening (input_of w.old) space tag (mem s (lent_of w.old)) }
+    ensures is { seen result (lent_of w.new) ≡ opening (input_of w.old) new.space new.tag (mem s (lent_of w.old)) }
     ensures small { Below (2 ^ 30) result }
     ensures kept { Kept w.old w.new }
 {
     let (words, t) = read_int(w.payload, s)?;
-    if !six_x(w.sheet) || space != lo_space(w.sheet) {
-        return add_record(w, t, tag, words);
+    if !six_x(w.sheet) || new.space != lo_space(w.sheet) {
+        return add_record(w, t, new.tag, words);
     }
     let (_, u) = read_byte(w.payload, t)?;
-    add_record(w, u, tag, words)
+    add_record(w, u, new.tag, words)
 }
 
 // The object's record, if there is room; the words again.
+#[tactic(auto, unfolding(definition::specs::Object::add_object))]
 fn add_record(w: &mut Walker, s: State, tag: usize, words: u64) -> Answer<u64>
     requires { (usable w.old.sheet.now ≡ true) × (words < 2 ^ 30) }
     ensures is { seen result (lent_of w.new) ≡ recording (input_of w.old) tag words (mem s (lent_of w.old)) }
@@ -36,9 +61,7 @@ fn add_record(w: &mut Walker, s: State, tag: usize, words: u64) -> Answer<u64>
     ensures kept { Kept w.old w.new }
 {
     let bytes = words * word_bytes(w.sheet);
-    if !add_object(w.objects, s.objects, bytes, tag as u64) {
-        return Err(s.refused(Refusal::NoRoom));
-    }
+    add_object(w.objects, s.objects, bytes, tag as u64).ok_or(s.refused(Refusal::NoRoom))?;
     let t = State {
         objects: s.objects + 1,
         ..s

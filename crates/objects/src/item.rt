@@ -1,44 +1,55 @@
 // Slots and items of an object.
 
-ghost use Rattle.std.specs.Prelude.{◌≡◌, ◌+◌, ◌^◌, ◌<◌, ◌≤◌};
+ghost use Rattle.std.specs.Prelude.{◌≡◌, ◌^◌, ◌<◌, ◌≤◌, IsTrue};
 ghost use Rattle.std.specs.Int.{from_bool};
-ghost use Rattle.sheet.specs.Sheet.{word_bytes};
-ghost use Rattle.tables.specs.Values.{width_of};
 ghost use Rattle.tables.specs.Records.{room, field};
-ghost use Rattle.definition.specs.Slots.{waits_of, repeat_previous, keep_item, place_item};
+ghost use Rattle.definition.specs.Memory.{table};
+ghost use Rattle.definition.specs.Slots.{waits_of, previous, repeat_previous, keep_item, place_item};
 ghost use Rattle.readers.specs.Views.{mem, seen};
-ghost use Rattle.readers.specs.Lent.{input_of, lent_of, Fixed, Kept};
+ghost use Rattle.readers.specs.Lent.{input_of, lent_of, IndexKept, Kept};
 ghost use Rattle.objects.specs.Index.{Indexed, IndexedAfter};
-ghost use Rattle.objects.specs.Item.{slot_of};
+ghost use Rattle.objects.specs.Item.{slot_of, ItemFits};
 
 use crate::pending::note;
 use readers::state::{Answer, State};
 use readers::walker::Walker;
 use refusals::refusal::Refusal;
 use sheet::numbers::word_bytes;
-use tables::records::{add_slot, count_slot, put};
-use tables::values::{Fields, SlotValue, fields_of, width};
+use tables::records::{Slot, add_value, append_slot, slot_at};
+use tables::values::{Fields, SlotValue, width};
 
-// A slot record of object o, if there is room, and the object's slot count with it: the record's number. Other records are added alike, but
-// for table, row, count and answer: a function of these would take a closure for each.
+// An object that is being read: its number, its bytes and how many of them have been read, and where its head stands.
+#[derive(Clone, Copy, Default)]
+pub struct Level {
+    pub object: usize,
+    pub size: u64,
+    pub done: u64,
+    pub tag: usize,
+}
+
+// A slot record of object o, if there is room, and the object's slot count with it: the record's number.
+#[tactic(auto, unfolding(definition::specs::Slots::add_slot))]
 pub fn push_slot(
     w: &mut Walker,
     s: State,
     o: u64,
     index: u64,
-    f: Fields,
+    value: Fields,
     waits: bool,
 ) -> Answer<usize>
-    requires { (field 4 w.old.objects.now o 3 < 2 ^ 63) × (s.waiting < 2 ^ 63) }
-    ensures is { seen result (lent_of w.new) ≡ slot_of o index f (from_bool waits) (mem s (lent_of w.old)) }
+    requires { (field 4 w.old.objects.now o 3 < 2 ^ 63) × (IsTrue waits → s.waiting < 2 ^ 63) }
+    ensures is { seen result (lent_of w.new) ≡ slot_of o index value (from_bool waits) (mem s (lent_of w.old)) }
     ensures kept { Kept w.old w.new }
 {
     let n = s.slots;
     let waits = u64::from(waits);
-    if !add_slot(w.slots, n, o, index, f, waits) {
-        return Err(s.refused(Refusal::NoRoom));
-    }
-    count_slot(w.objects, o);
+    let slot = Slot {
+        object: o,
+        index,
+        value,
+        waits,
+    };
+    append_slot(w.slots, w.objects, n, slot).ok_or(s.refused(Refusal::NoRoom))?;
     let t = State {
         slots: n + 1,
         waiting: s.waiting + waits,
@@ -47,35 +58,42 @@ pub fn push_slot(
     Ok((n, t))
 }
 
+// The value of the previous slot: a function of its own, since what `w` lends for a call is known afterwards by its length alone.
+fn previous(w: &Walker, s: State) -> Fields
+    requires { (0 < s.slots) × (s.slots ≤ room 6 w.now.slots.now) }
+    ensures { result ≡ previous (table w.now.slots.now s.slots) }
+{
+    slot_at(w.slots, s.slots - 1).value
+}
+
 // The previous slot's value as a value record, for a 6.x repeat: its number.
+#[tactic(auto, unfolding(definition::specs::Slots::add_value))]
 fn keep_previous(w: &mut Walker, s: State) -> Answer<u64>
     requires { (0 < s.slots) × (s.slots ≤ room 6 w.old.slots.now) }
     ensures is { seen result (lent_of w.new) ≡ repeat_previous (mem s (lent_of w.old)) }
     ensures kept { Kept w.old w.new }
 {
-    let k = s.slots - 1;
     let n = s.values;
-    let row = [w.slots[k * 6 + 2], w.slots[k * 6 + 3], w.slots[k * 6 + 4]];
-    if !put(w.values, n, &row) {
-        return Err(s.refused(Refusal::NoRoom));
-    }
+    let value = previous(w, s);
+    add_value(w.values, n, value).ok_or(s.refused(Refusal::NoRoom))?;
     let t = State { values: n + 1, ..s };
     Ok((n as u64, t))
 }
 
 // An item that becomes a slot, after the with-skip amount that stands: the bytes read then.
-fn keep_item(w: &mut Walker, s: State, o: usize, done: u64, v: SlotValue) -> Answer<u64>
-    requires bounds { (o < room 4 w.old.objects.now) × (field 4 w.old.objects.now o 3 < 2 ^ 63) × (s.waiting < 2 ^ 63) × (word_bytes w.old.sheet.now ≤ 8) × (0 < word_bytes w.old.sheet.now) × (done + s.skip + width_of (word_bytes w.old.sheet.now) v < 2 ^ 64) }
+#[tactic(auto, unfolding(definition::specs::Slots::keep_item))]
+fn keep_item(w: &mut Walker, s: State, level: Level, v: SlotValue) -> Answer<u64>
+    requires fits { ItemFits w.old s level v }
     requires indexed { Indexed w.old.slots.now s.slots w.old.pending.now }
-    ensures is { seen result (lent_of w.new) ≡ keep_item (input_of w.old) o done v (mem s (lent_of w.old)) }
+    ensures is { seen result (lent_of w.new) ≡ keep_item (input_of w.old) level.object level.done v (mem s (lent_of w.old)) }
     ensures index { IndexedAfter result w.new.slots.now w.new.pending.now }
-    ensures rest { Fixed w.old w.new × (w.new.index.now ≡ w.old.index.now) }
+    ensures rest { IndexKept w.old w.new }
 {
     let word = word_bytes(w.sheet);
-    let start = done + s.skip;
+    let start = level.done + s.skip;
     let end = start + width(v, word);
-    let waits = waits_of(v);
-    let (k, t) = push_slot(w, s, o as u64, start / word, fields_of(v), waits)?;
+    let o = level.object as u64;
+    let (k, t) = push_slot(w, s, o, start / word, Fields::from(v), waits_of(v))?;
     if let SlotValue::PendingRef(number) = v {
         note(w.pending, number, k as u64 + 1);
     }
@@ -89,24 +107,24 @@ fn waits_of(v: SlotValue) -> bool
     matches!(v, SlotValue::PendingRef(_))
 }
 
-// An item of object o, `done` bytes of which have been read: the bytes read then. The two are no struct: the answer has the one and not the
-// other.
-pub fn place_item(w: &mut Walker, s: State, o: usize, done: u64, v: SlotValue) -> Answer<u64>
-    requires bounds { (o < room 4 w.old.objects.now) × (field 4 w.old.objects.now o 3 < 2 ^ 63) × (s.waiting < 2 ^ 63) × (word_bytes w.old.sheet.now ≤ 8) × (0 < word_bytes w.old.sheet.now) × (done + s.skip + width_of (word_bytes w.old.sheet.now) v < 2 ^ 64) }
+// An item of an object: the bytes read then.
+#[tactic(auto, unfolding(definition::specs::Slots::place_item))]
+pub fn place_item(w: &mut Walker, s: State, level: Level, v: SlotValue) -> Answer<u64>
+    requires fits { ItemFits w.old s level v }
     requires slots_nonzero { (0 < s.slots) × (s.slots ≤ room 6 w.old.slots.now) }
     requires indexed { Indexed w.old.slots.now s.slots w.old.pending.now }
-    ensures is { seen result (lent_of w.new) ≡ place_item (input_of w.old) o done v (mem s (lent_of w.old)) }
+    ensures is { seen result (lent_of w.new) ≡ place_item (input_of w.old) level.object level.done v (mem s (lent_of w.old)) }
     ensures index { IndexedAfter result w.new.slots.now w.new.pending.now }
-    ensures rest { Fixed w.old w.new × (w.new.index.now ≡ w.old.index.now) }
+    ensures rest { IndexKept w.old w.new }
 {
     let passed = State { skip: 0, ..s };
     match v {
-        SlotValue::Skip(n) => Ok((done + n as u64, passed)),
-        SlotValue::StreamBytes(_) => Ok((done, passed)),
+        SlotValue::Skip(n) => Ok((level.done + n as u64, passed)),
+        SlotValue::StreamBytes(_) => Ok((level.done, passed)),
         SlotValue::RepeatPrev(n) => {
             let (k, t) = keep_previous(w, s)?;
-            keep_item(w, t, o, done, SlotValue::Repeat(n, k))
+            keep_item(w, t, level, SlotValue::Repeat(n, k))
         }
-        _ => keep_item(w, s, o, done, v),
+        _ => keep_item(w, s, level, v),
     }
 }

@@ -10,7 +10,7 @@ ghost use Rattle.refusals.specs.Numbers.{number_of};
 ghost use Rattle.definition.specs.Memory.{got, aligned};
 ghost use Rattle.definition.specs.Object.{alignment_byte, chunk_changes, allocate, flag_object};
 ghost use Rattle.readers.specs.Views.{Lent, input, mem, seen};
-ghost use Rattle.readers.specs.Lent.{input_of, lent_of, Fixed, Kept};
+ghost use Rattle.readers.specs.Lent.{input_of, lent_of, Kept, PendingKept};
 ghost use Rattle.objects.specs.Index.{LinkedAfter};
 ghost use Rattle.objects.specs.Map.{after_map, is_flagged, map_kept, AddressAlone};
 
@@ -25,7 +25,7 @@ use sheet::numbers::{legacy, map_first, word_bytes};
 use sheet::tests::{alignment, is_tag};
 use stream::bytes::peek;
 use tables::records::set_raw_len;
-use tables::values::{Ref, SlotValue, fields_of};
+use tables::values::{Fields, Ref, SlotValue};
 
 // What the index keeps of address record n, where it has room for it.
 fn new_entry(w: &Walker, n: usize) -> Option<Entry>
@@ -33,17 +33,15 @@ fn new_entry(w: &Walker, n: usize) -> Option<Entry>
     ensures some { IfSome result (λ e. Roomy n w.now.index.now × IsEntry w.now.addresses.now n w.now.index.now e) }
     ensures none { IsNone result → length w.now.index.now < 256 + (n + 1) * 3 }
 {
-    if !has_room(w.index, n) {
-        return None;
-    }
-    Some(entry_of(w.addresses, w.index, n))
+    has_room(w.index, n).then(|| entry_of(w.addresses, w.index, n))
 }
 
 // Address record n enters the index, where the index has room for it.
 fn enter_record(w: &mut Walker, n: usize)
     requires { (n < room 5 w.old.addresses.now) × (space_of w.old.addresses.now n < 256) × Linked w.old.addresses.now n w.old.index.now }
     ensures linked { Linked w.new.addresses.now (n + 1) w.new.index.now }
-    ensures rest { Fixed w.old w.new × (lent_of w.new ≡ lent_of w.old) × (w.new.pending.now ≡ w.old.pending.now) }
+    ensures lent { lent_of w.new ≡ lent_of w.old }
+    ensures rest { PendingKept w.old w.new }
 {
     if let Some(entry) = new_entry(w, n) {
         add_entry(w.index, n, entry);
@@ -69,13 +67,15 @@ pub fn allocate_record(w: &mut Walker, n: usize, want: Request) -> Result<u64, R
     Ok(placed.alignment)
 }
 
-// An address record of object o, and its entry in the index.
-fn allocate_object(w: &mut Walker, s: State, space: u64, bytes: u64, o: u64) -> Answer<()>
+// An address record of object o, and its entry in the index. Refused, nothing changes.
+#[inline(always)]
+pub fn allocate_object(w: &mut Walker, s: State, space: u64, bytes: u64, o: u64) -> Answer<()>
     requires sheet_value { (usable w.old.sheet.now ≡ true) × (space < 256) × (bytes < 2 ^ 33) }
     requires linked_before { Linked w.old.addresses.now s.addresses w.old.index.now }
     ensures is { seen result (lent_of w.new) ≡ allocate (input_of w.old) space bytes o (mem s (lent_of w.old)) }
     ensures linked { LinkedAfter result w.new.addresses.now w.new.index.now }
-    ensures rest { Fixed w.old w.new × (w.new.pending.now ≡ w.old.pending.now) }
+    ensures refused { OnErr result ((lent_of w.new ≡ lent_of w.old) × (w.new.index.now ≡ w.old.index.now)) }
+    ensures rest { AddressAlone w.old w.new }
 {
     let want = Request {
         space,
@@ -146,7 +146,7 @@ pub fn after_map(
     requires linked_before { (get_or w.old.alloc.cur space 0 ≤ s.at) × Linked w.old.addresses.now s.addresses w.old.index.now }
     ensures is { seen result (lent_of w.new) ≡ after_map (input_of w.old) before space bytes o (mem s (lent_of w.old)) }
     ensures linked { LinkedAfter result w.new.addresses.now w.new.index.now }
-    ensures rest { Fixed w.old w.new × (w.new.pending.now ≡ w.old.pending.now) }
+    ensures rest { PendingKept w.old w.new }
 {
     if !legacy(w.sheet) {
         return Ok(((), s));
@@ -183,12 +183,13 @@ fn flag_object(w: &mut Walker, o: usize, v: SlotValue)
 }
 
 // Slot 0 is the map, and the object is flagged where the map is trusted.
+#[tactic(auto, unfolding(definition::specs::Object::keep_map, definition::specs::Slots::add_slot))]
 pub fn keep_map(w: &mut Walker, s: State, o: usize, v: SlotValue) -> Answer<()>
     requires { (o < room 4 w.old.objects.now) × (field 4 w.old.objects.now o 3 < 2 ^ 62) × (s.waiting < 2 ^ 63) }
     ensures is { seen result (lent_of w.new) ≡ map_kept (input_of w.old) o v (mem s (lent_of w.old)) }
     ensures kept { Kept w.old w.new }
 {
     flag_object(w, o, v);
-    let (_, t) = push_slot(w, s, o as u64, 0, fields_of(v), false)?;
+    let (_, t) = push_slot(w, s, o as u64, 0, Fields::from(v), false)?;
     Ok(((), t))
 }

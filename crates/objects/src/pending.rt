@@ -19,7 +19,7 @@ use readers::walker::Walker;
 use sheet::names::K_RESOLVE_PENDING_FORWARD_REF;
 use sheet::tests::is_tag;
 use stream::bytes::peek;
-use tables::records::fill_slot;
+use tables::records::{fill_slot, slot_at};
 
 // x at place i of the places for pending numbers, where there is that place. (std does not say what a slice ends as after `get_mut`.)
 pub fn note(pending: &mut [u64], i: u64, x: u64)
@@ -30,12 +30,13 @@ pub fn note(pending: &mut [u64], i: u64, x: u64)
     }
 }
 
-// Slot k waits under a number. Field by field, as the table is flat: a struct would be read from it for `==` alone.
+// Slot k waits under a number.
 fn waits_for(slots: &[u64], number: u64, k: usize) -> bool
     requires { k < room 6 slots.now }
     ensures { result ≡ waits_for slots.now number k }
 {
-    (slots[k * 6 + 5] == 1) & (slots[k * 6 + 3] == number)
+    let slot = slot_at(slots, k);
+    (slot.waits == 1) & (slot.value.a == number)
 }
 
 // The newest of n slots that waits under a number: a search.
@@ -48,14 +49,16 @@ fn find_waiter(slots: &[u64], number: u64, n: usize) -> Option<usize>
 
 // The same, from k, which stands under the number in scratch. Where no slot waits under it, k may be anything; so it counts only if the
 // slot that it names waits.
+#[tactic(auto, using(crate::proofs::WaiterLaws::waiter_low, crate::proofs::WaiterLaws::confirmed_test))]
 fn confirmed(slots: &[u64], number: u64, n: usize, k: u64) -> Option<usize>
     requires { (n ≤ room 6 slots.now) × Entry slots.now n number k }
     ensures { counted result ≡ waiter slots.now number n }
 {
-    if k == 0 || (n as u64) < k {
+    let slot = k.checked_sub(1)?;
+    if n as u64 <= slot {
         return None;
     }
-    let slot = (k - 1) as usize;
+    let slot = slot as usize;
     waits_for(slots, number, slot).then_some(slot)
 }
 

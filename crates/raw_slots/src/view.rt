@@ -5,6 +5,8 @@ ghost use Rattle.std.specs.Prelude.{◌≡◌, length, take, drop};
 ghost use Rattle.raw_slots.specs.View.{view_of, viewed};
 
 use refusals::refusal::Refusal;
+use tables::records::{SLOT_FIELDS, slot_at};
+use tables::values::ValueKind;
 
 // Where a raw slot's bytes lie in the payload.
 #[derive(Clone, Copy, Debug, PartialEq, Eq)]
@@ -13,36 +15,44 @@ pub struct View {
     pub len: usize,
 }
 
-// Table and count are as C has them, apart. The range of slot k: no view where the count is above the table's room, or slot k is not
-// listed, is not raw or has a range that is not in the payload.
-pub fn raw_range(payload: &[u8], slots: &[u64], count: usize, k: usize) -> Result<View, Refusal>
-    ensures { result ≡ view_of (length payload.now) slots.now count k }
-{
-    if slots.len() / 6 < count || count <= k {
-        return Err(Refusal::NoView);
-    }
-    let kind = slots[k * 6 + 2];
-    let offset = slots[k * 6 + 3];
-    let len = slots[k * 6 + 4];
-    if !matches!(kind, 5 | 6) {
-        return Err(Refusal::NoView);
-    }
-    let end = payload.len() as u64;
-    if end < offset || end - offset < len {
-        return Err(Refusal::NoView);
-    }
-    Ok(View {
-        offset: offset as usize,
-        len: len as usize,
-    })
+// The slots of a call that accepted: their table, and how many are listed.
+#[derive(Clone, Copy)]
+pub struct Slots<'a> {
+    pub table: &'a [u64],
+    pub count: usize,
 }
 
-// The bytes of slot k; none where `raw_range` refuses. A `match`, as in `Reader::view` over another type: `map_or` would be no shorter.
-pub fn raw_bytes<'a>(payload: &'a [u8], slots: &[u64], count: usize, k: usize) -> &'a [u8]
-    ensures { result.now ≡ viewed payload.now (view_of (length payload.now) slots.now count k) }
-{
-    match raw_range(payload, slots, count, k) {
-        Ok(view) => &payload[view.offset..view.offset + view.len],
-        Err(_) => &[],
+impl Slots<'_> {
+    // The range of slot k: no view where the count is above the table's room, or slot k is not listed, is not raw or has a range that is
+    // not in the payload.
+    pub fn raw_range(self, payload: &[u8], k: usize) -> Result<View, Refusal>
+        ensures { result ≡ view_of (length payload.now) self.entry.table.now self.entry.count k }
+    {
+        // No `has_room`, which asks for room for one more record: a count that equals the room is none too many.
+        if self.table.len() / SLOT_FIELDS < self.count || self.count <= k {
+            return Err(Refusal::NoView);
+        }
+        let value = slot_at(self.table, k).value;
+        if value.kind != ValueKind::Raw as u64 && value.kind != ValueKind::RawInPlace as u64 {
+            return Err(Refusal::NoView);
+        }
+        let end = payload.len() as u64;
+        if end < value.a || end - value.a < value.b {
+            return Err(Refusal::NoView);
+        }
+        Ok(View {
+            offset: value.a as usize,
+            len: value.b as usize,
+        })
+    }
+
+    // The bytes of slot k; none where `raw_range` refuses. A `match`, as in `Reader::view` over another type: `map_or` would be no shorter.
+    pub fn raw_bytes<'p>(self, payload: &'p [u8], k: usize) -> &'p [u8]
+        ensures { result.now ≡ viewed payload.now (view_of (length payload.now) self.entry.table.now self.entry.count k) }
+    {
+        match self.raw_range(payload, k) {
+            Ok(view) => &payload[view.offset..view.offset + view.len],
+            Err(_) => &[],
+        }
     }
 }

@@ -92,17 +92,4 @@ module _ (v : List ℕ) (b : ℕ) (l : b < 256) where
   -- a head that opens no object and holds no other reference is simple
   pub head_simple : ((head_of v b).kind ≡ new_object → ⊥) → Holdless (head_of v b).kind → Simple (head_of v b).kind (head_of v b).argument
   head_simple o h =
-      record {
-        no_object = o;
-        no_chunk = h.no_chunk;
-        no_alignment = h.no_alignment;
-        no_weak = h.no_weak;
-        no_pointer = h.no_pointer;
-        no_repeat = h.no_repeat;
-        no_root = h.no_root;
-        no_count = h.no_count;
-        no_counted = h.no_counted;
-        place = head_fits.place;
-        skip_place = head_fits.skip_place;
-        small = head_fits.small;
-      }
+      record { no_object = o; holdless = h; place = head_fits.place; skip_place = head_fits.skip_place; small = head_fits.small }

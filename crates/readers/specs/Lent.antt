@@ -1,6 +1,8 @@
 -- A walker, as the definition's input and what is lent. Assumes nothing: these are definitions.
-use Rattle.std.specs.Prelude.{◌≡◌, ◌≤◌, ℕ, true}
+use Rattle.std.specs.Prelude.{◌≡◌, ◌<◌, ◌≤◌, ℕ, true, length, get_or}
 use Rattle.sheet.specs.Sheet.{usable}
+use Rattle.heads.specs.declared.heads.Head.{Head}
+use Rattle.heads.specs.Heads.{head_at}
 use Rattle.tables.specs.Records.{room}
 use Rattle.address_index.specs.Links.{Linked}
 use Rattle.address_index.specs.Sorted.{Sorted}
@@ -43,3 +45,16 @@ pub record Fixed (w w' : Walker) : Type 0 where
 -- nor scratch
 abbrev pub Kept : Walker → Walker → Type 0
 Kept w w' = Fixed w w' × SameScratch w w'
+
+-- nor the places of pending numbers; nor the index of legacy addresses
+abbrev pub PendingKept : Walker → Walker → Type 0
+PendingKept w w' = Fixed w w' × (w'.pending.now ≡ w.pending.now)
+
+abbrev pub IndexKept : Walker → Walker → Type 0
+IndexKept w w' = Fixed w w' × (w'.index.now ≡ w.index.now)
+
+-- a byte stands at a place, and this is what it means as a head
+pub record HeadAt (w : Walker) (at : ℕ) (h : Head) : Type 0 where
+  pub inside : at < length w.payload.now
+  pub low : get_or w.payload.now at 0 < 256
+  pub is : h ≡ head_at w.heads.now (get_or w.payload.now at 0)

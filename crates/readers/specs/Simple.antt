@@ -1,11 +1,12 @@
 -- What single heads read, and which heads are simple. Assumes nothing: these are definitions.
 use Rattle.std.specs.Prelude.{◌≡◌, Bool, true, false, ℕ, ◌^◌, ◌-◌, ◌<◌, eqb}
-use Rattle.heads.specs.Kinds.{new_object, legacy_backref_with_skip, next_chunk, alignment, hot, hot_with_skip, root_constant_with_skip, api, weak_prefix, pointer_prefix, fixed_repeat, fixed_repeat_root, variable_repeat, variable_repeat_root}
+use Rattle.heads.specs.Kinds.{new_object, legacy_backref_with_skip, hot, hot_with_skip, root_constant_with_skip, api}
 use Rattle.tables.specs.declared.values.Ref.TheVariants.{Root, RoRef}
 use Rattle.tables.specs.declared.values.SlotValue.{SlotValue}
 use Rattle.sheet.specs.Sheet.{raw_advances}
 use Rattle.definition.specs.Memory.{Input, Reader, ◌>>=◌, ◌>>◌, choose, give, int}
 use Rattle.definition.specs.Reference.{skip_amount, refers, outside, refers_hot, backref_to, hot_place, legacy_reference, raw_data, raw_bytes}
+use Rattle.readers.specs.Prefix.{Holdless}
 
 abbrev pub pick_value : Bool → SlotValue → SlotValue → SlotValue
 pick_value true a b = a
@@ -48,14 +49,7 @@ read_skipped x kind a = skip_amount x >> skipped_to x kind a
 -- a head that holds no other reference, with an argument that it can have
 pub record Simple (kind a : ℕ) : Type 0 where
   pub no_object : kind ≡ new_object → ⊥
-  pub no_chunk : kind ≡ next_chunk → ⊥
-  pub no_alignment : kind ≡ alignment → ⊥
-  pub no_weak : kind ≡ weak_prefix → ⊥
-  pub no_pointer : kind ≡ pointer_prefix → ⊥
-  pub no_repeat : kind ≡ fixed_repeat → ⊥
-  pub no_root : kind ≡ fixed_repeat_root → ⊥
-  pub no_count : kind ≡ variable_repeat → ⊥
-  pub no_counted : kind ≡ variable_repeat_root → ⊥
+  pub holdless : Holdless kind
   pub place : kind ≡ hot → a < 8
   pub skip_place : kind ≡ hot_with_skip → a < 8
   pub small : a < 65536

@@ -12,7 +12,7 @@ use heads::heads::Head;
 use heads::kinds::Kind;
 use refusals::refusal::Refusal;
 use tables::records::add_value;
-use tables::values::SlotValue;
+use tables::values::{Fields, SlotValue};
 
 // How the value of a reference is held: as it is, weak, or repeated so many times.
 #[derive(Clone, Copy)]
@@ -77,7 +77,8 @@ fn repeat_root(p: &[u8], s: State, n: u32) -> Answer<Prefix>
     Ok((Prefix::Root(Held::Repeated(n), i), t))
 }
 
-// The value that a reference held: as it is, or as a value record, if there is room.
+// The value that a reference held: as it is, or as a value record, if there is room. Other records are added alike, but for table, row and
+// count: a function of these would take a closure for each.
 #[tactic(auto, unfolding(definition::specs::Slots::add_value))]
 pub fn hold(w: &mut Walker, s: State, held: Held, v: SlotValue) -> Answer<SlotValue>
     ensures holds { seen result (lent_of w.new) ≡ heldAs held v (mem s (lent_of w.old)) }
@@ -89,9 +90,7 @@ pub fn hold(w: &mut Walker, s: State, held: Held, v: SlotValue) -> Answer<SlotVa
         Held::Weak => SlotValue::WeakRef(n),
         Held::Repeated(count) => SlotValue::Repeat(count, n),
     };
-    if !add_value(w.values, s.values, v) {
-        return Err(s.refused(Refusal::NoRoom));
-    }
+    add_value(w.values, s.values, Fields::from(v)).ok_or(s.refused(Refusal::NoRoom))?;
     let t = State {
         values: s.values + 1,
         ..s

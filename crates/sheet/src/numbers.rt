@@ -1,5 +1,6 @@
 // The numbers of a version sheet, with the defaults of those that are absent, and what they make the sheet. A sheet is a slice, as C lends
-// it: a struct around it would only change how these are called. A number is a u64 below 65536, since all that is made of it has 64 bits.
+// it, and a parameter of its own: a struct around it would say nothing of it that its clauses do not, and the definitions would name its
+// field at each place. A number is a u64 below 65536, since all that is made of it has 64 bits.
 ghost use Rattle.std.specs.Prelude.{◌≡◌, ◌<◌, IfSome};
 ghost use Rattle.sheet.specs.Sheet as Sheet;
 

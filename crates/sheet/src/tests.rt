@@ -43,11 +43,7 @@ pub fn opens(sheet: &[u16], b: u64) -> bool
 pub fn alignment(sheet: &[u16], b: u64) -> Option<u64>
     ensures { result ≡ Tests.unless_zero (Tests.alignment_of sheet.now b) }
 {
-    if in_span(sheet, K_ALIGNMENT_PREFIX, 3, b) {
-        Some(b - number(sheet, K_ALIGNMENT_PREFIX) + 1)
-    } else {
-        None
-    }
+    in_span(sheet, K_ALIGNMENT_PREFIX, 3, b).then(|| b - number(sheet, K_ALIGNMENT_PREFIX) + 1)
 }
 
 // A deferred entry of a legacy closing section.

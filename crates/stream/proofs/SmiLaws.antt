@@ -35,12 +35,12 @@ module _ (n : ℕ) where
   signed_is l = signed_by l (ltb n (2 ^ 31)) refl
 
   -- 32 bits fit a word of 64
-  pub signed_fits : n < 2 ^ 32 → SFits w64 (signed n)
+  signed_fits : n < 2 ^ 32 → SFits w64 (signed n)
   unfolding signed
   signed_fits h = record { sfits = pick_mag (ltb n (2 ^ 31)) (pos n) (negsuc (2 ^ 32 - suc n)) (omega arith) (omega arith) }
 
 -- a signed number that fits is read back from its bits
-pub read_back : {z w : ℤ} → z ≡ w → SFits w64 w → to_z w64 (of_z w64 z) ≡ w
+read_back : {z w : ℤ} → z ≡ w → SFits w64 w → to_z w64 (of_z w64 z) ≡ w
 read_back e f = ap (λ x. to_z w64 (of_z w64 x)) e ∙ to_z-of_z f
 
 half_fits : {z : ℤ} → SFits w64 z → SFits w64 (shr_z z 2)

@@ -5,9 +5,10 @@ use mathlib.Core.List.{List}
 use Prim.Native.Nat.{ℕ, suc, ◌+◌, ◌*◌, ◌<◌}
 use native.Mathlib.Numerals.{add-one}
 use native.Mathlib.Omega.{arith}
-use borrow.Author.Tests.{lt-ltb}
+use borrow.Author.Tests.{ltb-true}
 use lib.ListN.{length, get_or, set}
 use lib.Seq.{paste, paste-suc, sets-eq, take-length}
+use Rattle.std.specs.Prelude.{ltb}
 use Rattle.tables.specs.Records.{room, Put, written, filled}
 use Rattle.tables.proofs.RecordLaws.{record_end}
 
@@ -16,12 +17,12 @@ module _ (t row l : List ℕ) (n i : ℕ) (e : l ≡ paste t (n * length row) ro
   pub paste_next : i < length row → n < room (length row) t → set l (n * length row + i) (get_or row i 0) ≡ paste t (n * length row) row (i + 1)
   paste_next b h = rw (e, add-one i) (paste-suc t (n * length row) row i 0 (omega (arith, record_end (length row) n t (omega arith) h)) b)
 
-  pub put_done : 0 < length row → i ≡ length row → n < room (length row) t → Put t n row true l
+  pub put_done : 0 < length row → i ≡ length row → ltb n (room (length row) t) ≡ true → Put t n row true l
   unfolding written
   put_done pos q h =
       record {
-        roomy = sym (lt-ltb n (room (length row) t) h);
-        table = rw (lt-ltb n (room (length row) t) h, e, q, take-length) (sym (sets-eq row t (n * length row) (record_end (length row) n t pos h)));
+        roomy = sym h;
+        table = rw (h, e, q, take-length) (sym (sets-eq row t (n * length row) (record_end (length row) n t pos (ltb-true n (room (length row) t) h))));
       }
 
 pub fill_done : (t : List ℕ) (k o : ℕ) → set (set (set (set t (k * 6 + 2) 1) (k * 6 + 3) o) (k * 6 + 4) 0) (k * 6 + 5) 0 ≡ filled t k o

@@ -1,7 +1,10 @@
 -- The four tables of document 01, as flat lists of numbers. Assumes nothing: these are definitions.
-use Rattle.std.specs.Prelude.{◌≡◌, Bool, true, false, List, [], ◌∷◌, ℕ, ◌+◌, ◌*◌, ◌/◌, length, get_or, ltb}
+use Rattle.std.specs.Prelude.{◌≡◌, Bool, true, false, List, [], ◌∷◌, ℕ, ◌+◌, ◌*◌, ◌/◌, length, get_or, set, ltb}
 use Rattle.std.proofs.lemmas.List.Edits.{sets}
 use Rattle.tables.specs.declared.values.Fields.{Fields}
+use Rattle.tables.specs.declared.records.Slot.{Slot}
+use Rattle.tables.specs.declared.records.Address.{Address}
+use Rattle.tables.specs.Values.{triple}
 
 -- the room of a table whose records have so many fields: its length divided by them
 abbrev pub room : ℕ → List ℕ → ℕ
@@ -27,6 +30,16 @@ value_row v = v.kind ∷ v.a ∷ v.b ∷ []
 abbrev pub address_row : ℕ → ℕ → ℕ → ℕ → ℕ → List ℕ
 address_row space chunk offset object placed = space ∷ chunk ∷ offset ∷ object ∷ placed ∷ []
 
+-- slot record k of a table
+abbrev pub slot_of : List ℕ → ℕ → Slot
+slot_of t k =
+    record { object = field 6 t k 0; index = field 6 t k 1; value = triple (field 6 t k 2) (field 6 t k 3) (field 6 t k 4); waits = field 6 t k 5 }
+
+-- address record i of a table
+abbrev pub address_of : List ℕ → ℕ → Address
+address_of t i =
+    record { space = field 5 t i 0; chunk = field 5 t i 1; offset = field 5 t i 2; object = field 5 t i 3; placed = field 5 t i 4 }
+
 -- the table with this as its record n; every other number stays
 unfoldable pub written : List ℕ → ℕ → List ℕ → List ℕ
 written t n row = sets t (n * length row) row
@@ -43,6 +56,10 @@ has_room t n row = ltb n (room (length row) t)
 pub record Put (t : List ℕ) (n : ℕ) (row : List ℕ) (r : Bool) (after : List ℕ) : Type 0 where
   pub roomy : r ≡ has_room t n row
   pub table : after ≡ pick_table (has_room t n row) (written t n row) t
+
+-- object o has one slot more
+abbrev pub counted : List ℕ → ℕ → List ℕ
+counted t o = set t (o * 4 + 3) (field 4 t o 3 + 1)
 
 -- slot k becomes object o, and waits no more
 unfoldable pub filled : List ℕ → ℕ → ℕ → List ℕ

@@ -4,7 +4,25 @@ use Rattle.tables.specs.declared.values.Ref.{Ref}
 use Rattle.tables.specs.declared.values.Ref.TheVariants.{Object, Root, RoRef, Attached}
 use Rattle.tables.specs.declared.values.SlotValue.{SlotValue}
 use Rattle.tables.specs.declared.values.SlotValue.TheVariants.{Ref as IsRef, Repeat, RepeatPrev, Skip, StreamBytes, Raw as IsRaw, ClearedWeak, WeakRef, PendingRef}
+use Rattle.tables.specs.declared.values.ValueKind.{ValueKind}
+use Rattle.tables.specs.declared.values.ValueKind.TheVariants.{Object as KObject, Root as KRoot, ReadOnly as KReadOnly, Attached as KAttached, Raw as KRaw, RawInPlace as KRawInPlace, Repeat as KRepeat, RepeatPrevious as KRepeatPrevious, Skip as KSkip, StreamBytes as KStreamBytes, ClearedWeak as KClearedWeak, Weak as KWeak, Pending as KPending}
 use Rattle.tables.specs.declared.values.Fields.{Fields}
+
+-- document 01's numbers of the kinds
+abbrev pub kind_number : ValueKind → ℕ
+kind_number KObject = 1
+kind_number KRoot = 2
+kind_number KReadOnly = 3
+kind_number KAttached = 4
+kind_number KRaw = 5
+kind_number KRawInPlace = 6
+kind_number KRepeat = 7
+kind_number KRepeatPrevious = 8
+kind_number KSkip = 9
+kind_number KStreamBytes = 10
+kind_number KClearedWeak = 11
+kind_number KWeak = 12
+kind_number KPending = 13
 
 abbrev pub triple : ℕ → ℕ → ℕ → Fields
 triple k a b = record { kind = k; a = a; b = b }

@@ -1,6 +1,6 @@
 // References and slot values.
 ghost use Rattle.std.specs.Prelude.{◌≡◌, ◌≤◌};
-ghost use Rattle.tables.specs.Values.{triple, ref_fields, fields_of, width_of};
+ghost use Rattle.tables.specs.Values.{triple, kind_number, ref_fields, fields_of, width_of};
 
 // What a reference stands for.
 #[derive(Clone, Copy)]
@@ -33,7 +33,25 @@ pub enum SlotValue {
     PendingRef(u64),
 }
 
-// A value as a record has it: the kind, a and b that the order fixes. The kind is a number, as C reads it; `SlotValue` is the enum.
+// The kinds of values, with the numbers that the order fixes: `Raw` moves on in its object, and `RawInPlace` does not.
+#[derive(Clone, Copy, PartialEq, Eq)]
+pub enum ValueKind {
+    Object = 1,
+    Root = 2,
+    ReadOnly = 3,
+    Attached = 4,
+    Raw = 5,
+    RawInPlace = 6,
+    Repeat = 7,
+    RepeatPrevious = 8,
+    Skip = 9,
+    StreamBytes = 10,
+    ClearedWeak = 11,
+    Weak = 12,
+    Pending = 13,
+}
+
+// A value as a record has it: the kind, a and b that the order fixes. The kind is the number of a `ValueKind`, as C reads it.
 #[derive(Clone, Copy)]
 pub struct Fields {
     pub kind: u64,
@@ -42,10 +60,14 @@ pub struct Fields {
 }
 
 impl Fields {
-    fn new(kind: u64, a: u64, b: u64) -> Fields
-        ensures { result ≡ triple kind a b }
+    fn new(kind: ValueKind, a: u64, b: u64) -> Fields
+        ensures { result ≡ triple (kind_number kind) a b }
     {
-        Fields { kind, a, b }
+        Fields {
+            kind: kind as u64,
+            a,
+            b,
+        }
     }
 }
 
@@ -55,10 +77,10 @@ impl From<Ref> for Fields {
 
     fn from(r: Ref) -> Fields {
         match r {
-            Ref::Object(id) => Fields::new(1, id, 0),
-            Ref::Root(i) => Fields::new(2, i, 0),
-            Ref::RoRef(c, o) => Fields::new(3, c, o),
-            Ref::Attached(i) => Fields::new(4, i, 0),
+            Ref::Object(id) => Fields::new(ValueKind::Object, id, 0),
+            Ref::Root(i) => Fields::new(ValueKind::Root, i, 0),
+            Ref::RoRef(c, o) => Fields::new(ValueKind::ReadOnly, c, o),
+            Ref::Attached(i) => Fields::new(ValueKind::Attached, i, 0),
         }
     }
 }
@@ -70,24 +92,17 @@ impl From<SlotValue> for Fields {
     fn from(v: SlotValue) -> Fields {
         match v {
             SlotValue::Ref(r) => r.into(),
-            SlotValue::Raw(r) if r.advances => Fields::new(5, r.off, r.len),
-            SlotValue::Raw(r) => Fields::new(6, r.off, r.len),
-            SlotValue::Repeat(n, k) => Fields::new(7, n as u64, k),
-            SlotValue::RepeatPrev(n) => Fields::new(8, n as u64, 0),
-            SlotValue::Skip(n) => Fields::new(9, n as u64, 0),
-            SlotValue::StreamBytes(n) => Fields::new(10, n as u64, 0),
-            SlotValue::ClearedWeak => Fields::new(11, 0, 0),
-            SlotValue::WeakRef(k) => Fields::new(12, k, 0),
-            SlotValue::PendingRef(n) => Fields::new(13, n, 0),
+            SlotValue::Raw(r) if r.advances => Fields::new(ValueKind::Raw, r.off, r.len),
+            SlotValue::Raw(r) => Fields::new(ValueKind::RawInPlace, r.off, r.len),
+            SlotValue::Repeat(n, k) => Fields::new(ValueKind::Repeat, n as u64, k),
+            SlotValue::RepeatPrev(n) => Fields::new(ValueKind::RepeatPrevious, n as u64, 0),
+            SlotValue::Skip(n) => Fields::new(ValueKind::Skip, n as u64, 0),
+            SlotValue::StreamBytes(n) => Fields::new(ValueKind::StreamBytes, n as u64, 0),
+            SlotValue::ClearedWeak => Fields::new(ValueKind::ClearedWeak, 0, 0),
+            SlotValue::WeakRef(k) => Fields::new(ValueKind::Weak, k, 0),
+            SlotValue::PendingRef(n) => Fields::new(ValueKind::Pending, n, 0),
         }
     }
-}
-
-// The conversion of a value under the name that other crates cite.
-pub fn fields_of(v: SlotValue) -> Fields
-    ensures { result ≡ fields_of v }
-{
-    v.into()
 }
 
 // How many bytes of its object an item with this value takes, `ts` bytes to a word.

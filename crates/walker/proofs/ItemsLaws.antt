@@ -14,25 +14,37 @@ use Rattle.sheet.specs.Sheet.{number}
 use Rattle.sheet.specs.Tests.{is_deferred}
 use Rattle.tables.specs.declared.values.SlotValue.{SlotValue}
 use Rattle.tables.specs.Values.{width_of}
-use Rattle.tables.specs.Records.{room, field}
 use Rattle.definition.specs.Memory.{Input, word, Mem, Out, got, no, Reader, and_then, moved, byte}
 use Rattle.definition.specs.Slots.{place_item}
-use Rattle.definition.specs.Object.{peek, items}
+use Rattle.definition.specs.Object.{peek, items, closed}
 use Rattle.definition.specs.Reference.{ref_at}
 use Rattle.laws.specs.Sound.{Proper, Sound, Counted, Referred}
 use Rattle.laws.specs.Leaves.{tag_inside}
+use Rattle.laws.specs.Steps.{kept_trans}
 use Rattle.laws.specs.Keeps.{sheet_gives, word_low, Placed}
 use Rattle.laws.proofs.Theorems.{ref_keeps, place_item_keeps}
 use Rattle.laws.specs.Numbered.{Numbered, FreshValue, place_item-numbered}
 use Rattle.laws.specs.Addresses.{Ascending}
 use Rattle.laws.proofs.Fuel.{items_fuel}
-use Rattle.readers.proofs.ViewLaws.{then_got}
-use Rattle.objects.specs.Index.{Indexed}
 use Rattle.heads.specs.declared.heads.Head.{Head}
-use Rattle.walker.specs.Ready.{slot_in, item_in}
-use Rattle.walker.proofs.ScratchLaws.{Scratch, Index, InOrder}
+use Rattle.readers.proofs.ViewLaws.{then_no}
+use Rattle.objects.specs.declared.item.Level.{Level}
+use Rattle.leaves.specs.Leaf.{slot_in}
+use Rattle.walker.specs.Ready.{item_in}
+use Rattle.walker.proofs.ScratchLaws.{Scratch, InOrder}
 use Rattle.walker.proofs.GroundLaws.{ground_ascends, place_item_ground}
 use Rattle.walker.proofs.ReadyLaws.{Went, went, Free, None, moved_kept, order_ref}
+
+-- a reading that two readers make one after the other
+pub record Through {A B : Type 0} (o : Out A) (f : A → Reader B) (out : Out B) : Type 0 where
+  pub value : A
+  pub between : Mem
+  pub first : got value between ≡ o
+  pub second : out ≡ f value between
+
+pub through : {A B : Type 0} (o : Out A) (f : A → Reader B) {v : B} {m' : Mem} → got v m' ≡ and_then o f → Through o f (got v m')
+through (got a m) f e = record { value = a; between = m; first = refl; second = e }
+through (no n q m) f e = absurd (let z : ◌≡◌ {A = ℕ} 0 1 = cc in omega arith)
 
 -- the code's test of the byte at the cursor
 module _ (v p : List ℕ) (at : ℕ) {b : ℕ} {t : Bool} (eb : b ≡ peek_at p at) (et : t ≡ eqb (number v k_deferred) b) where
@@ -44,28 +56,8 @@ module _ (v p : List ℕ) (at : ℕ) {b : ℕ} {t : Bool} (eb : b ≡ peek_at p 
 
 -- ---- an item
 
-module _ (x : Input) (d o done : ℕ) (m : Mem) where
-  pub slot_got : {v : SlotValue} {m1 : Mem} {out : Out ℕ} → got v m1 ≡ ref_at x (64 - d) m → out ≡ place_item x o done v m1 → out ≡ slot_in x (ref_at x (64 - d)) o done m
-  slot_got e h = then_got (place_item x o done) e h
-
 pub word_some : {x : Input} {h : List Head} {sc : Scratch} {m : Mem} → InOrder x h m sc → (word x ≤ 8) × (0 < word x)
 word_some g = (word_low g.proper, ⊎_elim (λ e. omega arith) (λ e. omega arith) (sheet_gives g.proper).word)
-
--- what `place_item` asks, after a reference one level down
-module _ {x : Input} {h : List Head} {sc : Scratch} {m : Mem} (g : InOrder x h m sc) (d o done : ℕ) (b : o < m.objects.count) (s : 0 < m.slots.count) where
-  pub place_asks : {v : SlotValue} {m1 : Mem} {sc1 : Scratch} → got v m1 ≡ ref_at x (64 - d) m → done < 2 ^ 60 → length m.slots.rows < 2 ^ 64
-      → Index m1.slots m1.addresses sc1 → (w : ℕ) → w ≡ word x
-      → ((o < room 4 m1.objects.rows) × (field 4 m1.objects.rows o 3 < 2 ^ 63) × (m1.waiting < 2 ^ 63) × (w ≤ 8) × (0 < w) × (done + m1.skip + width_of w v < 2 ^ 64))
-      × (((0 < m1.slots.count) × (m1.slots.count ≤ room 6 m1.slots.rows))
-      × Indexed m1.slots.rows m1.slots.count (sc1.pending))
-  place_asks {v} {m1} e low len i w ew =
-      let z : Went x m (Referred x m) Free v m1 = order_ref g (64 - d) e in
-      let so = z.kept.sound in
-      let up = z.kept.onward in
-      let ws = word_some g in
-      let count_fits : m1.slots.count < 2 ^ 63 = omega (arith, so.slots_fit, up.slots_size) in
-      let wide : width_of w v ≤ 2 ^ 34 = rw ew z.more.narrow in
-      ((omega (arith, so.objects_fit, up.objects_up), omega (arith, z.kept.counted.count_low o), omega (arith, so.waiting_low), omega (arith, ws.0), omega (arith, ws.1), omega (arith, so.skip_low, so.within, g.proper.short)), ((omega (arith, up.slots_up), omega (arith, so.slots_fit)), i.pending))
 
 -- what a value that was placed keeps
 module _ {x : Input} {m : Mem} (s : Sound x m) (c : Counted m) (u : Numbered m) (a : Ascending x m.addresses m.alloc) (p : Proper x) where
@@ -79,14 +71,6 @@ pub record Added (done n : ℕ) (m : Mem) (d : ℕ) (m' : Mem) : Type 0 where
   pub rises : done ≤ d
   pub less : d ≤ n + 2 ^ 55
 
-slot_keeps : {x : Input} {h : List Head} {sc : Scratch} {m : Mem} → InOrder x h m sc → (k o done n : ℕ) → o < m.objects.count → done < n → (u : Out SlotValue) → u ≡ ref_at x k m → {d1 : ℕ} {m1 : Mem} → got d1 m1 ≡ and_then u (place_item x o done) → Went x m (Added done n m) None d1 m1
-slot_keeps {x} {h} {sc} {m} g k o done n b low (got v m2) e {d1} {m1} f =
-    let z : Went x m (Referred x m) Free v m2 = order_ref g k e in
-    let b2 : o < m2.objects.count = omega (arith, z.kept.onward.objects_up) in
-    let y : Went x m2 (Placed done m2) None d1 m1 = place_went z.kept.sound z.kept.counted z.numbered z.ascending g.proper o done b2 v z.more.narrow z.fresh f in
-    record { kept = record { sound = y.kept.sound; counted = y.kept.counted; onward = omega (arith, z.kept.onward, y.kept.onward) }; more = record { reads = omega (arith, z.more.reads, y.more.at_same); rises = y.more.rises; less = omega (arith, y.more.bound, z.kept.sound.skip_low, z.kept.sound.within, g.proper.short) }; numbered = y.numbered; ascending = y.ascending; fresh = tt }
-slot_keeps g k o done n b low (no r q m2) e f = absurd (let z : ◌≡◌ {A = ℕ} 0 1 = cc in omega arith)
-
 abbrev WentOut : Input → Mem → (ℕ → Mem → Type 0) → Out ℕ → Type 0
 WentOut x m P (got d m') = Went x m P None d m'
 WentOut x m P (no n q m') = Unit {0}
@@ -96,6 +80,13 @@ WentOut x m P (no n q m') = Unit {0}
 -- the definition's items, of which so many bytes are left in the payload
 abbrev pub items_from : Input → Reader SlotValue → ℕ → ℕ → ℕ → Reader ℕ
 items_from x r o n done m = items x r o n (length x.payload - m.at + 1) done m
+
+-- an object, of which so many bytes have been read: its other items, which fill it
+abbrev pub filled : Input → Reader SlotValue → Level → Out ℕ → Out SlotValue
+filled x r l u = and_then (and_then u (items_from x r l.object l.size)) (closed l.object l.tag l.size)
+
+pub filled_no : (x : Input) (r : Reader SlotValue) (l : Level) {u : Out ℕ} {n q : ℕ} {m : Mem} → no n q m ≡ u → no n q m ≡ filled x r l u
+filled_no x r l e = then_no (closed l.object l.tag l.size) (then_no (items_from x r l.object l.size) e)
 
 module _ (x : Input) (r : Reader SlotValue) (o n done : ℕ) (m : Mem) where
   one_more : length x.payload - m.at + 1 ≡ suc (length x.payload - m.at)
@@ -129,7 +120,11 @@ module _ {x : Input} {h : List Head} {sc : Scratch} {m : Mem} (g : InOrder x h m
   r = ref_at x (64 - d)
 
   slot_went : {d1 : ℕ} {m1 : Mem} → got d1 m1 ≡ slot_in x r o done m → Went x m (Added done n m) None d1 m1
-  slot_went f = slot_keeps g (64 - d) o done n b low (ref_at x (64 - d) m) refl f
+  slot_went {d1} {m1} f =
+      let t = through (r m) (place_item x o done) f in
+      let z : Went x m (Referred x m) Free t.value t.between = order_ref g (64 - d) t.first in
+      let y : Went x t.between (Placed done t.between) None d1 m1 = place_went z.kept.sound z.kept.counted z.numbered z.ascending g.proper o done (omega (arith, z.kept.onward.objects_up)) t.value z.more.narrow z.fresh t.second in
+      record { kept = kept_trans z.kept y.kept; more = record { reads = omega (arith, z.more.reads, y.more.at_same); rises = y.more.rises; less = omega (arith, y.more.bound, z.kept.sound.skip_low, z.kept.sound.within, g.proper.short) }; numbered = y.numbered; ascending = y.ascending; fresh = tt }
 
   -- after an item the rest of the bytes is enough for the rest of the items
   enough : (u : Out ℕ) → u ≡ slot_in x r o done m → and_then u (items_from x r o n) ≡ and_then u (items x r o n (length x.payload - m.at))

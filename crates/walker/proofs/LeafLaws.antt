@@ -9,24 +9,23 @@ use Rattle.readers.specs.declared.state.State.{State}
 use Rattle.readers.specs.declared.walker.Walker.{Walker}
 use Rattle.readers.specs.Views.{Lent, mem}
 use Rattle.readers.specs.Lent.{input_of, lent_of, Kept}
-use Rattle.leaves.specs.Leaf.{placed_in, StaysInOrder}
-use Rattle.walker.specs.Ready.{Ready, After, slot_in}
+use Rattle.objects.specs.declared.item.Level.{Level}
+use Rattle.leaves.specs.Leaf.{slot_in, StaysInOrder}
+use Rattle.walker.specs.Ready.{Ready, After}
 use Rattle.walker.proofs.ScratchLaws.{InOrder, scratch_of, order_of, same_scratch, ready_on}
 
--- a reference where levels are left
-pub one_level : (x : Input) (d : ℕ) → d < 64 → (m : Mem) → reference x (ref_at x (63 - d)) m ≡ ref_at x (64 - d) m
-unfolding ref_at
-one_level x d low m = let e : 64 - d ≡ suc (63 - d) = omega arith in rw e
+-- a reference at depth d where levels are left, as it is and as an item
+module _ (x : Input) (d : ℕ) (m : Mem) where
+  pub one_level : d < 64 → reference x (ref_at x (63 - d)) m ≡ ref_at x (64 - d) m
+  unfolding ref_at
+  one_level low = let e : 64 - d ≡ suc (63 - d) = omega arith in rw e
 
--- as an item
-pub leaf_slot : (x : Input) (d o done : ℕ) → d < 64 → (m : Mem) → placed_in x (reference x (ref_at x (63 - d))) o done m ≡ slot_in x (ref_at x (64 - d)) o done m
-unfolding ref_at
-leaf_slot x d o done low m = let e : 64 - d ≡ suc (63 - d) = omega arith in rw e
+  pub leaf_slot : (l : Level) → d < 64 → slot_in x (reference x (ref_at x (63 - d))) l.object l.done m ≡ slot_in x (ref_at x (64 - d)) l.object l.done m
+  leaf_slot l low = rw (one_level low)
 
--- two levels
-pub weak_slot : (x : Input) (d o done : ℕ) → d < 63 → (m : Mem) → placed_in x (reference x (reference x (ref_at x (62 - d)))) o done m ≡ slot_in x (ref_at x (64 - d)) o done m
-unfolding ref_at
-weak_slot x d o done low m = let e : 64 - d ≡ suc (suc (62 - d)) = omega arith in rw e
+  pub weak_slot : (l : Level) → d < 63 → slot_in x (reference x (reference x (ref_at x (62 - d)))) l.object l.done m ≡ slot_in x (ref_at x (64 - d)) l.object l.done m
+  unfolding ref_at
+  weak_slot l low = let e : 64 - d ≡ suc (suc (62 - d)) = omega arith in rw e
 
 -- what a leaf's reader leaves
 pub leaf_after : {A : Type 0} {w w' : Walker} {s : State} → Ready w s → (r : A × State) → Kept w w' → StaysInOrder w s (Some r) w' → After w (Ok r) w'

@@ -9,17 +9,16 @@ use Rattle.tables.specs.declared.values.SlotValue.{SlotValue}
 use Rattle.definition.specs.Memory.{Input, word, Mem, Out, got, moved}
 use Rattle.definition.specs.Object.{read_map, keep_map, object}
 use Rattle.definition.specs.Reference.{ref_at}
-use Rattle.laws.specs.Sound.{Proper, Kept, Holds, Referred}
+use Rattle.laws.specs.Sound.{Kept, Holds, Referred}
 use Rattle.laws.specs.Keeps.{More}
 use Rattle.laws.proofs.Theorems.{ref_keeps, object_keeps, map_keeps, keep_map_keeps}
 use Rattle.laws.specs.Numbered.{Numbered, FreshValue, Ordered, ref_numbered, object-numbered, map_numbered, keep_map-numbered}
 use Rattle.laws.specs.Addresses.{Ascending, StaysAscending, ref_ascending, object_ascending, map_ascending}
 use Rattle.heads.specs.declared.heads.Head.{Head}
-use Rattle.heads.specs.Heads.{Heads}
 use Rattle.std.specs.Prelude.{Ok}
 use Rattle.readers.specs.declared.state.State.{State}
 use Rattle.readers.specs.declared.walker.Walker.{Walker}
-use Rattle.readers.specs.Views.{Answer, mem, moved_to}
+use Rattle.readers.specs.Views.{mem, moved_to}
 use Rattle.readers.specs.Lent.{input_of, lent_of}
 use Rattle.walker.specs.Ready.{Ready, After}
 use Rattle.walker.proofs.ScratchLaws.{Scratch, Index, InOrder, order_of, ready_of, ready_on, got_index}
@@ -98,7 +97,7 @@ module _ {w : Walker} {s : State} (g : Ready w s) where
   pub moved_ready : s.at < length w.payload.now → Ready w (moved_to (s.at + 1) s)
   moved_ready l = ready_of (order_moved (order_of g) l)
 
--- what a reader that gave a value leaves, from what it says of the value, of what is only read and of scratch
-pub ready_after : {A : Type 0} {w w' : Walker} {r : Answer A} {v : A × State} {m : Mem} {P Q : A → Mem → Type 0} → Proper (input_of w) → Heads w.sheet.now w.heads.now → r ≡ Ok v → After w r w' → Went (input_of w) m P Q v.0 (mem v.1 (lent_of w')) → Ready w' v.1
-ready_after p h e a z =
-    ready_on a.fixed (record { proper = p; decoded = h; sound = z.kept.sound; counted = z.kept.counted; numbered = z.numbered; ascending = z.ascending; index = got_index e a })
+-- after a reference that gave a value
+pub value_ready : {w : Walker} {s : State} → Ready w s → (k : ℕ) → {v : SlotValue} {t : State} {w₁ : Walker} → After w (Ok (v, t)) w₁ → got v (mem t (lent_of w₁)) ≡ ref_at (input_of w) k (mem s (lent_of w)) → Ready w₁ t
+value_ready g k i e =
+    let z = ref_went g k e in ready_on i.fixed (order_after (order_of g) z.kept z.numbered z.ascending (got_index i))

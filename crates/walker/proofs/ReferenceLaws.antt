@@ -2,23 +2,23 @@
 -- object change no slot. Assumes nothing.
 use mathlib.Core.Path.{◌≡◌, refl, sym, ap, subst, ◌∙◌}
 use mathlib.Core.Bool.{Bool, true, false}
-use mathlib.Core.List.{List}
 use Prim.Native.Nat.{ℕ, suc, ◌+◌, ◌-◌, ◌^◌, ◌<◌, ◌≤◌}
 use native.Mathlib.Omega.{arith}
 use denote.Enum.Bare.{sameb, same_true, same_false}
 use borrow.Author.Tests.{lt-ltb, le-ltb, eqb-true}
 use lib.Dec.{ltb, eqb}
 use lib.ListN.{length, get_or}
-use Rattle.std.specs.Prelude.{Option, Some, None, Ok, Err}
+use Rattle.std.specs.Prelude.{Option, Some, None, Ok, Err, IfSome, IsNone}
+use Rattle.std.specs.Option.{ok_or}
 use Rattle.stream.specs.Bytes.{raw_at}
 use Rattle.stream.specs.declared.putint.Int.{Int}
 use Rattle.stream.specs.PutInt.{int_at}
 use Rattle.std.proofs.Common.{rules}
 use Rattle.heads.specs.contracts.kinds.Kind.{the_type}
 use Rattle.heads.specs.declared.kinds.Kind.{Kind}
-use Rattle.heads.specs.declared.kinds.Kind.TheVariants.{NewObject}
+use Rattle.heads.specs.declared.kinds.Kind.TheVariants.{NewObject as IsNew}
 use Rattle.heads.specs.Kinds.{kind_number, new_object, backref, legacy_backref, legacy_backref_with_skip, next_chunk, alignment, hot, hot_with_skip, root_array, root_constant, root_constant_with_skip, read_only, attached, builtin, external, api, internal, deoptimizer, stream_bytes, embedder_fields, off_heap_target, cache, register_pending, cleared_weak, weak_prefix, pointer_prefix, dispatch_entry, fixed_raw, variable_raw, skip, fixed_repeat, fixed_repeat_root, repeat_previous, variable_repeat, variable_repeat_previous, variable_repeat_root, meta_map}
-use Rattle.heads.specs.Heads.{head_of, head_at}
+use Rattle.heads.specs.Heads.{head_of}
 use Rattle.tables.specs.declared.values.Ref.{Ref}
 use Rattle.tables.specs.declared.values.Ref.TheVariants.{Root}
 use Rattle.tables.specs.declared.values.SlotValue.{SlotValue}
@@ -44,8 +44,10 @@ use Rattle.readers.specs.declared.prefix.Held.TheVariants.{Plain, Weak, Repeated
 use Rattle.readers.specs.declared.prefix.Prefix.{Prefix}
 use Rattle.readers.specs.declared.prefix.Prefix.TheVariants.{Inner, Root as RootHeld, Other}
 use Rattle.refusals.specs.Numbers.{number_of}
-use Rattle.readers.specs.Views.{Lent, Answer, mem, seen, moved_to}
-use Rattle.readers.specs.Lent.{input_of, lent_of, Kept, Addressed}
+use Rattle.readers.specs.Views.{Lent, Answer, mem, seen, moved_to, cut_at}
+use Rattle.readers.specs.Lent.{input_of, lent_of, Kept, Addressed, HeadAt}
+use Rattle.objects.specs.declared.head.NewObject.{NewObject}
+use Rattle.objects.specs.Head.{NewAt}
 use Rattle.readers.specs.Simple.{Simple}
 use Rattle.readers.specs.Prefix.{held, Holdless, Begins}
 use Rattle.readers.proofs.ViewLaws.{then_got, then_no}
@@ -229,149 +231,149 @@ head-object : (x : Input) (r : Reader SlotValue) (tag kind a : ℕ) (m : Mem) �
 unfolding by_head
 head-object x r tag kind a m e = rw e
 
-module _ {x : Input} {h : List CodeHead} {sc : Scratch} {m : Mem} (g : InOrder x h m sc) (l : m.at < length x.payload) (b : ℕ) (e : (b ≡ get_or x.payload m.at 0) × (b < 256)) where
-  -- the head byte's kind and argument
-  ref_head : (d : ℕ) → d ≤ 64 → by_head x (ref_at x (64 - d)) m.at (kind_number (head_at h b).kind) (head_at h b).argument (moved (m.at + 1) m) ≡ ref_at x (65 - d) m
-  ref_head d low = rw (g.decoded.kind b e.1, g.decoded.argument b e.1) (ref_byte x d m low l b e.0)
+-- the head byte's kind and argument
+module _ {w : Walker} {s : State} (g : Ready w s) {head : CodeHead} (r : HeadAt w s.at head) where
+  ref_head : (d : ℕ) → d ≤ 64 → by_head (input_of w) (ref_at (input_of w) (64 - d)) s.at (kind_number head.kind) head.argument (mem (moved_to (s.at + 1) s) (lent_of w)) ≡ ref_at (input_of w) (65 - d) (mem s (lent_of w))
+  ref_head d low =
+      let b : ℕ = get_or w.payload.now s.at 0 in
+      rw (r.is, g.decoded.kind b r.low, g.decoded.argument b r.low) (ref_byte (input_of w) d (mem s (lent_of w)) low r.inside b refl)
 
-  pub at_object : (d : ℕ) → d ≤ 64 → kind_number (head_at h b).kind ≡ new_object → object x (ref_at x (64 - d)) ((head_at h b).argument) m.at (moved (m.at + 1) m) ≡ ref_at x (65 - d) m
-  at_object d low k = head-object x (ref_at x (64 - d)) m.at _ _ (moved (m.at + 1) m) k ∙ ref_head d low
+  pub argument_low : head.argument < 65536
+  argument_low = let b : ℕ = get_or w.payload.now s.at 0 in rw (r.is, g.decoded.argument b r.low) (head_fits w.sheet.now b r.low).small
 
-  pub at_space : kind_number (head_at h b).kind ≡ new_object → (head_at h b).argument < 256
-  at_space k = rw (g.decoded.argument b e.1) ((head_fits x.sheet b e.1).space (sym (g.decoded.kind b e.1) ∙ k))
-
-  pub argument_low : (head_at h b).argument < 65536
-  argument_low = rw (g.decoded.argument b e.1) (head_fits x.sheet b e.1).small
-
-  module _ (other : kind_number (head_at h b).kind ≡ new_object → ⊥) where
-    is_simple : Holdless (kind_number (head_at h b).kind) → Simple (kind_number (head_at h b).kind) (head_at h b).argument
+  module _ (other : kind_number head.kind ≡ new_object → ⊥) where
+    is_simple : Holdless (kind_number head.kind) → Simple (kind_number head.kind) head.argument
     is_simple k =
-        rw (g.decoded.kind b e.1, g.decoded.argument b e.1)
-        (head_simple x.sheet b e.1 (λ z. other (g.decoded.kind b e.1 ∙ z)) (rw (g.decoded.kind b e.1) at k))
+        let b : ℕ = get_or w.payload.now s.at 0 in
+        let z : kind_number head.kind ≡ (head_of w.sheet.now b).kind = rw r.is (g.decoded.kind b r.low) in
+        rw (z, r.is, g.decoded.argument b r.low) (head_simple w.sheet.now b r.low (λ e. other (z ∙ e)) (rw z at k))
+
+    abbrev m : Mem
+    m = mem (moved_to (s.at + 1) s) (lent_of w)
 
     -- what the head gives leaves the slots as they were, where its inner reference does
-    head-idle : Idle (moved (m.at + 1) m) (by_head x (ref_at x 0) m.at (kind_number (head_at h b).kind) (head_at h b).argument (moved (m.at + 1) m))
-    head-idle = by_head_still x (ref_at x 0) (none_still x) m.at _ _ other (moved (m.at + 1) m)
+    head-idle : Idle m (by_head (input_of w) (ref_at (input_of w) 0) s.at (kind_number head.kind) head.argument m)
+    head-idle = by_head_still (input_of w) (ref_at (input_of w) 0) (none_still (input_of w)) s.at _ _ other m
 
-    head_indexed : {r : Out SlotValue} → r ≡ by_head x (ref_at x 0) m.at (kind_number (head_at h b).kind) (head_at h b).argument (moved (m.at + 1) m) → OutIndex r sc
-    head_indexed q = idle_index (moved (m.at + 1) m) sc (order_moved g l).index q head-idle
+    head_indexed : {o : Out SlotValue} → o ≡ by_head (input_of w) (ref_at (input_of w) 0) s.at (kind_number head.kind) head.argument m → OutIndex o (scratch_of w)
+    head_indexed q = idle_index m (scratch_of w) (order_moved (order_of g) r.inside).index q head-idle
 
     -- an inner reference may start where a prefix has been read: with no levels left it is refused there
-    inner_ready : (k : Held) (m' : Mem) → ((r : Reader SlotValue) → (r >>= held k) m' ≡ by_head x r m.at (kind_number (head_at h b).kind) (head_at h b).argument (moved (m.at + 1) m)) → InOrder x h m' sc
+    inner_ready : (k : Held) (m' : Mem) → ((inner : Reader SlotValue) → (inner >>= held k) m' ≡ by_head (input_of w) inner s.at (kind_number head.kind) head.argument m) → InOrder (input_of w) w.heads.now m' (scratch_of w)
     unfolding ref_at
     inner_ready k m' q =
-        let z : no 6 m'.at m' ≡ by_head x (ref_at x 0) m.at (kind_number (head_at h b).kind) (head_at h b).argument (moved (m.at + 1) m) = q (ref_at x 0) in
-        let w : no 6 m'.at m' ≡ ref_at x 1 m = z ∙ ref_head 64 (omega arith) in
-        order_after g (subst (Holds x m (Referred x m)) (sym w) (ref_keeps g.proper 1 m g.sound g.counted))
-        (subst (Ordered Free) (sym w) (ref_numbered g.proper m g.sound g.counted g.numbered 1))
-        (subst (StaysAscending x) (sym w) (ref_ascending g.proper m g.sound g.counted g.ascending 1))
-        (idle_of (moved (m.at + 1) m) sc (order_moved g l).index m' (same_no records_of {m = moved (m.at + 1) m} {m' = m'} z head-idle))
+        let x : Input = input_of w in
+        let m₀ : Mem = mem s (lent_of w) in
+        let z : no 6 m'.at m' ≡ by_head x (ref_at x 0) s.at (kind_number head.kind) head.argument m = q (ref_at x 0) in
+        let y : no 6 m'.at m' ≡ ref_at x 1 m₀ = z ∙ ref_head 64 (omega arith) in
+        order_after (order_of g) (subst (Holds x m₀ (Referred x m₀)) (sym y) (ref_keeps g.proper 1 m₀ g.sound g.counted))
+        (subst (Ordered Free) (sym y) (ref_numbered g.proper m₀ g.sound g.counted g.numbered 1))
+        (subst (StaysAscending x) (sym y) (ref_ascending g.proper m₀ g.sound g.counted g.ascending 1))
+        (idle_of m (scratch_of w) (order_moved (order_of g) r.inside).index m' (same_no records_of {m = m} {m' = m'} z head-idle))
 
--- ---- the bounds that the readers ask
+-- ---- a new object
 
-simple_fits : {x : Input} {h : List CodeHead} {sc : Scratch} {m : Mem} → InOrder x h m sc → m.at < length x.payload → (m.skip < 2 ^ 63) × (m.pending < 2 ^ 63)
-simple_fits g l = (omega (arith, g.sound, g.proper), omega (arith, g.sound, g.proper))
+pub new_at : {w : Walker} {at : ℕ} {head : CodeHead} → HeadAt w at head → kind_number head.kind ≡ new_object → NewAt w at (record { tag = at; space = head.argument })
+new_at r k = record { inside = r.inside; low = r.low; kind = rw r.is at k; is = rw r.is }
 
-module _ {w : Walker} {s : State} (g : Ready w s) (l : s.at < length w.payload.now) (b : ℕ) (e : (b ≡ get_or w.payload.now s.at 0) × (b < 256)) (k : kind_number (head_at w.heads.now b).kind ≡ new_object) where
-  pub ref_object : (d : ℕ) → d ≤ 64 → object (input_of w) (ref_at (input_of w) (64 - d)) (head_at w.heads.now b).argument s.at (mem (moved_to (s.at + 1) s) (lent_of w)) ≡ ref_at (input_of w) (65 - d) (mem s (lent_of w))
-  ref_object d low = at_object (order_of g) l b e d low k
+module _ {w : Walker} {s : State} (g : Ready w s) {new : NewObject} (n : NewAt w s.at new) where
+  pub ref_object : (d : ℕ) → d ≤ 64 → object (input_of w) (ref_at (input_of w) (64 - d)) new.space new.tag (mem (moved_to (s.at + 1) s) (lent_of w)) ≡ ref_at (input_of w) (65 - d) (mem s (lent_of w))
+  ref_object d low =
+      let x : Input = input_of w in
+      rw n.is (head-object x (ref_at x (64 - d)) s.at _ _ (mem (moved_to (s.at + 1) s) (lent_of w)) n.kind ∙ ref_head g (record { inside = n.inside; low = n.low; is = refl }) d low)
 
-  pub space_low : (head_at w.heads.now b).argument < 256
-  space_low = at_space (order_of g) l b e k
+  pub space_low : new.space < 256
+  space_low =
+      let b : ℕ = get_or w.payload.now s.at 0 in
+      rw (n.is, g.decoded.argument b n.low) ((head_fits w.sheet.now b n.low).space (sym (g.decoded.kind b n.low) ∙ n.kind))
 
 -- ---- after the head byte
 
--- the state after it
-abbrev pub next : State → State
-next s =
-    record
-    { at = s.at + 1; objects = s.objects; slots = s.slots; values = s.values; addresses = s.addresses; pending = s.pending; waiting = s.waiting; skip = s.skip; alignment = s.alignment }
+-- the payload has ended
+pub ref_cut : (w : Walker) (s : State) {d : ℕ} → d ≤ 64 → (o : Option CodeHead) (q : Refused) {e : Refused} → (IsNone o → length w.payload.now ≤ s.at) → Err e ≡ ok_or o q → q ≡ cut_at (length w.payload.now) s → no (number_of e.refusal) e.place (mem e.state (lent_of w)) ≡ ref_at (input_of w) (65 - d) (mem s (lent_of w))
+ref_cut w s {d} h None q {e} f z y =
+    let k : e ≡ cut_at (length w.payload.now) s = cc in
+    rw k (ref_end (input_of w) d (mem s (lent_of w)) h (f refl))
+ref_cut w s h (Some b) q f z y = absurd (let z : ◌≡◌ {A = ℕ} 0 1 = cc in omega arith)
 
 -- the code's test of a head
-opened_by : (k : Kind) → kind_number k ≡ new_object → k ≡ NewObject
-opened_by NewObject h = refl
+opened_by : (k : Kind) → kind_number k ≡ new_object → k ≡ IsNew
+opened_by IsNew h = refl
 opened_by _ h = absurd (omega (arith, h))
 
-module _ (k : Kind) {t : Bool} (e : t ≡ sameb the_type k NewObject) where
+module _ (k : Kind) {t : Bool} (e : t ≡ sameb the_type k IsNew) where
   pub is_new : t ≡ true → kind_number k ≡ new_object
-  is_new f = ap kind_number (same_true the_type (search rules) k NewObject (sym e ∙ f))
+  is_new f = ap kind_number (same_true the_type (search rules) k IsNew (sym e ∙ f))
 
   not_new : t ≡ false → kind_number k ≡ new_object → ⊥
-  not_new f h = same_false the_type k NewObject (sym e ∙ f) (opened_by k h)
+  not_new f h = same_false the_type k IsNew (sym e ∙ f) (opened_by k h)
 
 -- a head that opens no object, and what its prefix asks
-pub record Headed (w : Walker) (s : State) (b : ℕ) (p : Answer Prefix) (w₁ : Walker) : Type 0 where
+pub record Headed (w : Walker) (s : State) (head : CodeHead) (p : Answer Prefix) (w₁ : Walker) : Type 0 where
   pub ready : Ready w s
-  pub inside : s.at < length w.payload.now
-  pub byte : (b ≡ get_or w.payload.now s.at 0) × (b < 256)
-  pub other : kind_number (head_at w.heads.now b).kind ≡ new_object → ⊥
-  pub begins : Begins (input_of w) s.at (kind_number (head_at w.heads.now b).kind) (head_at w.heads.now b).argument (next s) (lent_of w) p (lent_of w₁)
+  pub read : HeadAt w s.at head
+  pub other : kind_number head.kind ≡ new_object → ⊥
+  pub begins : (tag : ℕ) → Begins (input_of w) tag (kind_number head.kind) head.argument (moved_to (s.at + 1) s) (lent_of w) p (lent_of w₁)
   pub kept : Kept w w₁
 
-pub head_read : {w : Walker} {s : State} {b : ℕ} {t : Bool} {w₁ : Walker} (p : Answer Prefix) → Ready w s → s.at < length w.payload.now → (b ≡ get_or w.payload.now s.at 0) × (b < 256) → t ≡ sameb the_type (head_at w.heads.now b).kind NewObject → t ≡ false
-    → record { begins : (tag : ℕ) → Begins (input_of w) tag (kind_number (head_at w.heads.now b).kind) (head_at w.heads.now b).argument (next s) (lent_of w) p (lent_of w₁); kept : Kept w w₁ }
-    → Headed w s b p w₁
-head_read {w} {s} {b} p g low e f n q =
-    record { ready = g; inside = low; byte = e; other = not_new (head_at w.heads.now b).kind f n; begins = q.begins s.at; kept = q.kept }
+pub head_read : {w : Walker} {s : State} {o : Option CodeHead} {head : CodeHead} {t : Bool} {w₁ : Walker} (p : Answer Prefix) → Ready w s → IfSome o (HeadAt w s.at) → o ≡ Some head → t ≡ sameb the_type head.kind IsNew → t ≡ false
+    → record { begins : (tag : ℕ) → Begins (input_of w) tag (kind_number head.kind) head.argument (moved_to (s.at + 1) s) (lent_of w) p (lent_of w₁); kept : Kept w w₁ }
+    → Headed w s head p w₁
+head_read {head = head} p g r i e f q =
+    record { ready = g; read = rw i at r; other = not_new head.kind e f; begins = q.begins; kept = q.kept }
 
-module _ {w : Walker} {s : State} {b : ℕ} {p : Answer Prefix} {w₁ : Walker} (c : Headed w s b p w₁) where
-  abbrev g : InOrder (input_of w) w.heads.now (mem s (lent_of w)) (scratch_of w)
-  g = order_of c.ready
-
+module _ {w : Walker} {s : State} {head : CodeHead} {p : Answer Prefix} {w₁ : Walker} (c : Headed w s head p w₁) where
   abbrev x : Input
   x = input_of w
 
   abbrev kind : ℕ
-  kind = kind_number (head_at w.heads.now b).kind
+  kind = kind_number head.kind
 
   abbrev a : ℕ
-  a = (head_at w.heads.now b).argument
+  a = head.argument
 
   -- what is lent after the prefix
   abbrev l₁ : Lent
   l₁ = lent_of w₁
 
   abbrev Begun : Answer Prefix → Type 0
-  Begun p = Begins x s.at kind a (next s) (lent_of w) p l₁
+  Begun p = Begins x s.at kind a (moved_to (s.at + 1) s) (lent_of w) p l₁
 
   is : (q : Answer Prefix) → p ≡ q → Begun q
-  is q z = subst Begun z c.begins
+  is q z = subst Begun z (c.begins s.at)
 
   -- a head that is no prefix
   pub other_simple : {t : State} → p ≡ Ok (Other, t) → Simple kind a
-  other_simple {t} q = is_simple g c.inside b c.byte c.other (is (Ok (Other, t)) q).0
+  other_simple {t} q = is_simple c.ready c.read c.other (is (Ok (Other, t)) q).0
 
   -- what that reader asks, in the state after the head
   pub other_asks : {t : State} → p ≡ Ok (Other, t) → (Addressed w₁ t.addresses) × (t.skip < 2 ^ 63) × (t.pending < 2 ^ 63)
   other_asks {t} q =
       let z = is (Ok (Other, t)) q in
-      let o : InOrder x w.heads.now (mem t l₁) (scratch_of w₁) = rw z.1 (subst (λ (l : Lent). InOrder x w.heads.now (mem (next s) l) (scratch_of w₁)) (sym z.2) (rw (same_scratch w w₁ c.kept.1) (order_moved g c.inside))) in
-      let n = simple_fits g c.inside in
-      (addressed (ready_on {w = w} {w' = w₁} {s' = t} c.kept.0 o), rw z.1 n.0, rw z.1 n.1)
+      let o : InOrder x w.heads.now (mem t l₁) (scratch_of w₁) = rw z.1 (subst (λ (l : Lent). InOrder x w.heads.now (mem (moved_to (s.at + 1) s) l) (scratch_of w₁)) (sym z.2) (rw (same_scratch w w₁ c.kept.1) (order_moved (order_of c.ready) c.read.inside))) in
+      (addressed (ready_on {w = w} {w' = w₁} {s' = t} c.kept.0 o), rw z.1 (omega (arith, c.ready.sound, c.ready.proper)), rw z.1 (omega (arith, c.ready.sound, c.ready.proper)))
 
   -- a prefix before an inner reference
   pub inner_starts : {h : Held} {t : State} → p ≡ Ok (Inner h, t) → Ready w₁ t
   inner_starts {h} {t} q =
-      ready_on c.kept.0 (rw (same_scratch w w₁ c.kept.1) (inner_ready g c.inside b c.byte c.other h (mem t l₁) (is (Ok (Inner h, t)) q)))
+      ready_on c.kept.0 (rw (same_scratch w w₁ c.kept.1) (inner_ready c.ready c.read c.other h (mem t l₁) (is (Ok (Inner h, t)) q)))
 
   module _ (d : ℕ) (deep : d ≤ 64) where
     pub ref_refused : {y : Refused} → p ≡ Err y → no (number_of y.refusal) y.place (mem y.state l₁) ≡ ref_at x (65 - d) (mem s (lent_of w))
-    ref_refused {y} q = is (Err y) q (ref_at x (64 - d)) ∙ ref_head g c.inside b c.byte d deep
+    ref_refused {y} q = is (Err y) q (ref_at x (64 - d)) ∙ ref_head c.ready c.read d deep
 
     -- what is said of an answer that changed no scratch
-    answered : {w₂ : Walker} (r : Answer SlotValue) → Kept w₁ w₂ → seen r (lent_of w₂) ≡ by_head x (ref_at x (64 - d)) s.at kind a (mem (next s) (lent_of w)) → seen r (lent_of w₂) ≡ by_head x (ref_at x 0) s.at kind a (mem (next s) (lent_of w))
+    answered : {w₂ : Walker} (r : Answer SlotValue) → Kept w₁ w₂ → seen r (lent_of w₂) ≡ by_head x (ref_at x (64 - d)) s.at kind a (mem (moved_to (s.at + 1) s) (lent_of w)) → seen r (lent_of w₂) ≡ by_head x (ref_at x 0) s.at kind a (mem (moved_to (s.at + 1) s) (lent_of w))
         → (seen r (lent_of w₂) ≡ ref_at x (65 - d) (mem s (lent_of w))) × After w r w₂
     answered {w₂} r k₂ f f₀ =
-        let i : OutIndex (seen r (lent_of w₂)) (scratch_of w) = head_indexed g c.inside b c.byte c.other f₀ in
-        (f ∙ ref_head g c.inside b c.byte d deep, after_of r (fixed_on c.kept.0 k₂.0) (rw (same_scratch w₁ w₂ k₂.1, same_scratch w w₁ c.kept.1) i))
+        let i : OutIndex (seen r (lent_of w₂)) (scratch_of w) = head_indexed c.ready c.read c.other f₀ in
+        (f ∙ ref_head c.ready c.read d deep, after_of r (fixed_on c.kept.0 k₂.0) (rw (same_scratch w₁ w₂ k₂.1, same_scratch w w₁ c.kept.1) i))
 
     pub ref_simple : {t : State} → p ≡ Ok (Other, t) → {w₂ : Walker} (r : Answer SlotValue) → Kept w₁ w₂ → ((inner : Reader SlotValue) → seen r (lent_of w₂) ≡ by_head (input_of w₁) inner s.at kind a (mem t l₁)) → (seen r (lent_of w₂) ≡ ref_at x (65 - d) (mem s (lent_of w))) × After w r w₂
     ref_simple {t} q {w₂} r k₂ f =
         let z = is (Ok (Other, t)) q in
-        let f₁ : (inner : Reader SlotValue) → seen r (lent_of w₂) ≡ by_head x inner s.at kind a (mem t l₁) = subst (λ (x₁ : Input). (inner : Reader SlotValue) → seen r (lent_of w₂) ≡ by_head x₁ inner s.at kind a (mem t l₁)) (same_input c.kept.0) f in
-        let f₂ : (inner : Reader SlotValue) → seen r (lent_of w₂) ≡ by_head x inner s.at kind a (mem (next s) l₁) = subst (λ (t : State). (inner : Reader SlotValue) → seen r (lent_of w₂) ≡ by_head x inner s.at kind a (mem t l₁)) z.1 f₁ in
-        let f₃ : (inner : Reader SlotValue) → seen r (lent_of w₂) ≡ by_head x inner s.at kind a (mem (next s) (lent_of w)) = subst (λ (l : Lent). (inner : Reader SlotValue) → seen r (lent_of w₂) ≡ by_head x inner s.at kind a (mem (next s) l)) z.2 f₂ in
-        answered r k₂ (f₃ (ref_at x (64 - d))) (f₃ (ref_at x 0))
+        let f₁ : (inner : Reader SlotValue) → seen r (lent_of w₂) ≡ by_head x inner s.at kind a (mem (moved_to (s.at + 1) s) (lent_of w)) = λ inner. f inner ∙ ap (λ (x : Input). by_head x inner s.at kind a (mem t l₁)) (same_input c.kept.0) ∙ ap (λ (t : State). by_head x inner s.at kind a (mem t l₁)) z.1 ∙ ap (λ (l : Lent). by_head x inner s.at kind a (mem (moved_to (s.at + 1) s) l)) z.2 in
+        answered r k₂ (f₁ (ref_at x (64 - d))) (f₁ (ref_at x 0))
 
     pub ref_root : {h : Held} {i : ℕ} {t : State} → p ≡ Ok (RootHeld h i, t) → {w₂ : Walker} (r : Answer SlotValue) → Kept w₁ w₂ → seen r (lent_of w₂) ≡ held h (IsRef (Root i)) (mem t l₁) → (seen r (lent_of w₂) ≡ ref_at x (65 - d) (mem s (lent_of w))) × After w r w₂
     ref_root {h} {i} {t} q r k₂ f =
@@ -380,16 +382,16 @@ module _ {w : Walker} {s : State} {b : ℕ} {p : Answer Prefix} {w₁ : Walker} 
 
     module _ {h : Held} {t : State} (q : p ≡ Ok (Inner h, t)) where
       ref_inner : {out : Out SlotValue} → out ≡ and_then (ref_at x (64 - d) (mem t l₁)) (held h) → out ≡ ref_at x (65 - d) (mem s (lent_of w))
-      ref_inner f = f ∙ is (Ok (Inner h, t)) q (ref_at x (64 - d)) ∙ ref_head g c.inside b c.byte d deep
+      ref_inner f = f ∙ is (Ok (Inner h, t)) q (ref_at x (64 - d)) ∙ ref_head c.ready c.read d deep
 
       pub ref_inner_no : {n i : ℕ} {m' : Mem} → no n i m' ≡ ref_at (input_of w₁) (64 - d) (mem t l₁) → no n i m' ≡ ref_at x (65 - d) (mem s (lent_of w))
       ref_inner_no f = ref_inner (then_no (held h) (at_input c.kept.0 (λ x. ref_at x (64 - d) (mem t l₁)) f))
 
       -- what is held is that of the inner reference, or a value record
-      pub ref_inner_got : {w₂ : Walker} {r₁ : Answer SlotValue} {v : SlotValue} {t₂ : State} → r₁ ≡ Ok (v, t₂) → After w₁ r₁ w₂ → got v (mem t₂ (lent_of w₂)) ≡ ref_at (input_of w₁) (64 - d) (mem t l₁) → {w₃ : Walker} (r : Answer SlotValue) → Kept w₂ w₃ → seen r (lent_of w₃) ≡ held h v (mem t₂ (lent_of w₂))
+      pub ref_inner_got : {w₂ : Walker} {v : SlotValue} {t₂ : State} → After w₁ (Ok (v, t₂)) w₂ → got v (mem t₂ (lent_of w₂)) ≡ ref_at (input_of w₁) (64 - d) (mem t l₁) → {w₃ : Walker} (r : Answer SlotValue) → Kept w₂ w₃ → seen r (lent_of w₃) ≡ held h v (mem t₂ (lent_of w₂))
           → (seen r (lent_of w₃) ≡ ref_at x (65 - d) (mem s (lent_of w))) × After w r w₃
-      ref_inner_got {w₂} {r₁} {v} {t₂} z after f {w₃} r k₃ f₃ =
-          let i = got_index z after in
+      ref_inner_got {w₂} {v} {t₂} after f {w₃} r k₃ f₃ =
+          let i = got_index after in
           let i₃ : OutIndex (seen r (lent_of w₃)) (scratch_of w₂) = idle_index (mem t₂ (lent_of w₂)) (scratch_of w₂) i f₃ (held_still h v (mem t₂ (lent_of w₂))) in
           (ref_inner (then_got (held h) (at_input c.kept.0 (λ x. ref_at x (64 - d) (mem t l₁)) f) f₃), after_of r (fixed_on c.kept.0 (fixed_on after.fixed k₃.0)) (rw (same_scratch w₂ w₃ k₃.1) i₃))
 

@@ -79,9 +79,8 @@ module _ {A : Type 0} {w w' : Walker} where
   after_of (Ok r) f i = record { fixed = f; indexed = i.pending; linked = i.linked }
   after_of (Err e) f i = record { fixed = f; indexed = tt; linked = tt }
 
-  -- with a value, once its variant is known
-  pub got_index : {r : Answer A} {v : A × State} → r ≡ Ok v → After w r w' → Index (table w'.slots.now v.1.slots) (table w'.addresses.now v.1.addresses) (scratch_of w')
-  got_index e a = let b = subst (λ (r : Answer A). After w r w') e a in record { pending = b.indexed; linked = b.linked }
+  pub got_index : {v : A} {s : State} → After w (Ok (v, s)) w' → Index (table w'.slots.now s.slots) (table w'.addresses.now s.addresses) (scratch_of w')
+  got_index a = record { pending = a.indexed; linked = a.linked }
 
 -- an answer of a call that goes on from another
 pub after_on : {A : Type 0} {w w₁ w₂ : Walker} {r : Answer A} → Fixed w w₁ → After w₁ r w₂ → After w r w₂

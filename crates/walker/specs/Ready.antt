@@ -1,13 +1,12 @@
 -- What holds at the start of each of the readers that call each other, and the parts of an object that they read. Assumes nothing: these
 -- are definitions.
-use Rattle.std.specs.Prelude.{ℕ, ◌+◌, ◌-◌, ◌*◌, length}
+use Rattle.std.specs.Prelude.{ℕ, ◌-◌, ◌*◌, ◌^◌, ◌<◌, length}
 use Rattle.sheet.specs.Tests.{is_deferred}
 use Rattle.heads.specs.Heads.{Heads}
 use Rattle.tables.specs.declared.values.SlotValue.{SlotValue}
 use Rattle.address_index.specs.Links.{Linked}
 use Rattle.definition.specs.Memory.{Input, word, table, Reader, ◌>>=◌, ◌>>◌, choose, give, byte}
-use Rattle.definition.specs.Slots.{place_item}
-use Rattle.definition.specs.Object.{peek, read_map, keep_map, resolves, items, closed}
+use Rattle.definition.specs.Object.{peek, read_map, keep_map, resolves}
 use Rattle.laws.specs.Sound.{Proper, Sound, Counted}
 use Rattle.laws.specs.Numbered.{Numbered}
 use Rattle.laws.specs.Addresses.{Ascending}
@@ -15,8 +14,10 @@ use Rattle.readers.specs.declared.state.State.{State}
 use Rattle.readers.specs.declared.walker.Walker.{Walker}
 use Rattle.readers.specs.Views.{Answer, mem}
 use Rattle.readers.specs.Lent.{input_of, lent_of, Fixed}
+use Rattle.objects.specs.declared.item.Level.{Level}
 use Rattle.objects.specs.Head.{opening}
 use Rattle.objects.specs.Index.{Indexed, IndexedAfter, LinkedAfter}
+use Rattle.leaves.specs.Leaf.{slot_in}
 
 -- the input is one that the walk takes, the heads are the sheet's, what the reader has is in order, and so is scratch
 pub record Ready (w : Walker) (s : State) : Type 0 where
@@ -40,22 +41,17 @@ abbrev pub mapped : Input → Reader SlotValue → ℕ → ℕ → ℕ → Reade
 mapped x r space size o =
     read_map x r space size o >>= keep_map x o >> (λ m. resolves x o (length x.payload - m.at) m)
 
--- an object's head, its map with what follows it, and its resolves: its declared bytes
-abbrev pub headed : Input → Reader SlotValue → ℕ → ℕ → Reader ℕ
+-- an object's head, its map with what follows it, and its resolves: the object that is read then, of which the map's word has been read
+abbrev pub headed : Input → Reader SlotValue → ℕ → ℕ → Reader Level
 headed x r space tag m =
     (opening x space tag
-    >>= (λ words. mapped x r space (words * word x) m.objects.count >> give (words * word x)))
+    >>= (λ words. mapped x r space (words * word x) m.objects.count >> give (record { object = m.objects.count; size = words * word x; done = word x; tag = tag })))
     m
 
--- an item, of whose object `done` bytes have been read
-abbrev pub slot_in : Input → Reader SlotValue → ℕ → ℕ → Reader ℕ
-slot_in x r o done = r >>= place_item x o done
-
--- the same, where kDeferred may end the object early
+-- the same as a reference, where kDeferred may end the object early
 abbrev pub item_in : Input → Reader SlotValue → ℕ → ℕ → ℕ → Reader ℕ
 item_in x r o size done m = choose (is_deferred x.sheet (peek x m)) (byte x >> give size) (slot_in x r o done) m
 
--- the items after the map, which fill the object
-abbrev pub filled_from : Input → Reader SlotValue → ℕ → ℕ → ℕ → Reader SlotValue
-filled_from x r o tag size =
-    (λ m. items x r o size (length x.payload - m.at + 1) (word x) m) >>= closed o tag size
+-- what holds of an object when an item of it is read: it has its record and a slot
+abbrev pub InItem : Level → State → Type 0
+InItem l s = (l.done < 2 ^ 60) × (l.object < s.objects) × (0 < s.slots)

@@ -1,5 +1,5 @@
 -- A weak reference to a leaf, as a reference within one, and its slot. Assumes nothing.
-use Rattle.std.specs.Prelude.{◌≡◌, refl, Bool, true, List, ℕ, ◌+◌, ◌*◌, ◌/◌, ◌<◌, length, get_or, set}
+use Rattle.std.specs.Prelude.{◌≡◌, refl, true, List, ℕ, ◌+◌, ◌/◌, ◌<◌, length, get_or}
 use Rattle.std.proofs.Common.{arith, sym, ◌∙◌, lt-ltb}
 use Rattle.sheet.specs.Sheet.{word_bytes}
 use Rattle.heads.specs.Heads.{head_at, Heads}
@@ -8,7 +8,7 @@ use Rattle.tables.specs.declared.values.Fields.{Fields}
 use Rattle.tables.specs.declared.values.SlotValue.{SlotValue}
 use Rattle.tables.specs.declared.values.SlotValue.TheVariants.{WeakRef}
 use Rattle.tables.specs.Values.{fields_of}
-use Rattle.tables.specs.Records.{room, field, slot_row, value_row, written, Put}
+use Rattle.tables.specs.Records.{room, slot_row, value_row, written, counted, Put}
 use Rattle.backref.specs.declared.hot_ring.HotRing.{HotRing}
 use Rattle.definition.specs.Memory.{Input, got, byte, Reader, and_then}
 use Rattle.definition.specs.Slots.{add_value, add_slot, keep_item, place_item}
@@ -17,12 +17,10 @@ use Rattle.readers.specs.declared.state.State.{State}
 use Rattle.readers.specs.declared.walker.Walker.{Walker}
 use Rattle.readers.specs.Views.{Lent, mem, moved_to, objects_is, slots_is, values_is, hot_is}
 use Rattle.readers.specs.Lent.{input_of, lent_of}
-use Rattle.readers.proofs.ViewLaws.{then_got, put_done}
-use Rattle.objects.specs.Index.{Indexed}
-use Rattle.objects.proofs.WaiterLaws.{indexed_plain}
+use Rattle.readers.proofs.ViewLaws.{then_got, put_done, put_below}
 use Rattle.leaves.specs.declared.leaf.Leaf.{Leaf}
-use Rattle.leaves.specs.Leaf.{ring, after, placed_in}
-use Rattle.leaves.proofs.LeafLaws.{leaf_read, room_put}
+use Rattle.leaves.specs.Leaf.{ring, after, slot_in}
+use Rattle.leaves.proofs.LeafLaws.{leaf_read}
 use Rattle.weak_leaves.specs.Weak.{WeakAt}
 
 -- a weak prefix at the cursor, read as a reference
@@ -39,9 +37,9 @@ valued s =
     record { at = s.at; objects = s.objects; slots = s.slots; values = s.values + 1; addresses = s.addresses; pending = s.pending; waiting = s.waiting; skip = s.skip; alignment = s.alignment }
 
 -- that record
-held : (v : SlotValue) (s : State) (l : Lent) {b : Bool} {t : List ℕ} → Put l.values s.values (value_row (fields_of v)) b t → b ≡ true → got (WeakRef s.values) (mem (valued s) (values_is t l)) ≡ weak_of v (mem s l)
+held : (v : SlotValue) (s : State) (l : Lent) {t : List ℕ} → Put l.values s.values (value_row (fields_of v)) true t → got (WeakRef s.values) (mem (valued s) (values_is t l)) ≡ weak_of v (mem s l)
 unfolding add_value
-held v s l p e = let q = put_done p e in rw (q.0, q.1)
+held v s l p = let q = put_done p refl in rw (q.0, q.1)
 
 -- the state after the slot
 abbrev weak_state : Leaf → State → State
@@ -49,28 +47,24 @@ weak_state r s =
     record { at = r.next; objects = s.objects; slots = s.slots + 1; values = s.values + 1; addresses = s.addresses; pending = s.pending; waiting = s.waiting; skip = 0; alignment = s.alignment }
 
 -- that slot
-kept : (x : Input) (o done : ℕ) (k : ℕ) (s : State) (l : Lent) {ot st : List ℕ} → s.slots < room 6 l.slots → st ≡ written l.slots s.slots (slot_row o ((done + s.skip) / word_bytes x.sheet) (fields_of (WeakRef k)) 0) → ot ≡ set l.objects (o * 4 + 3) (field 4 l.objects o 3 + 1)
+kept : (x : Input) (o done : ℕ) (k : ℕ) (s : State) (l : Lent) {ot st : List ℕ} → s.slots < room 6 l.slots → st ≡ written l.slots s.slots (slot_row o ((done + s.skip) / word_bytes x.sheet) (fields_of (WeakRef k)) 0) → ot ≡ counted l.objects o
     → got (done + s.skip + word_bytes x.sheet) (mem (record { at = s.at; objects = s.objects; slots = s.slots + 1; values = s.values; addresses = s.addresses; pending = s.pending; waiting = s.waiting; skip = 0; alignment = s.alignment }) (objects_is ot (slots_is st l))) ≡ place_item x o done (WeakRef k) (mem s l)
 unfolding place_item keep_item add_slot
 kept x o done k s l b es eo =
     let z : s.waiting + 0 ≡ s.waiting = omega arith in
     rw (lt-ltb s.slots (room 6 l.slots) b, es, eo, z)
 
--- it does not wait
-pub in_order : (t : List ℕ) (n o index : ℕ) (f : Fields) {b : Bool} {after : List ℕ} → Put t n (slot_row o index f 0) b after → n < room 6 t → (p : List ℕ) → Indexed t n p → Indexed after (n + 1) p
-in_order t n o index f q some p h = rw (room_put q some) (indexed_plain t n o index f 0 some refl p h)
-
-module _ (w : Walker) (s : State) (ts d : ℕ) (r : Leaf) (decoded : Heads w.sheet.now w.heads.now) (words : ts ≡ word_bytes w.sheet.now) (found : WeakAt w s ts d r) (o done : ℕ) {b b' : Bool} {f : Fields} {vt st ot : List ℕ} {hot : HotRing} (some : s.slots < room 6 w.slots.now)
-    (pv : Put w.values.now s.values (value_row (fields_of r.value)) b vt) (yes : b ≡ true) (ef : f ≡ fields_of (WeakRef s.values)) (ps : Put w.slots.now s.slots (slot_row o ((done + s.skip) / ts) f 0) b' st) (eo : ot ≡ set w.objects.now (o * 4 + 3) (field 4 w.objects.now o 3 + 1)) (eh : hot ≡ ring r w.hot) where
+module _ (w : Walker) (s : State) (d : ℕ) (r : Leaf) (decoded : Heads w.sheet.now w.heads.now) (found : WeakAt w s d r) (o done : ℕ) {index : ℕ} {f : Fields} {vt st ot : List ℕ} {hot : HotRing}
+    (pv : Put w.values.now s.values (value_row (fields_of r.value)) true vt) (ps : Put w.slots.now s.slots (slot_row o index f 0) true st) (ei : index ≡ (done + s.skip) / word_bytes w.sheet.now) (ef : f ≡ fields_of (WeakRef s.values)) (eo : ot ≡ counted w.objects.now o) (eh : hot ≡ ring r w.hot) where
   abbrev l₁ : Lent
   l₁ = hot_is (ring r w.hot) (lent_of w)
 
   weak_read : (inner : Reader SlotValue) → got (WeakRef s.values) (mem (valued (after r s)) (values_is vt l₁)) ≡ reference (input_of w) (reference (input_of w) inner) (mem s (lent_of w))
   weak_read inner =
-      then_got weak_of (leaf_read w (s.at + 1) s.objects ts r decoded words found.leaf inner (moved_to (s.at + 1) s) (lent_of w) refl refl refl) (held r.value (after r s) l₁ pv yes)
+      then_got weak_of (leaf_read w (s.at + 1) s.objects r decoded found.leaf inner (moved_to (s.at + 1) s) (lent_of w) refl refl refl) (held r.value (after r s) l₁ pv)
       ∙ weak_on w s (lent_of w) (reference (input_of w) inner) decoded found.there.0 found.there.1 found.weak
 
-  pub weak_placed : (inner : Reader SlotValue) → got (done + s.skip + ts) (mem (weak_state r s) (objects_is ot (slots_is st (values_is vt (hot_is hot (lent_of w)))))) ≡ placed_in (input_of w) (reference (input_of w) (reference (input_of w) inner)) o done (mem s (lent_of w))
+  pub weak_placed : (inner : Reader SlotValue) → got (done + s.skip + word_bytes w.sheet.now) (mem (weak_state r s) (objects_is ot (slots_is st (values_is vt (hot_is hot (lent_of w)))))) ≡ slot_in (input_of w) (reference (input_of w) (reference (input_of w) inner)) o done (mem s (lent_of w))
   weak_placed inner =
-      let es : st ≡ written w.slots.now s.slots (slot_row o ((done + s.skip) / word_bytes w.sheet.now) (fields_of (WeakRef s.values)) 0) = rw (words, ef) at (room_put ps some) in
-      rw (words, eh) (then_got (place_item (input_of w) o done) (weak_read inner) (kept (input_of w) o done s.values (valued (after r s)) (values_is vt l₁) some es eo))
+      let es : st ≡ written w.slots.now s.slots (slot_row o ((done + s.skip) / word_bytes w.sheet.now) (fields_of (WeakRef s.values)) 0) = rw (ei, ef) at (put_done ps refl).1 in
+      rw eh (then_got (place_item (input_of w) o done) (weak_read inner) (kept (input_of w) o done s.values (valued (after r s)) (values_is vt l₁) (put_below ps refl) es eo))

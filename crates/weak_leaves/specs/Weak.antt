@@ -8,8 +8,8 @@ use Rattle.leaves.specs.declared.leaf.Leaf.{Leaf}
 use Rattle.leaves.specs.Leaf.{LeafAt}
 
 -- a weak prefix stands at the cursor and the leaf after it; two levels below depth d a reference is not refused
-pub record WeakAt (w : Walker) (s : State) (ts d : ℕ) (r : Leaf) : Type 0 where
+pub record WeakAt (w : Walker) (s : State) (d : ℕ) (r : Leaf) : Type 0 where
   pub deep : d < 63
   pub there : (s.at < length w.payload.now) × (get_or w.payload.now s.at 0 < 256)
   pub weak : kind_number (head_at w.heads.now (get_or w.payload.now s.at 0)).kind ≡ weak_prefix
-  pub leaf : LeafAt w (s.at + 1) s.objects ts (Some r)
+  pub leaf : LeafAt w (s.at + 1) s.objects (Some r)

@@ -1,70 +1,67 @@
 // Weak references to a leaf, read without the readers of every reference.
 
-ghost use Rattle.std.specs.Prelude.{◌≡◌, ◌+◌, ◌^◌, ◌<◌, IfSome, IsNone};
-ghost use Rattle.sheet.specs.Sheet.{word_bytes};
+ghost use Rattle.std.specs.Prelude.{◌≡◌, ◌+◌, ◌^◌, ◌<◌, IfSome};
 ghost use Rattle.heads.specs.Heads.{Heads};
 ghost use Rattle.tables.specs.declared.values.SlotValue.{SlotValue};
-ghost use Rattle.tables.specs.Records.{field};
+ghost use Rattle.tables.specs.Records.{room, field};
 ghost use Rattle.definition.specs.Memory.{Reader, got};
 ghost use Rattle.definition.specs.Reference.{reference};
 ghost use Rattle.readers.specs.Views.{mem};
 ghost use Rattle.readers.specs.Lent.{input_of, lent_of, Kept};
-ghost use Rattle.leaves.specs.Leaf.{placed_in, StaysInOrder};
+ghost use Rattle.leaves.specs.Leaf.{slot_in, StaysInOrder};
 ghost use Rattle.weak_leaves.specs.Weak.{WeakAt};
 
 use heads::kinds::Kind;
 use leaves::leaf::{Leaf, enter, leaf_at};
+use objects::item::Level;
 use readers::state::State;
-use readers::walker::Walker;
-use stream::bytes::byte;
-use tables::records::{add_slot, add_value, count_slot};
-use tables::values::{SlotValue, fields_of};
+use readers::walker::{DEEPEST, Walker};
+use sheet::numbers::word_bytes;
+use tables::records::{SLOT_FIELDS, Slot, add_value, append_slot, has_room};
+use tables::values::{Fields, SlotValue};
 
-// A leaf after a weak prefix at the cursor. A weak reference in an object at depth d is one level below it, and the leaf two.
-fn weak_leaf(w: &Walker, s: State, word: u64, d: usize) -> Option<Leaf>
-    ensures { IfSome result (WeakAt w.now s word d) }
+// A leaf after a weak prefix at the cursor, where its slot record has room. A weak reference in an object at depth d is one level below it,
+// and the leaf two. Room is asked for here: after a call that reads a table through the walker that is lent to be changed, only the table's
+// length would be known.
+fn weak_leaf(w: &Walker, s: State, d: usize) -> Option<Leaf>
+    ensures is { IfSome result (WeakAt w.now s d) }
+    ensures roomy { IfSome result (λ _. s.slots < room 6 w.now.slots.now) }
 {
-    if 63 <= d || w.payload.len() <= s.at {
+    if DEEPEST - 1 <= d {
         return None;
     }
-    let head = w.heads[byte(w.payload, s.at) as usize];
-    if head.kind != Kind::WeakPrefix {
+    let head = w.head_at(s.at)?;
+    if head.kind != Kind::WeakPrefix || !has_room(w.slots, SLOT_FIELDS, s.slots) {
         return None;
     }
-    leaf_at(w, s.at + 1, s.objects, word)
+    leaf_at(w, s.at + 1, s.objects)
 }
 
-// A weak reference to a leaf at the cursor as an item of object o, `done` bytes of which have been read: the bytes read then. None where
-// none stands there and where a record or the bytes read then have no room; then nothing is changed.
-pub fn place_weak(
-    w: &mut Walker,
-    s: State,
-    o: usize,
-    done: u64,
-    word: u64,
-    d: usize,
-) -> Option<(u64, State)>
-    requires { field 4 w.old.objects.now o 3 < 2 ^ 63 }
-    ensures read { IfSome result (λ r. (d < 63) × (word ≡ word_bytes w.old.sheet.now → Heads w.old.sheet.now w.old.heads.now → (inner : Reader SlotValue) → got r.0 (mem r.1 (lent_of w.new)) ≡ placed_in (input_of w.old) (reference (input_of w.old) (reference (input_of w.old) inner)) o done (mem s (lent_of w.old)))) }
-    ensures none { IsNone result → lent_of w.new ≡ lent_of w.old }
-    ensures kept { Kept w.old w.new }
+// A weak reference to a leaf at the cursor as an item of the object that is read at depth d: the bytes read then. None where none stands
+// there and where a record or the bytes read then have no room; then nothing is changed.
+pub fn place_weak(w: &mut Walker, s: State, d: usize, level: Level) -> Option<(u64, State)>
+    requires { field 4 w.old.objects.now level.object 3 < 2 ^ 63 }
+    ensures read { IfSome result (λ r. (d < 63) × (Heads w.old.sheet.now w.old.heads.now → (inner : Reader SlotValue) → got r.0 (mem r.1 (lent_of w.new)) ≡ slot_in (input_of w.old) (reference (input_of w.old) (reference (input_of w.old) inner)) level.object level.done (mem s (lent_of w.old)))) }
     ensures order { StaysInOrder w.old s result w.new }
+    ensures kept { Kept w.old w.new }
 {
-    let leaf = weak_leaf(w, s, word, d)?;
-    let start = done.checked_add(s.skip)?;
+    let leaf = weak_leaf(w, s, d)?;
+    let word = word_bytes(w.sheet);
+    let start = level.done.checked_add(s.skip)?;
     let end = start.checked_add(word)?;
-    let n = s.slots;
     let k = s.values;
-    if word == 0 || w.slots.len() / 6 <= n || !add_value(w.values, k, leaf.value) {
-        return None;
-    }
-    let weak = fields_of(SlotValue::WeakRef(k as u64));
-    add_slot(w.slots, n, o as u64, start / word, weak, 0);
-    count_slot(w.objects, o as u64);
+    let slot = Slot {
+        object: level.object as u64,
+        index: start.checked_div(word)?,
+        value: Fields::from(SlotValue::WeakRef(k as u64)),
+        waits: 0,
+    };
+    add_value(w.values, k, Fields::from(leaf.value))?;
+    append_slot(w.slots, w.objects, s.slots, slot)?;
     enter(&mut w.hot, leaf);
     let t = State {
         at: leaf.next,
-        slots: n + 1,
+        slots: s.slots + 1,
         values: k + 1,
         skip: 0,
         ..s

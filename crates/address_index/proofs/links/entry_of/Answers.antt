@@ -1,6 +1,6 @@
 use native.Mathlib.Omega.{arith}
 use mathlib.Core.List.{List}
-use mathlib.Core.Path.{refl, ◌∙◌}
+use mathlib.Core.Path.{◌∙◌}
 use Prim.Native.Nat.{ℕ, zero, suc, ◌≤◌}
 use Rattle.address_index.specs.Links.{space_of, JumpOf}
 use Rattle.address_index.proofs.LinkLaws.{newest_low, count_low}
@@ -14,7 +14,7 @@ pub hint_cell-requires : goal.hint_cell-requires
 hint_cell-requires c =
     let a = c.args in
     let q = c.requires in
-    let e = c.newest-before.ensures ∙ (q.3 (omega (arith, q.2))).heads _ q.1 in
+    let e = (rw c.space_of-space.ensures at c.newest-before.ensures) ∙ (q.3 (omega (arith, q.2))).heads _ q.1 in
     let o = c.ordinal_after-ordinal.ensures in
     let p_low = newest_low a.table.now (space_of a.table.now a.n) a.n in
     let o_low = count_low a.table.now (space_of a.table.now a.n) a.n in
@@ -24,11 +24,11 @@ pub returns : goal.returns
 returns c =
     let a = c.args in
     let q = c.requires in
-    let e = c.newest-before.ensures ∙ (q.3 (omega (arith, q.2))).heads _ q.1 in
+    let e = (rw c.space_of-space.ensures at c.newest-before.ensures) ∙ (q.3 (omega (arith, q.2))).heads _ q.1 in
     let p_low = newest_low a.table.now (space_of a.table.now a.n) a.n in
     record {
-      space = refl;
-      fits = record { low = q.1; before_low = omega (arith, e, p_low); jump_low = jump_low a.table.now a.n _ c.jump_from.ensures; hint = c.hint_cell.ensures };
+      space = c.space_of-space.ensures;
+      fits = record { low = rw c.space_of-space.ensures q.1; before_low = omega (arith, e, p_low); jump_low = jump_low a.table.now a.n _ c.jump_from.ensures; hint = c.hint_cell.ensures };
       before = e;
       jump = c.jump_from.ensures;
       ordinal = c.ordinal_after-ordinal.ensures;

@@ -9,12 +9,13 @@ returns-in_err-newest c =
     c.from_residual.ensures
     ∙ none_found a.table.now a.space a.place.chunk a.place.offset _ a.n c.find.result c.find.ensures.ran c.rev.ensures.source (λ x b q k. search (rules, tests)) c.in_err-newest.was
 
-pub bounds-table-newest : goal.bounds-table-newest
-bounds-table-newest c =
+pub address_at-requires : goal.address_at-requires
+address_at-requires c =
     let a = c.args in
     omega (arith, c.requires, found_low a.table.now a.space a.place.chunk a.place.offset _ a.n c.find.result c.find.ensures.ran c.rev.ensures.source (λ x b q k. search (rules, tests)) c.in_ok-newest.was)
 
 pub returns : goal.returns
 returns c =
     let a = c.args in
-    one_found a.table.now a.space a.place.chunk a.place.offset _ a.n c.find.result c.find.ensures.ran c.rev.ensures.source (λ x b q k. search (rules, tests)) c.in_ok-newest.was
+    rw c.address_at.ensures
+    (one_found a.table.now a.space a.place.chunk a.place.offset _ a.n c.find.result c.find.ensures.ran c.rev.ensures.source (λ x b q k. search (rules, tests)) c.in_ok-newest.was)

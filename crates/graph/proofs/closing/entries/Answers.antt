@@ -1,44 +1,42 @@
-use mathlib.Core.Path.{sym, ◌∙◌}
-use Rattle.objects.proofs.AnswerLaws.{fixed_on}
-use Rattle.graph.proofs.ClosingLaws.{loop_end, loop_cut, loop_synchronize, loop_aligned, in_legacy, loop_fault_ends, loop_fault, loop_smaller, loop_turn}
+use mathlib.Core.Path.{◌≡◌}
+use Rattle.graph.proofs.ClosingLaws.{Answered, loop_aligned, deferred_answer, reference_answer, loop_fault, loop_smaller, loop_turn}
+use Rattle.graph.proofs.closing.entries.Goals.{in-Deferred, in-Reference, In-Ok, After-ends_legacy}
 use Rattle.graph.proofs.closing.entries.Goals as goal
 
-pub returns-in-Synchronize-clause-is : goal.returns-in-Synchronize-clause-is
-returns-in-Synchronize-clause-is c = loop_synchronize c.loop-t.invariant c.loop-t-test.true c.peek.ensures c.closing_entry-e.ensures c.in-Synchronize.is
-
 pub loop-t-preserved-in-Alignment : goal.loop-t-preserved-in-Alignment
-loop-t-preserved-in-Alignment c = loop_aligned c.loop-t.invariant c.loop-t-test.true c.peek.ensures c.closing_entry-e.ensures c.in-Alignment.is
+loop-t-preserved-in-Alignment c = search loop_aligned
 
-pub one_entry-requires : goal.one_entry-requires
-one_entry-requires c = record { ready = c.loop-t.invariant.ready; in_legacy = in_legacy c.loop-t.invariant c.loop-t-test.true c.peek.ensures c.closing_entry-e.ensures (c.in_default.not-Synchronize, c.in_default.not-Alignment) }
+-- the answer to either kind of entry, where it is a value and where it is a refusal
+answer : (c : In-Ok) → Answered c.args.w.now c.args.s c.loop-t.w c.loop-t.t c.match-closing_entry.done c.match-closing_entry.w
+answer c =
+    elim c.match-closing_entry.branch [
+      | in-Deferred w ↦ rw (w.w-is, w.done-is) (search deferred_answer)
+      | in-Reference w ↦ rw (w.w-is, w.done-is) (search reference_answer)
+    ]
+
+refusal : (c : After-ends_legacy) → Answered c.args.w.now c.args.s c.loop-t.w c.loop-t.t c.match-closing_entry.done c.match-closing_entry.w
+refusal c =
+    elim c.match-closing_entry.branch [
+      | in-Deferred w ↦ rw (w.w-is, w.done-is) (search deferred_answer)
+      | in-Reference w ↦ rw (w.w-is, w.done-is) (search reference_answer)
+    ]
 
 pub loop-t-smaller : goal.loop-t-smaller
-loop-t-smaller c = loop_smaller c.loop-t.invariant c.loop-t-test.true c.peek.ensures c.closing_entry-e.ensures (c.in_default.not-Synchronize, c.in_default.not-Alignment) c.one_entry.new.w c.in-Ok.ensures.is
+loop-t-smaller c = loop_smaller c.loop-t.invariant (answer (goal.at.loop-t-smaller c).In-Ok) c.in-Ok.is
 
 pub loop-t-preserved : goal.loop-t-preserved
-loop-t-preserved c = loop_turn c.loop-t.invariant c.loop-t-test.true c.peek.ensures c.closing_entry-e.ensures (c.in_default.not-Synchronize, c.in_default.not-Alignment) c.one_entry.new.w c.in-Ok.ensures.is c.in-Ok.ensures.after
+loop-t-preserved c = loop_turn c.loop-t.invariant (answer (goal.at.loop-t-preserved c).In-Ok) c.in-Ok.is
 
 -- a fault that ends a legacy section, and any other
-pub returns-in-Err : goal.returns-in-Err
-returns-in-Err c =
-    let w = c.one_entry.new.w in
-    let f = c.one_entry.ensures.after.fixed in
-    record {
-      is = loop_fault_ends c.loop-t.invariant c.loop-t-test.true c.peek.ensures c.closing_entry-e.ensures (c.in_default.not-Synchronize, c.in_default.not-Alignment) c.in-Err.ensures.is f (sym (c.ends_legacy.ensures w.payload.now w.trusted.now w.spaces) ∙ c.if-ends_legacy.true);
-      fixed = fixed_on c.loop-t.invariant.fixed f;
-    }
+pub returns-in-Err-clause-is : goal.returns-in-Err-clause-is
+returns-in-Err-clause-is c =
+    let w = c.match-closing_entry.w in
+    let h = loop_fault c.loop-t.invariant (refusal (goal.at.returns-in-Err-clause-is c).After-ends_legacy) c.in-Err.is in
+    rw (← c.if-ends_legacy.ensures w.payload.now w.trusted.now w.spaces) at h
 
-pub returns-in-Err-2 : goal.returns-in-Err-2
-returns-in-Err-2 c =
-    let w = c.one_entry.new.w in
-    let f = c.one_entry.ensures.after.fixed in
-    record {
-      is = loop_fault c.loop-t.invariant c.loop-t-test.true c.peek.ensures c.closing_entry-e.ensures (c.in_default.not-Synchronize, c.in_default.not-Alignment) c.in-Err.ensures.is f (sym (c.ends_legacy.ensures w.payload.now w.trusted.now w.spaces) ∙ c.if-ends_legacy.false);
-      fixed = fixed_on c.loop-t.invariant.fixed f;
-    }
-
-pub returns-then-legacy-clause-is : goal.returns-then-legacy-clause-is
-returns-then-legacy-clause-is c = loop_end c.loop-t.invariant c.loop-t-test.false (sym c.legacy.ensures ∙ c.if-legacy.true)
-
-pub returns-else-legacy-clause-is : goal.returns-else-legacy-clause-is
-returns-else-legacy-clause-is c = rw c.refused_at.ensures (loop_cut c.loop-t.invariant c.loop-t-test.false (sym c.legacy.ensures ∙ c.if-legacy.false))
+pub returns-in-Err-2-clause-is : goal.returns-in-Err-2-clause-is
+returns-in-Err-2-clause-is c =
+    let w = c.match-closing_entry.w in
+    let h = loop_fault c.loop-t.invariant (refusal (goal.at.returns-in-Err-2-clause-is c).After-ends_legacy) c.in-Err.is in
+    let q : c.in-Err.e ≡ c.in-Err-2.e = cc in
+    rw (← c.if-ends_legacy.ensures w.payload.now w.trusted.now w.spaces, q) at h

@@ -20,7 +20,7 @@ pub returns : goal.returns
 returns c =
     let e = c.in_ok-b.ensures.by_index _ _ _ (lent_of c.args.w.now) in
     record {
-      is = top_opens (input_of c.args.w.now) (mem c.args.s (lent_of c.args.w.now)) e (sym c.opens.ensures ∙ c.if-not-opens.false) (c.top_space-a.ensures.space c.args.w.now.payload.now c.args.w.now.trusted.now c.args.w.now.spaces) c.parse_object.ensures.is;
+      is = top_opens (input_of c.args.w.now) (mem c.args.s (lent_of c.args.w.now)) e (sym c.opens.ensures ∙ c.if-not-opens.false) (c.top_space.ensures.space c.args.w.now.payload.now c.args.w.now.trusted.now c.args.w.now.spaces) c.parse_object.ensures.is;
       fixed = c.parse_object.ensures.after.fixed;
-      ready = object_ready c.parse_object.result (byte_ready c.requires.ready e) c.top_space-a.result (omega (arith, c.top_space-a.ensures.low, c.in_ok-b.ensures.small)) c.parse_object.ensures.is c.parse_object.ensures.after;
+      ready = object_ready c.parse_object.result (byte_ready c.requires.ready e) c.top_space.result (omega (arith, c.top_space.ensures.low, c.in_ok-b.ensures.small)) c.parse_object.ensures.is c.parse_object.ensures.after;
     }

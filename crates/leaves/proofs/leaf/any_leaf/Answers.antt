@@ -2,7 +2,8 @@ use Rattle.leaves.proofs.LeafLaws.{found_in}
 use Rattle.leaves.proofs.leaf.any_leaf.Goals as goal
 
 pub returns-in_default-clause-found : goal.returns-in_default-clause-found
-returns-in_default-clause-found c = rw (← c.byte.ensures.0) (found_in c.args.w.now c.args.s _ _ _ _ c.leaf_of.result c.leaf_of.ensures)
+returns-in_default-clause-found c =
+    rw (← c.in_ok-head.ensures.some.is) (found_in c.args.w.now c.args.s _ _ _ c.leaf_of.result c.leaf_of.ensures)
 
 pub returns-in-LegacyBackref-clause-found : goal.returns-in-LegacyBackref-clause-found
-returns-in-LegacyBackref-clause-found c = rw (← c.byte.ensures.0, c.in-LegacyBackref.is) c.legacy_leaf.ensures
+returns-in-LegacyBackref-clause-found c = rw (← c.in_ok-head.ensures.some.is, c.in-LegacyBackref.is) c.legacy_leaf.ensures

@@ -1,13 +1,16 @@
+use Rattle.std.proofs.Common.{sym, ◌∙◌}
+use Rattle.std.proofs.lemmas.Result.{err_from_is_err_and}
 use Rattle.readers.specs.Lent.{lent_of}
-use Rattle.levels.proofs.LevelLaws.{fits, object_full, object_placed}
+use Rattle.levels.proofs.LevelLaws.{put_no, put_is}
 use Rattle.levels.proofs.level.put_object.Goals as goal
 
-pub returns-then-not-add_slot-clause-is : goal.returns-then-not-add_slot-clause-is
-returns-then-not-add_slot-clause-is c =
+pub returns-in_err-t-clause-is : goal.returns-in_err-t-clause-is
+returns-in_err-t-clause-is c =
     let a = c.args in
-    λ x ew b f. let z = fits a.outer.done a.s.skip a.word b f in rw c.refused.ensures (object_full x _ _ a.child a.s (lent_of a.w.now) ew c.fields_of-f.ensures (rw (c.max.ensures, z.0) at c.add_slot.ensures) c.if-not-add_slot.true)
+    let p = err_from_is_err_and c.from_residual.result c.from_residual.ensures.1 in
+    λ x ew b f. rw (p.1, p.2) (put_no x a.outer.object a.outer.done a.child a.s _ (lent_of a.w.now) _ (ew ∙ sym c.word_bytes-word.ensures.0) c.max.ensures c.from.ensures b f c.in_err-t.ensures.is)
 
 pub returns-clause-is : goal.returns-clause-is
 returns-clause-is c =
     let a = c.args in
-    λ x ew b f. let z = fits a.outer.done a.s.skip a.word b f in rw z.1 (object_placed x _ _ a.child a.s (lent_of a.w.now) ew c.fields_of-f.ensures (rw (c.max.ensures, z.0) at c.add_slot.ensures) c.if-not-add_slot.false c.count_slot.ensures)
+    λ x ew b f. put_is x a.outer.object a.outer.done a.child a.s _ (lent_of a.w.now) _ (ew ∙ sym c.word_bytes-word.ensures.0) c.max.ensures c.from.ensures b f c.in_ok-t.ensures.is

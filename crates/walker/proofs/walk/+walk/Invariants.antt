@@ -1,5 +1,5 @@
 use Rattle.std.proofs.Common.{◌+◌, ◌-◌, ◌*◌, length}
-use Rattle.walker.proofs.NestLaws.{Turn}
+use Rattle.walker.proofs.NestLaws.{Nest}
 use Rattle.walker.proofs.walk.+walk.Given as goal
 
 abbrev pub decreases-parse_ref : goal.decreases-parse_ref
@@ -24,11 +24,10 @@ abbrev pub decreases-parse_inner : goal.decreases-parse_inner
 decreases-parse_inner l = 5 * (65 - l.d)
 
 -- what is left to read gives what the whole object gives
-abbrev pub invariant-parse_object-loop-o : goal.invariant-parse_object-loop-o
-invariant-parse_object-loop-o l =
-    Turn l.fn.w l.fn.s l.d l.at l.a l.outer.items l.level l.w l.t
+abbrev pub invariant-parse_object-loop-level : goal.invariant-parse_object-loop-level
+invariant-parse_object-loop-level l =
+    Nest l.fn.w l.fn.s l.d l.fn.new l.outer.items l.level l.w l.t
 
--- each iteration reads a byte, or ends or begins a level
-abbrev pub decreases-parse_object-loop-o : goal.decreases-parse_object-loop-o
-decreases-parse_object-loop-o l =
-    3 * (length l.w.payload.now - l.t.at) + length l.outer.items + (1 - l.level.done)
+-- each iteration reads a byte, or ends a level
+abbrev pub decreases-parse_object-loop-level : goal.decreases-parse_object-loop-level
+decreases-parse_object-loop-level l = 2 * (length l.w.payload.now - l.t.at) + length l.outer.items

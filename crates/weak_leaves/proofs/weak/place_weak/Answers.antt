@@ -1,5 +1,9 @@
-use Rattle.std.proofs.Common.{arith}
-use Rattle.weak_leaves.proofs.WeakLaws.{weak_placed, in_order}
+use mathlib.Core.Path.{◌≡◌, refl, sym, ◌∙◌}
+use mathlib.Core.Bool.{Bool, true, false}
+use borrow.Author.Tests.{lt-ltb}
+use Rattle.readers.proofs.ViewLaws.{put_done, put_full}
+use Rattle.objects.proofs.WaiterLaws.{indexed_plain}
+use Rattle.weak_leaves.proofs.WeakLaws.{weak_placed}
 use Rattle.weak_leaves.proofs.weak.place_weak.Goals as goal
 
 pub returns-clause-read : goal.returns-clause-read
@@ -7,9 +11,16 @@ returns-clause-read c =
     let a = c.args in
     let q = c.in_ok-leaf.ensures in
     let e = c.in_ok-start.ensures.1 in
-    (q.deep, λ ew h inner. rw (c.in_ok-end.ensures.1, e) (weak_placed a.w.now a.s a.word a.d c.in_ok-leaf.leaf h ew q a.o a.done (omega (arith, c.if-w-n.false)) c.add_value.ensures c.if-not-add_value.false c.fields_of-weak.ensures (rw e at c.add_slot.ensures) c.count_slot.ensures c.enter.ensures inner))
+    let n = c.word_bytes-word.ensures.0 in
+    (q.is.deep, λ h inner. rw (c.in_ok-end.ensures.1, e, n) (weak_placed a.w.now a.s a.d c.in_ok-leaf.leaf h q.is a.level.object a.level.done (rw c.from-2.ensures at c.in_ok-add_value.ensures) c.in_ok-append_slot.ensures.slot (rw (← n, ← e) c.in_ok-checked_div.ensures.1) c.from.ensures c.in_ok-append_slot.ensures.count c.enter.ensures inner))
 
 pub returns-clause-order : goal.returns-clause-order
 returns-clause-order c =
-    let a = c.args in
-    (in_order a.w.now.slots.now a.s.slots a.o _ _ c.add_slot.ensures (omega (arith, c.if-w-n.false)) _, λ h. h)
+    let p = c.in_ok-append_slot.ensures.slot in
+    (rw (put_done p refl).1 (indexed_plain _ _ _ _ _ 0 c.in_ok-leaf.ensures.roomy refl _), λ h. h)
+
+pub returns-in_err-append_slot-clause-order : goal.returns-in_err-append_slot-clause-order
+returns-in_err-append_slot-clause-order c =
+    let p = c.in_err-append_slot.ensures.slot in
+    let some = lt-ltb c.args.s.slots _ c.in_ok-leaf.ensures.roomy in
+    absurd (let z : ◌≡◌ {A = Bool} true false = sym some ∙ (put_full p refl).0 in cc)

@@ -1,4 +1,5 @@
-use mathlib.Core.Path.{sym, ◌∙◌}
+use mathlib.Core.Path.{◌≡◌, sym, ◌∙◌}
+use Rattle.address_index.specs.Links.{space_of}
 use Rattle.address_index.specs.KeyLaws.{numbered_of_space}
 use Rattle.address_index.proofs.SearchLaws.{seeks_top}
 use Rattle.address_index.proofs.OrdinalLaws.{ordinal_is, seeks_hinted}
@@ -8,7 +9,7 @@ pub returns : goal.returns
 returns c =
     let a = c.args in
     let l = c.in-Some.ensures in
-    let e = c.if-among-h.true in
+    let e : space_of a.among.table.now c.in-Some.h ≡ a.among.space = cc in
     seeks_hinted a.among.table.now a.among.space a.self.0 a.among.count c.in-Some.h e l (sym (ordinal_is a.among.linked c.in-Some.h l e c.ordinal.ensures) ∙ c.if-ordinal-self.true)
 
 pub returns-2 : goal.returns-2

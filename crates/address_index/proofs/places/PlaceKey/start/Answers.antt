@@ -26,7 +26,7 @@ pub returns : goal.returns
 returns c =
     let a = c.args in
     let h = c.in-Some.ensures in
-    seeks_before c.requires a.among.space a.self.chunk a.self.offset _ h.1 h.0 h.2 _ c.previous.ensures
+    seeks_before c.requires a.among.space a.self.chunk a.self.offset _ h.0.1 h.0.0 h.1 _ c.previous.ensures
 
 pub returns-2 : goal.returns-2
 returns-2 c = top c.args.among c.args.self c.in_ok-top.ensures
