@@ -1,7 +1,8 @@
 // The index of legacy addresses: for each of 256 spaces its newest address record, then three numbers for each
 // record: the record before it in its space, an older record of its space to jump to, and its number in its space. In the index records are
 // counted from 1, and 0 is none. The jumps halve what is left to search (skew-binary lists), whatever the addresses are. Records are named
-// by number, since a map or a Box would need heap, which the library has none of. Table, index and n go apart, since an `AddressIndex` asks
+// by number, since a map or a Box would need heap, which the library has none of. The numbers 256 and 3 stand here and in hints.rt as the
+// clauses and definitions have them (`Roomy`, `Links`). Table, index and n go apart, since an `AddressIndex` asks
 // for addresses in order, and a bound of an argument (`Roomy`, `room 5`) is no shorter in a type.
 ghost use Rattle.std.specs.Prelude.{◌≡◌, ℕ, ◌+◌, ◌*◌, ◌^◌, ◌<◌, ◌≤◌, length, get_or, List, IsTrue, ◌↔◌};
 ghost use Rattle.tables.specs.Records.{room};

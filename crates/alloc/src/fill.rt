@@ -1,6 +1,6 @@
 // Fillers that an alignment asks for. An alignment is 0 for none, 1 for double-aligned, 2 for double-unaligned. It stays a number: any
 // other, as the 3 of a payload's third alignment byte, asks for no filler but moves the next free offset, and an enum would ask more of
-// callers.
+// callers. The numbers stand in this function alone, as the order has them.
 ghost use Rattle.std.specs.Prelude.{◌≡◌, ◌≤◌};
 ghost use Rattle.alloc.specs.Fill.{fill_to_align, max_fill_to_align};
 

@@ -128,9 +128,7 @@ pub fn place(
     if !has_room(table, ADDRESS_FIELDS, n) {
         return Err(Refusal::NoRoom);
     }
-    if 4294967295 < want.size {
-        return Err(Refusal::AddressTooLarge);
-    }
+    narrow(want.size)?;
     if spaces <= want.space {
         add_address(table, n, want.address(0, 0, 0));
         return Ok(Placed {
@@ -145,7 +143,7 @@ pub fn place(
     Ok(Placed { alignment: 0, free })
 }
 
-// An offset of at most 2^32 - 1; a higher one is refused.
+// A size or an offset of at most 2^32 - 1; a higher one is refused.
 fn narrow(offset: u64) -> Result<u32, Refusal>
     ensures { MatchResult result (λ n. n ≡ offset) (λ r. (r ≡ AddressTooLarge) × (2 ^ 32 ≤ offset)) }
 {

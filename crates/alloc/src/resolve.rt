@@ -1,6 +1,6 @@
 // Which object a legacy back-reference stands for: by address, or by its number among the objects of a space. Table and count go apart:
 // with the index they are an `AddressIndex`, `resolve_by` takes neither, and for the plain search another struct of the two would be no
-// plainer than both.
+// plainer than both. Place, alignment and word go apart: each is another thing's, the back-reference's, the state's and the sheet's.
 ghost use Rattle.std.specs.Prelude.{◌≡◌, ℕ, ◌+◌, ◌^◌, ◌<◌, ◌≤◌, length, Option};
 ghost use Rattle.tables.specs.Records.{room};
 ghost use Rattle.alloc.specs.Resolve.{is_address, addressed, resolve_by, resolve_of, Finds, ordinal_from};

@@ -32,7 +32,7 @@ impl HotRing {
     }
 
     // What stands at a place; none where it is empty.
-    // `place < 8` is a clause and no type of places, which would be made of a number at each of its three callers.
+    // `place < 8` is a clause and no type of places, which would be made of a number at each of its two callers.
     #[tactic(auto, unfolding(crate::specs::HotRing::hot_at))]
     pub fn get(&self, place: usize) -> Option<Ref>
         requires { place < 8 }

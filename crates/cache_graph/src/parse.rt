@@ -147,7 +147,7 @@ fn walk_payload<'a>(
         hot: HotRing::new(),
         alloc: LegacyAlloc::new(),
     };
-    // All numbers by name, as the definition's `start` has them: a default would hide them.
+    // All numbers by name, as the definition's `start` has them: tried with the default of `State`, of which the proof did not close.
     let start = State {
         at: 0,
         objects: 0,

@@ -111,7 +111,8 @@ fn object_of(v: SlotValue) -> Option<u64>
 }
 
 // The object that an entry names: a new-object byte, then a back-reference of its space. `NoEntry` has the number 0, as the definition has
-// it there: it only ends a legacy closing section, and an error type of its own for this crate and `graph` would hold it and `Refused`.
+// it there (`entry_of`): it only ends a legacy closing section. An error type of its own for this crate and `graph` would make the clauses
+// needless that say of other refusals that their number is not 0, and would need a view of its own beside `seen`, with its laws.
 fn entry_object(w: &mut Walker, s: State, space: u64) -> Answer<u64>
     requires { Addressed w.old s.addresses }
     ensures is { seen result (lent_of w.new) ≡ entry_object (input_of w.old) space (mem s (lent_of w.old)) }

@@ -34,7 +34,7 @@ impl<const N: usize> fmt::Display for Lines<'_, N> {
     }
 }
 
-// The first `count` records of a table.
+// The first `count` records of a table. How wide they are is said by number, as include/dawichko.h says it to C.
 fn records<const N: usize>(
     out: &mut impl Write,
     letter: &'static str,

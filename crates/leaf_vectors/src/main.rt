@@ -123,7 +123,7 @@ fn fillers(rt: &impl Print) -> io::Result<()> {
     Ok(())
 }
 
-// A refusal's number, or 0 for none.
+// A refusal's number, or 0 for none, as the output has it.
 fn number_of(alignment: Result<u64, Refusal>) -> u64 {
     alignment.err().map_or(0, Refusal::number)
 }

@@ -1,7 +1,7 @@
 -- A reference that holds no other, read without the readers of every reference. Assumes nothing: these are definitions.
 use Rattle.std.specs.Prelude.{◌≡◌, Bool, true, List, ℕ, ◌+◌, ◌^◌, ◌<◌, ◌≤◌, length, get_or, Option, Some, None, IfSome}
 use Rattle.sheet.specs.Sheet.{word_bytes}
-use Rattle.heads.specs.Heads.{head_at}
+use Rattle.heads.specs.Heads.{head_at, Heads}
 use Rattle.heads.specs.Kinds.{kind_number}
 use Rattle.tables.specs.declared.values.SlotValue.{SlotValue}
 use Rattle.tables.specs.declared.values.SlotValue.TheVariants.{Ref as IsRef}
@@ -69,3 +69,7 @@ StaysInOrder w s (Some r) w' =
     (Indexed w.slots.now s.slots w.pending.now → Indexed w'.slots.now r.1.slots w'.pending.now)
     × (Linked w.addresses.now s.addresses w.index.now → Linked w'.addresses.now r.1.addresses w'.index.now)
 StaysInOrder w s None w' = lent_of w' ≡ lent_of w
+
+-- where the heads are the sheet's, what was read is what this reader of the definition reads, whatever the reader of inner references is
+abbrev pub ReadAs : {A : Type 0} → Walker → State → Walker → (Reader SlotValue → Reader A) → A × State → Type 0
+ReadAs w s w' F r = Heads w.sheet.now w.heads.now → (inner : Reader SlotValue) → got r.0 (mem r.1 (lent_of w')) ≡ F inner (mem s (lent_of w))

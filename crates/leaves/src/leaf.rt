@@ -1,21 +1,20 @@
 // The commonest references that hold no other, read without the readers of every reference, so that a slot with one of them costs
 // little: a root, a hot place, a back-reference (in an item a legacy one too), a read-only reference and fixed raw data. What is refused
 // is left to the readers of every reference: a leaf says only None there, and those readers have to say which refusal it is and where
-// the cursor stands. So both read these kinds.
+// the cursor stands. So both read these kinds: a leaf is looked for before its slot has room, with nothing changed, and by places alone;
+// read with a state, as those readers do it, real payloads took several times as long (docs/BENCHMARKS.md).
 
 ghost use Rattle.std.specs.Prelude.{◌≡◌, List, ℕ, ◌+◌, ◌*◌, ◌^◌, ◌<◌, length, get_or, IfSome};
 ghost use Rattle.sheet.specs.Sheet.{word_bytes};
-ghost use Rattle.heads.specs.Heads.{head_at, Heads};
-ghost use Rattle.heads.specs.Kinds.{kind_number};
-ghost use Rattle.tables.specs.Records.{field};
+ghost use Rattle.heads.specs.Heads.{head_at};
+ghost use Rattle.heads.specs.Kinds.{kind_number, backref, hot as hot_kind, root_array, read_only, fixed_raw, legacy_backref};
+ghost use Rattle.tables.specs.Records.{Countable};
 ghost use Rattle.tables.specs.declared.values.SlotValue.{SlotValue};
 ghost use Rattle.tables.specs.declared.values.SlotValue.TheVariants.{Ref as IsRef};
 ghost use Rattle.backref.specs.declared.hot_ring.HotRing.{HotRing};
-ghost use Rattle.definition.specs.Memory.{Reader, got};
 ghost use Rattle.definition.specs.Reference.{reference as referenceOf};
-ghost use Rattle.readers.specs.Views.{mem};
-ghost use Rattle.readers.specs.Lent.{input_of, lent_of, Kept, Addressed};
-ghost use Rattle.leaves.specs.Leaf.{Found, LeafAt, FoundIn, StaysInOrder, slot_in, ring_with};
+ghost use Rattle.readers.specs.Lent.{input_of, Kept, Addressed};
+ghost use Rattle.leaves.specs.Leaf.{Found, LeafAt, FoundIn, StaysInOrder, ReadAs, slot_in, ring_with};
 
 use backref::hot_ring::HotRing;
 use heads::heads::Head;
@@ -53,7 +52,7 @@ fn reference(r: Ref, next: usize, word: u64, enters: bool) -> Leaf
 
 // A reference at a place of the hot ring.
 fn hot_leaf(hot: &HotRing, place: usize, next: usize, word: u64) -> Option<Leaf>
-    ensures { (p : List ℕ) (objects : ℕ) → Found p hot.now objects word next 7 place result }
+    ensures { (p : List ℕ) (objects : ℕ) → Found p hot.now objects word next hot_kind place result }
 {
     if 8 <= place {
         return None;
@@ -65,7 +64,7 @@ fn hot_leaf(hot: &HotRing, place: usize, next: usize, word: u64) -> Option<Leaf>
 // An object by plain index, which enters the ring. It and `root_array_leaf` share all but a test, as `back_ref` and `root_array` of readers
 // do: a closure for the test would be no shorter.
 fn back_leaf(p: &[u8], at: usize, objects: usize, word: u64) -> Option<Leaf>
-    ensures { (hot : HotRing) (i : ℕ) → Found p.now hot objects word at 2 i result }
+    ensures { (hot : HotRing) (i : ℕ) → Found p.now hot objects word at backref i result }
 {
     let i = putint(p, at)?;
     if objects as u64 <= i.value as u64 {
@@ -76,7 +75,7 @@ fn back_leaf(p: &[u8], at: usize, objects: usize, word: u64) -> Option<Leaf>
 
 // A root by integer, which enters the ring.
 fn root_array_leaf(p: &[u8], at: usize, word: u64) -> Option<Leaf>
-    ensures { (hot : HotRing) (objects i : ℕ) → Found p.now hot objects word at 9 i result }
+    ensures { (hot : HotRing) (objects i : ℕ) → Found p.now hot objects word at root_array i result }
 {
     let i = putint(p, at)?;
     Some(reference(Ref::Root(i.value as u64), at + i.count, word, true))
@@ -84,7 +83,7 @@ fn root_array_leaf(p: &[u8], at: usize, word: u64) -> Option<Leaf>
 
 // A read-only reference.
 fn read_only_leaf(p: &[u8], at: usize, word: u64) -> Option<Leaf>
-    ensures { (hot : HotRing) (objects i : ℕ) → Found p.now hot objects word at 12 i result }
+    ensures { (hot : HotRing) (objects i : ℕ) → Found p.now hot objects word at read_only i result }
 {
     let chunk = putint(p, at)?;
     let next = at + chunk.count;
@@ -101,7 +100,7 @@ fn read_only_leaf(p: &[u8], at: usize, word: u64) -> Option<Leaf>
 // Fixed raw data of n words.
 fn raw_leaf(p: &[u8], at: usize, n: u64, word: u64) -> Option<Leaf>
     requires { n < 65536 }
-    ensures { (hot : HotRing) (objects : ℕ) → Found p.now hot objects word at 28 n result }
+    ensures { (hot : HotRing) (objects : ℕ) → Found p.now hot objects word at fixed_raw n result }
 {
     let bytes = n.checked_mul(word)?;
     let next = raw(p, at, bytes as usize)?;
@@ -145,7 +144,7 @@ pub fn leaf_at(w: &Walker, at: usize, objects: usize) -> Option<Leaf>
 // A legacy back-reference to a space, which enters the ring. The cursor stands after its head.
 fn legacy_leaf(w: &Walker, s: State, at: usize, space: u64) -> Option<Leaf>
     requires addressed { Addressed w.now s.addresses }
-    ensures { FoundIn w.now s at 3 space result }
+    ensures { FoundIn w.now s at legacy_backref space result }
 {
     let b = find_backref(w, s, space, at).ok()?;
     Some(reference(b.target, b.next, word_bytes(w.sheet), true))
@@ -179,7 +178,7 @@ pub fn enter(hot: &mut HotRing, leaf: Leaf)
 
 // A leaf at the cursor as a reference that is read.
 pub fn take_leaf(w: &mut Walker, s: State) -> Option<(SlotValue, State)>
-    ensures read { IfSome result (λ r. Heads w.old.sheet.now w.old.heads.now → (inner : Reader SlotValue) → got r.0 (mem r.1 (lent_of w.new)) ≡ referenceOf (input_of w.old) inner (mem s (lent_of w.old))) }
+    ensures read { IfSome result (ReadAs w.old s w.new (referenceOf (input_of w.old))) }
     ensures order { StaysInOrder w.old s result w.new }
     ensures kept { Kept w.old w.new }
 {
@@ -192,8 +191,8 @@ pub fn take_leaf(w: &mut Walker, s: State) -> Option<(SlotValue, State)>
 // A leaf at the cursor as an item of the object that is read at depth d: the bytes read then. None where no leaf stands there, where its
 // slot record or the bytes read then have no room, and at the last level, where a reference is refused; then nothing is changed.
 pub fn place_leaf(w: &mut Walker, s: State, d: usize, level: Level) -> Option<(u64, State)>
-    requires { (field 4 w.old.objects.now level.object 3 < 2 ^ 63) × Addressed w.old s.addresses }
-    ensures read { IfSome result (λ r. (d < 64) × (Heads w.old.sheet.now w.old.heads.now → (inner : Reader SlotValue) → got r.0 (mem r.1 (lent_of w.new)) ≡ slot_in (input_of w.old) (referenceOf (input_of w.old) inner) level.object level.done (mem s (lent_of w.old)))) }
+    requires { Countable w.old.objects.now level.object × Addressed w.old s.addresses }
+    ensures read { IfSome result (λ r. (d < 64) × ReadAs w.old s w.new (λ inner. slot_in (input_of w.old) (referenceOf (input_of w.old) inner) level.object level.done) r) }
     ensures order { StaysInOrder w.old s result w.new }
     ensures kept { Kept w.old w.new }
 {

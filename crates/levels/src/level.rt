@@ -2,7 +2,7 @@
 
 ghost use Rattle.std.specs.Prelude.{◌≡◌, ◌+◌, ◌^◌, ◌<◌, IfSome};
 ghost use Rattle.sheet.specs.Sheet.{word_bytes};
-ghost use Rattle.tables.specs.Records.{field};
+ghost use Rattle.tables.specs.Records.{Countable};
 ghost use Rattle.tables.specs.declared.values.Ref.TheVariants.{Object};
 ghost use Rattle.tables.specs.declared.values.SlotValue.TheVariants.{Ref as IsRef};
 ghost use Rattle.definition.specs.Memory.{Input, word as word_of};
@@ -34,9 +34,10 @@ pub fn begins_object(w: &Walker, at: usize, d: usize, kept: usize) -> Option<New
     new_object_at(w, at)
 }
 
-// An object that is full, as an item of the one around it: the bytes of that which have been read then.
+// An object that is full, as an item of the one around it: the bytes of that which have been read then. `place_item` of `objects` does the
+// same of any value, but asks that no sum overflows and that the word is not 0; this never asked, hence `wrapping_add` and `max`.
 pub fn put_object(w: &mut Walker, s: State, outer: Level, child: usize) -> Answer<u64>
-    requires { field 4 w.old.objects.now outer.object 3 < 2 ^ 63 }
+    requires { Countable w.old.objects.now outer.object }
     ensures is { (x : Input) → word_of x ≡ word_bytes w.old.sheet.now → 0 < word_of x → outer.done + s.skip + word_of x < 2 ^ 64 → seen result (lent_of w.new) ≡ place_item x outer.object outer.done (IsRef (Object child)) (mem s (lent_of w.old)) }
     ensures kept { Kept w.old w.new }
 {

@@ -1,7 +1,11 @@
 -- The index from pending numbers to waiting slots, and that of legacy addresses, where a reader went on. Assumes nothing: these are
 -- definitions.
-use Rattle.std.specs.Prelude.{◌≡◌, List, ℕ, ◌<◌, length, get_or, Ok, Err}
+use Rattle.std.specs.Prelude.{◌≡◌, List, ℕ, ◌<◌, ◌≤◌, length, get_or, Ok, Err}
+use Rattle.tables.specs.Records.{room}
 use Rattle.address_index.specs.Links.{Linked}
+use Rattle.laws.specs.Waiting.{Waits}
+use Rattle.readers.specs.declared.state.State.{State}
+use Rattle.readers.specs.declared.walker.Walker.{Walker}
 use Rattle.readers.specs.Views.{Answer}
 use Rattle.definition.specs.Slots.{waiter}
 
@@ -12,6 +16,10 @@ Entry slots count n k = 0 < waiter slots n count → k ≡ waiter slots n count
 -- so for each number that there is room for; with no slots this holds of any contents
 abbrev pub Indexed : List ℕ → ℕ → List ℕ → Type 0
 Indexed slots count scratch = (n : ℕ) → n < length scratch → Entry slots count n (get_or scratch n 0)
+
+-- what is known of the slots that wait: they are there, and so are their places
+abbrev pub Waiting : Walker → State → Type 0
+Waiting w s = (s.slots ≤ room 6 w.slots.now) × Indexed w.slots.now s.slots w.pending.now × Waits w.slots.now s.slots s.pending s.waiting
 
 -- where the reader went on, the places of pending numbers are right
 abbrev pub IndexedAfter : {A : Type 0} → Answer A → List ℕ → List ℕ → Type 0

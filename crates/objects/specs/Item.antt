@@ -4,7 +4,7 @@ use Rattle.sheet.specs.Sheet.{word_bytes}
 use Rattle.tables.specs.declared.values.Fields.{Fields}
 use Rattle.tables.specs.declared.values.SlotValue.{SlotValue}
 use Rattle.tables.specs.Values.{width_of}
-use Rattle.tables.specs.Records.{room, field}
+use Rattle.tables.specs.Records.{room, Countable}
 use Rattle.definition.specs.Memory.{in_slot, Reader}
 use Rattle.definition.specs.Slots.{add_slot}
 use Rattle.readers.specs.declared.state.State.{State}
@@ -18,7 +18,7 @@ slot_of o index f waits = add_slot o index f waits in_slot
 -- an item with this value can be added to its object: the object has its record, and none of the sums overflows
 pub record ItemFits (w : Walker) (s : State) (l : Level) (v : SlotValue) : Type 0 where
   pub listed : l.object < room 4 w.objects.now
-  pub slots : field 4 w.objects.now l.object 3 < 2 ^ 63
+  pub slots : Countable w.objects.now l.object
   pub waiting : s.waiting < 2 ^ 63
   pub word_low : word_bytes w.sheet.now ≤ 8
   pub word_some : 0 < word_bytes w.sheet.now

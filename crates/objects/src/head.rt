@@ -2,10 +2,12 @@
 
 ghost use Rattle.std.specs.Prelude.{true, false, ◌≡◌, ◌^◌, ◌<◌, IfSome, IsNone};
 ghost use Rattle.sheet.specs.Sheet.{usable};
+ghost use Rattle.heads.specs.Kinds.{kind_number, new_object};
 ghost use Rattle.readers.specs.Views.{mem, seen, Below};
 ghost use Rattle.readers.specs.Lent.{input_of, lent_of, Kept};
 ghost use Rattle.objects.specs.Head.{recording, opening, opens_at, NewAt};
 
+use heads::heads::Head;
 use heads::kinds::Kind;
 use readers::ints::{read_byte, read_int};
 use readers::state::{Answer, State};
@@ -22,19 +24,28 @@ pub struct NewObject {
     pub space: u64,
 }
 
+impl NewObject {
+    // The new object that a head at a place begins.
+    pub fn of(at: usize, head: Head) -> Option<NewObject>
+        ensures some { IfSome result (λ new. (kind_number head.kind ≡ new_object) × (new ≡ record { tag = at; space = head.argument })) }
+        ensures none { IsNone result → kind_number head.kind ≡ new_object → ⊥ }
+    {
+        if head.kind != Kind::NewObject {
+            return None;
+        }
+        Some(NewObject {
+            tag: at,
+            space: u64::from(head.argument),
+        })
+    }
+}
+
 // The new object whose head stands at a place.
 pub fn new_object_at(w: &Walker, at: usize) -> Option<NewObject>
     ensures some { IfSome result (NewAt w.now at) }
     ensures none { IsNone result → opens_at w.now at ≡ false }
 {
-    let head = w.head_at(at)?;
-    if head.kind != Kind::NewObject {
-        return None;
-    }
-    Some(NewObject {
-        tag: at,
-        space: head.argument as u64,
-    })
+    NewObject::of(at, w.head_at(at)?)
 }
 
 // The size in words of an object after whose head the cursor stands; its record is added. A 6.x large object has one more byte.
@@ -52,7 +63,7 @@ pub fn open_object(w: &mut Walker, s: State, new: NewObject) -> Answer<u64>
     add_record(w, u, new.tag, words)
 }
 
-// The object's record, if there is room; the words again.
+// The object's record, if there is room, as `push_value` adds a value's, but in another table; the words again.
 #[tactic(auto, unfolding(definition::specs::Object::add_object))]
 fn add_record(w: &mut Walker, s: State, tag: usize, words: u64) -> Answer<u64>
     requires { (usable w.old.sheet.now ≡ true) × (words < 2 ^ 30) }

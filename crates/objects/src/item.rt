@@ -2,7 +2,7 @@
 
 ghost use Rattle.std.specs.Prelude.{◌≡◌, ◌^◌, ◌<◌, ◌≤◌, IsTrue};
 ghost use Rattle.std.specs.Int.{from_bool};
-ghost use Rattle.tables.specs.Records.{room, field};
+ghost use Rattle.tables.specs.Records.{room, Countable};
 ghost use Rattle.definition.specs.Memory.{table};
 ghost use Rattle.definition.specs.Slots.{waits_of, previous, repeat_previous, keep_item, place_item};
 ghost use Rattle.readers.specs.Views.{mem, seen};
@@ -11,11 +11,12 @@ ghost use Rattle.objects.specs.Index.{Indexed, IndexedAfter};
 ghost use Rattle.objects.specs.Item.{slot_of, ItemFits};
 
 use crate::pending::note;
+use readers::prefix::push_value;
 use readers::state::{Answer, State};
 use readers::walker::Walker;
 use refusals::refusal::Refusal;
 use sheet::numbers::word_bytes;
-use tables::records::{Slot, add_value, append_slot, slot_at};
+use tables::records::{Slot, append_slot, slot_at};
 use tables::values::{Fields, SlotValue, width};
 
 // An object that is being read: its number, its bytes and how many of them have been read, and where its head stands.
@@ -37,7 +38,7 @@ pub fn push_slot(
     value: Fields,
     waits: bool,
 ) -> Answer<usize>
-    requires { (field 4 w.old.objects.now o 3 < 2 ^ 63) × (IsTrue waits → s.waiting < 2 ^ 63) }
+    requires { Countable w.old.objects.now o × (IsTrue waits → s.waiting < 2 ^ 63) }
     ensures is { seen result (lent_of w.new) ≡ slot_of o index value (from_bool waits) (mem s (lent_of w.old)) }
     ensures kept { Kept w.old w.new }
 {
@@ -67,17 +68,13 @@ fn previous(w: &Walker, s: State) -> Fields
 }
 
 // The previous slot's value as a value record, for a 6.x repeat: its number.
-#[tactic(auto, unfolding(definition::specs::Slots::add_value))]
 fn keep_previous(w: &mut Walker, s: State) -> Answer<u64>
     requires { (0 < s.slots) × (s.slots ≤ room 6 w.old.slots.now) }
     ensures is { seen result (lent_of w.new) ≡ repeat_previous (mem s (lent_of w.old)) }
     ensures kept { Kept w.old w.new }
 {
-    let n = s.values;
     let value = previous(w, s);
-    add_value(w.values, n, value).ok_or(s.refused(Refusal::NoRoom))?;
-    let t = State { values: n + 1, ..s };
-    Ok((n as u64, t))
+    push_value(w, s, value)
 }
 
 // An item that becomes a slot, after the with-skip amount that stands: the bytes read then.

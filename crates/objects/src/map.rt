@@ -10,7 +10,7 @@ ghost use Rattle.refusals.specs.Numbers.{number_of};
 ghost use Rattle.definition.specs.Memory.{got, aligned};
 ghost use Rattle.definition.specs.Object.{alignment_byte, chunk_changes, allocate, flag_object};
 ghost use Rattle.readers.specs.Views.{Lent, input, mem, seen};
-ghost use Rattle.readers.specs.Lent.{input_of, lent_of, Kept, PendingKept};
+ghost use Rattle.readers.specs.Lent.{input_of, lent_of, Kept, PendingKept, Untouched};
 ghost use Rattle.objects.specs.Index.{LinkedAfter};
 ghost use Rattle.objects.specs.Map.{after_map, is_flagged, map_kept, AddressAlone};
 
@@ -48,12 +48,13 @@ fn enter_record(w: &mut Walker, n: usize)
     }
 }
 
-// Address record n and its entry in the index: the alignment that is pending then. Refused, nothing changes.
+// Address record n and its entry in the index: the alignment that is pending then. Refused, nothing changes. `LegacyAlloc::allocate` does the
+// like by value, as the order wants it; the walk lends its counters (docs/DECISIONS.md).
 pub fn allocate_record(w: &mut Walker, n: usize, want: Request) -> Result<u64, Refusal>
     requires { (want.space < 256) × (want.word ≤ 8) × Linked w.old.addresses.now n w.old.index.now }
     ensures is { allocated want.alignment result w.new.alloc w.new.addresses.now ≡ allocate_of w.old.addresses.now n w.old.spaces want w.old.alloc }
     ensures linked { OnOk result (Linked w.new.addresses.now (n + 1) w.new.index.now) }
-    ensures refused { OnErr result ((lent_of w.new ≡ lent_of w.old) × (w.new.index.now ≡ w.old.index.now)) }
+    ensures refused { OnErr result (Untouched w.old w.new) }
     ensures some { IfErr result (λ r. 0 < number_of r) }
     ensures rest { AddressAlone w.old w.new }
 {
@@ -67,14 +68,15 @@ pub fn allocate_record(w: &mut Walker, n: usize, want: Request) -> Result<u64, R
     Ok(placed.alignment)
 }
 
-// An address record of object o, and its entry in the index. Refused, nothing changes.
+// An address record of object o, and its entry in the index. Refused, nothing changes. Space, bytes and object are a `Request` once alignment
+// and word are known: a struct of these three would be made at each call for this one.
 #[inline(always)]
 pub fn allocate_object(w: &mut Walker, s: State, space: u64, bytes: u64, o: u64) -> Answer<()>
     requires sheet_value { (usable w.old.sheet.now ≡ true) × (space < 256) × (bytes < 2 ^ 33) }
     requires linked_before { Linked w.old.addresses.now s.addresses w.old.index.now }
     ensures is { seen result (lent_of w.new) ≡ allocate (input_of w.old) space bytes o (mem s (lent_of w.old)) }
     ensures linked { LinkedAfter result w.new.addresses.now w.new.index.now }
-    ensures refused { OnErr result ((lent_of w.new ≡ lent_of w.old) × (w.new.index.now ≡ w.old.index.now)) }
+    ensures refused { OnErr result (Untouched w.old w.new) }
     ensures rest { AddressAlone w.old w.new }
 {
     let want = Request {

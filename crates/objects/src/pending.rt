@@ -7,10 +7,9 @@ ghost use Rattle.tables.specs.Records.{room};
 ghost use Rattle.definition.specs.Memory.{with_pending};
 ghost use Rattle.definition.specs.Slots.{waits_for, waiter, renumbered, resolved};
 ghost use Rattle.definition.specs.Object.{resolves as resolvesFrom};
-ghost use Rattle.laws.specs.Waiting.{Waits};
 ghost use Rattle.readers.specs.Views.{Lent, mem, seen};
 ghost use Rattle.readers.specs.Lent.{input_of, lent_of, Kept};
-ghost use Rattle.objects.specs.Index.{Entry, Indexed, IndexedAfter};
+ghost use Rattle.objects.specs.Index.{Entry, Indexed, IndexedAfter, Waiting};
 ghost use Rattle.address_index.specs.Links.{counted};
 
 use readers::ints::read_int;
@@ -36,7 +35,7 @@ fn waits_for(slots: &[u64], number: u64, k: usize) -> bool
     ensures { result ≡ waits_for slots.now number k }
 {
     let slot = slot_at(slots, k);
-    (slot.waits == 1) & (slot.value.a == number)
+    slot.waits == 1 && slot.value.a == number
 }
 
 // The newest of n slots that waits under a number: a search.
@@ -64,7 +63,7 @@ fn confirmed(slots: &[u64], number: u64, n: usize, k: u64) -> Option<usize>
 
 // The same, by scratch where it has a place; and with no search under a number that was not given out, or where no slot waits.
 fn lookup(w: &Walker, s: State, number: u64) -> Option<usize>
-    requires { (s.slots ≤ room 6 w.now.slots.now) × Indexed w.now.slots.now s.slots w.now.pending.now × Waits w.now.slots.now s.slots s.pending s.waiting }
+    requires { Waiting w.now s }
     ensures { counted result ≡ waiter w.now.slots.now number s.slots }
 {
     if s.pending <= number {
@@ -93,7 +92,7 @@ fn with_waiting(s: State, waiting: u64) -> State
 
 // A resolve of a number, after the map of object o.
 fn resolve(w: &mut Walker, s: State, number: u64, o: u64) -> State
-    requires { (s.slots ≤ room 6 w.old.slots.now) × Indexed w.old.slots.now s.slots w.old.pending.now × Waits w.old.slots.now s.slots s.pending s.waiting }
+    requires { Waiting w.old s }
     ensures is { mem result (lent_of w.new) ≡ resolved number o (mem s (lent_of w.old)) }
     ensures index { Indexed w.new.slots.now result.slots w.new.pending.now }
     ensures kept { Kept w.old w.new }
@@ -108,7 +107,7 @@ fn resolve(w: &mut Walker, s: State, number: u64, o: u64) -> State
 // Resolves as long as they stand at the cursor: the step is what was read, so that a `for` would be no plainer.
 pub fn resolves(w: &mut Walker, s: State, o: u64) -> Answer<()>
     requires usable { (usable w.old.sheet.now ≡ true) × (s.at ≤ length w.old.payload.now) }
-    requires waits { (s.slots ≤ room 6 w.old.slots.now) × Indexed w.old.slots.now s.slots w.old.pending.now × Waits w.old.slots.now s.slots s.pending s.waiting }
+    requires waits { Waiting w.old s }
     ensures is { seen result (lent_of w.new) ≡ resolvesFrom (input_of w.old) o (length w.old.payload.now - s.at) (mem s (lent_of w.old)) }
     ensures index { IndexedAfter result w.new.slots.now w.new.pending.now }
     ensures kept { Kept w.old w.new }

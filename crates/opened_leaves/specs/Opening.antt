@@ -9,7 +9,7 @@ use Rattle.definition.specs.Object.{flags, allocate, read_map, keep_map}
 use Rattle.readers.specs.declared.state.State.{State}
 use Rattle.readers.specs.declared.walker.Walker.{Walker}
 use Rattle.readers.specs.Views.{input, mem}
-use Rattle.readers.specs.Lent.{input_of, lent_of}
+use Rattle.readers.specs.Lent.{input_of, lent_of, Untouched}
 use Rattle.leaves.specs.declared.leaf.Leaf.{Leaf}
 use Rattle.leaves.specs.Leaf.{LeafAt}
 use Rattle.objects.specs.Head.{opening}
@@ -40,4 +40,4 @@ pub record Given (w : Walker) (s : State) (space bytes o : ℕ) (t : State) (w' 
 
 abbrev pub AddressGiven : Walker → State → ℕ → ℕ → ℕ → Option State → Walker → Type 0
 AddressGiven w s space bytes o (Some t) w' = Given w s space bytes o t w'
-AddressGiven w s space bytes o None w' = AddressAlone w w' × (lent_of w' ≡ lent_of w) × (w'.index.now ≡ w.index.now)
+AddressGiven w s space bytes o None w' = AddressAlone w w' × Untouched w w'

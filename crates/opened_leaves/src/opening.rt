@@ -1,16 +1,13 @@
 // Objects whose map is a leaf, opened without the readers of every reference.
 
-ghost use Rattle.std.specs.Prelude.{true, ◌≡◌, ℕ, ◌+◌, ◌*◌, ◌^◌, ◌<◌, ◌≤◌, IfSome, IsNone};
+ghost use Rattle.std.specs.Prelude.{true, ◌≡◌, ◌+◌, ◌*◌, ◌^◌, ◌<◌, ◌≤◌, IfSome, IsNone};
 ghost use Rattle.sheet.specs.Sheet.{usable};
-ghost use Rattle.heads.specs.Heads.{Heads};
 ghost use Rattle.tables.specs.Records.{room};
-ghost use Rattle.tables.specs.declared.values.SlotValue.{SlotValue};
 ghost use Rattle.address_index.specs.Links.{Linked};
-ghost use Rattle.definition.specs.Memory.{Reader, got};
 ghost use Rattle.definition.specs.Reference.{reference};
-ghost use Rattle.readers.specs.Views.{mem};
-ghost use Rattle.readers.specs.Lent.{input_of, lent_of, PendingKept};
+ghost use Rattle.readers.specs.Lent.{input_of, PendingKept, Untouched};
 ghost use Rattle.objects.specs.Index.{Indexed};
+ghost use Rattle.leaves.specs.Leaf.{ReadAs};
 ghost use Rattle.opened_leaves.specs.Opening.{opened, MapAt, AddressGiven};
 
 use leaves::leaf::{Leaf, enter, leaf_at};
@@ -70,10 +67,10 @@ fn records_fit(w: &Walker, s: State) -> bool
 pub fn open_leaf(w: &mut Walker, s: State, d: usize, new: NewObject) -> Option<(u64, State)>
     requires usable { (usable w.old.sheet.now ≡ true) × (new.space < 256) × (s.objects < 2 ^ 63) }
     requires linked_before { Linked w.old.addresses.now s.addresses w.old.index.now }
-    ensures read { IfSome result (λ r. (d < 64) × (r.0 < 2 ^ 33) × (s.objects < r.1.objects) × (Heads w.old.sheet.now w.old.heads.now → (inner : Reader SlotValue) → got r.0 (mem r.1 (lent_of w.new)) ≡ opened (input_of w.old) (reference (input_of w.old) inner) new.space new.tag s.objects (mem s (lent_of w.old)))) }
+    ensures read { IfSome result (λ r. (d < 64) × (r.0 < 2 ^ 33) × (s.objects < r.1.objects) × ReadAs w.old s w.new (λ inner. opened (input_of w.old) (reference (input_of w.old) inner) new.space new.tag s.objects) r) }
     ensures linked { IfSome result (λ r. Linked w.new.addresses.now r.1.addresses w.new.index.now) }
     ensures indexed { IfSome result (λ r. Indexed w.old.slots.now s.slots w.old.pending.now → Indexed w.new.slots.now r.1.slots w.new.pending.now) }
-    ensures none { IsNone result → (lent_of w.new ≡ lent_of w.old) × (w.new.index.now ≡ w.old.index.now) }
+    ensures none { IsNone result → Untouched w.old w.new }
     ensures rest { PendingKept w.old w.new }
 {
     if DEEPEST <= d {

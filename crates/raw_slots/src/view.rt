@@ -36,6 +36,7 @@ impl Slots<'_> {
         if value.kind != ValueKind::Raw as u64 && value.kind != ValueKind::RawInPlace as u64 {
             return Err(Refusal::NoView);
         }
+        // Two comparisons: `raw` of `stream` tests a range too, and would be one more crate below this one.
         let end = payload.len() as u64;
         if end < value.a || end - value.a < value.b {
             return Err(Refusal::NoView);

@@ -53,6 +53,10 @@ PendingKept w w' = Fixed w w' × (w'.pending.now ≡ w.pending.now)
 abbrev pub IndexKept : Walker → Walker → Type 0
 IndexKept w w' = Fixed w w' × (w'.index.now ≡ w.index.now)
 
+-- no table, neither ring nor counters, and no index of legacy addresses changes
+abbrev pub Untouched : Walker → Walker → Type 0
+Untouched w w' = (lent_of w' ≡ lent_of w) × (w'.index.now ≡ w.index.now)
+
 -- a byte stands at a place, and this is what it means as a head
 pub record HeadAt (w : Walker) (at : ℕ) (h : Head) : Type 0 where
   pub inside : at < length w.payload.now

@@ -6,7 +6,6 @@ ghost use Rattle.definition.specs.Reference.{skip_amount};
 ghost use Rattle.readers.specs.Views.{Lent, input, mem, seen, Below};
 
 use crate::state::{Answer, State};
-use stream::bytes::byte;
 use stream::putint::putint;
 
 #[tactic(auto, unfolding(definition::specs::Memory::byte))]
@@ -14,11 +13,8 @@ pub fn read_byte(p: &[u8], s: State) -> Answer<u64>
     ensures by_index { (v tr : List ℕ) (sp : ℕ) (l : Lent) → seen result l ≡ Memory.byte (input v p.now sp tr) (mem s l) }
     ensures small { Below 256 result }
 {
-    let at = s.at;
-    if p.len() <= at {
-        return Err(s.cut(p));
-    }
-    Ok((byte(p, at), State { at: at + 1, ..s }))
+    let byte = *p.get(s.at).ok_or(s.cut(p))?;
+    Ok((u64::from(byte), State { at: s.at + 1, ..s }))
 }
 
 #[tactic(auto, using(crate::proofs::IntLaws::int_ends), unfolding(definition::specs::Memory::int))]

@@ -1,6 +1,7 @@
 // What stands before another reference: chunk changes, alignment, weak and pointer prefixes, repeats.
 ghost use Rattle.std.specs.Prelude.{◌≡◌, List, ℕ, ◌-◌, ◌^◌, ◌<◌, get_or};
 ghost use Rattle.heads.specs.Kinds.{kind_number};
+ghost use Rattle.definition.specs.Slots.{add_value as addValue};
 ghost use Rattle.readers.specs.Views.{Lent, input, mem, seen};
 ghost use Rattle.readers.specs.Lent.{input_of, lent_of, Kept};
 ghost use Rattle.readers.specs.Prefix.{held as heldAs, Begins, RepeatsRoot};
@@ -77,23 +78,33 @@ fn repeat_root(p: &[u8], s: State, n: u32) -> Answer<Prefix>
     Ok((Prefix::Root(Held::Repeated(n), i), t))
 }
 
-// The value that a reference held: as it is, or as a value record, if there is room. Other records are added alike, but for table, row and
-// count: a function of these would take a closure for each.
+// A value record, if there is room: its number.
 #[tactic(auto, unfolding(definition::specs::Slots::add_value))]
+pub fn push_value(w: &mut Walker, s: State, f: Fields) -> Answer<u64>
+    ensures is { seen result (lent_of w.new) ≡ addValue f (mem s (lent_of w.old)) }
+    ensures kept { Kept w.old w.new }
+{
+    let n = s.values;
+    add_value(w.values, n, f).ok_or(s.refused(Refusal::NoRoom))?;
+    let t = State { values: n + 1, ..s };
+    Ok((n as u64, t))
+}
+
+// The value that a reference held: as it is, or as a value record.
+#[tactic(auto, using(crate::proofs::ViewLaws::then_no, crate::proofs::ViewLaws::then_got))]
 pub fn hold(w: &mut Walker, s: State, held: Held, v: SlotValue) -> Answer<SlotValue>
     ensures holds { seen result (lent_of w.new) ≡ heldAs held v (mem s (lent_of w.old)) }
     ensures kept { Kept w.old w.new }
 {
-    let n = s.values as u64;
-    let value = match held {
-        Held::Plain => return Ok((v, s)),
-        Held::Weak => SlotValue::WeakRef(n),
-        Held::Repeated(count) => SlotValue::Repeat(count, n),
-    };
-    add_value(w.values, s.values, Fields::from(v)).ok_or(s.refused(Refusal::NoRoom))?;
-    let t = State {
-        values: s.values + 1,
-        ..s
-    };
-    Ok((value, t))
+    match held {
+        Held::Plain => Ok((v, s)),
+        Held::Weak => {
+            let (k, t) = push_value(w, s, Fields::from(v))?;
+            Ok((SlotValue::WeakRef(k), t))
+        }
+        Held::Repeated(n) => {
+            let (k, t) = push_value(w, s, Fields::from(v))?;
+            Ok((SlotValue::Repeat(n, k), t))
+        }
+    }
 }

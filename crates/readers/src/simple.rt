@@ -180,7 +180,7 @@ fn pending_ref(s: State) -> Answer<SlotValue>
 }
 
 // A head with a with-skip amount before what it is. Which of five it is, is asked after the amount: a closure for the rest would be no
-// shorter.
+// shorter, and one `match` of these and the heads of `simple_ref` would ask the kind once more, for the amount.
 fn with_skip(w: &mut Walker, s: State, head: Head) -> Answer<SlotValue>
     requires addressed { Addressed w.old s.addresses × (s.skip < 2 ^ 63) }
     requires place { kind_number head.kind ≡ hot_with_skip → head.argument < 8 }

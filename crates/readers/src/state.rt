@@ -6,7 +6,7 @@ use refusals::refusal::Refusal;
 
 // The cursor, the four record counts, the next pending number and how many slots wait, the with-skip amount that stands, and the pending
 // alignment.
-#[derive(Clone, Copy)]
+#[derive(Clone, Copy, Default)]
 pub struct State {
     pub at: usize,
     pub objects: usize,

@@ -15,7 +15,7 @@ pub enum Closing {
     Reference,
 }
 
-// A byte is the tag at place k: of kResolvePendingForwardRef, kDeferred, kNextChunk, kNop.
+// A byte is the tag at place k: of kResolvePendingForwardRef, kDeferred, kNextChunk, kNop, kSynchronize.
 pub fn is_tag(sheet: &[u16], k: usize, b: u64) -> bool
     ensures { result ≡ eqb (Sheet.number sheet.now k) b }
 {

@@ -11,8 +11,8 @@ pub fn byte(p: &[u8], at: usize) -> u64
     u64::from(p[at])
 }
 
-// The byte at a place, or 256 where none is left: no tag has that value, so that a test for a tag needs none for the end, as it would of an
-// Option.
+// The byte at a place, or 256 where none is left, as the definition has it (`peek_at`): no tag has that value, so that a test for a tag needs
+// none for the end; `is_tag` and `closing_entry` take any number, and an Option would ask more of callers.
 #[tactic(auto, unfolding(crate::specs::Bytes::peek_at))]
 pub fn peek(p: &[u8], at: usize) -> u64
     ensures { result ≡ peek_at p.now at }
@@ -20,7 +20,7 @@ pub fn peek(p: &[u8], at: usize) -> u64
     p.get(at).map_or(256, |b| u64::from(*b))
 }
 
-// n bytes as a number, the first byte lowest: by shifts and or; `from_le_bytes` takes no n.
+// n bytes as a number, the first byte lowest: by shifts and or, as the order has the integer of variable length.
 pub fn little_endian(p: &[u8], at: usize, n: usize) -> u64
     requires { (at + n ≤ length p.now) × (n ≤ 8) }
     ensures { result ≡ little_endian p.now at n }

@@ -1,5 +1,5 @@
 -- The four tables of document 01, as flat lists of numbers. Assumes nothing: these are definitions.
-use Rattle.std.specs.Prelude.{◌≡◌, Bool, true, false, List, [], ◌∷◌, ℕ, ◌+◌, ◌*◌, ◌/◌, length, get_or, set, ltb}
+use Rattle.std.specs.Prelude.{◌≡◌, Bool, true, false, List, [], ◌∷◌, ℕ, ◌+◌, ◌*◌, ◌/◌, ◌^◌, ◌<◌, length, get_or, set, ltb}
 use Rattle.std.proofs.lemmas.List.Edits.{sets}
 use Rattle.tables.specs.declared.values.Fields.{Fields}
 use Rattle.tables.specs.declared.records.Slot.{Slot}
@@ -56,6 +56,10 @@ has_room t n row = ltb n (room (length row) t)
 pub record Put (t : List ℕ) (n : ℕ) (row : List ℕ) (r : Bool) (after : List ℕ) : Type 0 where
   pub roomy : r ≡ has_room t n row
   pub table : after ≡ pick_table (has_room t n row) (written t n row) t
+
+-- the slot count of object o can take one more
+abbrev pub Countable : List ℕ → ℕ → Type 0
+Countable t o = field 4 t o 3 < 2 ^ 63
 
 -- object o has one slot more
 abbrev pub counted : List ℕ → ℕ → List ℕ

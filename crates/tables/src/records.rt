@@ -1,8 +1,8 @@
 // The four tables of records: objects, slots, values and addresses. They stay flat numbers in memory that the caller lends, since C reads
-// them as they are. Where a field stands in its record is said here alone: other crates go by `Slot`, `Address` and `Fields`.
+// them as they are. Where a field stands in its record is said here alone: other crates of the library go by `Slot`, `Address` and `Fields`.
 ghost use Rattle.std.specs.Prelude.{◌≡◌, ◌+◌, ◌*◌, ◌^◌, ◌<◌, ◌≤◌, length, ltb, replicate, set, is_some};
 ghost use Rattle.tables.specs.Values.{triple};
-ghost use Rattle.tables.specs.Records.{room, field as field_of, Put, object_row, slot_row, value_row, address_row, pick_table, slot_of, address_of, counted, filled};
+ghost use Rattle.tables.specs.Records.{room, field as field_of, Put, object_row, slot_row, value_row, address_row, pick_table, slot_of, address_of, counted, Countable, filled};
 
 use crate::values::{Fields, ValueKind};
 
@@ -151,9 +151,9 @@ pub fn value_fields(t: &[u64], n: u64) -> Fields
     ensures { result ≡ triple (field_of 3 t.now n 0) (field_of 3 t.now n 1) (field_of 3 t.now n 2) }
 {
     Fields {
-        kind: field(t, 3, n, 0),
-        a: field(t, 3, n, 1),
-        b: field(t, 3, n, 2),
+        kind: field(t, VALUE_FIELDS as u64, n, 0),
+        a: field(t, VALUE_FIELDS as u64, n, 1),
+        b: field(t, VALUE_FIELDS as u64, n, 2),
     }
 }
 
@@ -161,12 +161,12 @@ pub fn value_fields(t: &[u64], n: u64) -> Fields
 pub fn slot_count(t: &[u64], o: u64) -> u64
     ensures { result ≡ field_of 4 t.now o 3 }
 {
-    field(t, 4, o, 3)
+    field(t, OBJECT_FIELDS as u64, o, 3)
 }
 
 // One more in the slot count of object o; a table without that object stays. No `get_mut`, since std does not say what a slice ends as.
 pub fn count_slot(t: &mut [u64], o: u64)
-    requires { field_of 4 t.old o 3 < 2 ^ 63 }
+    requires { Countable t.old o }
     ensures { t.new ≡ counted t.old o }
 {
     if o < (t.len() / OBJECT_FIELDS) as u64 {
@@ -178,7 +178,7 @@ pub fn count_slot(t: &mut [u64], o: u64)
 // A slot record, and one more in the slot count of its object; none where there is no room for the record, and then both tables stay.
 #[inline(always)]
 pub fn append_slot(slots: &mut [u64], objects: &mut [u64], n: usize, slot: Slot) -> Option<()>
-    requires { field_of 4 objects.old slot.object 3 < 2 ^ 63 }
+    requires { Countable objects.old slot.object }
     ensures slot { Put slots.old n (slot_row slot.object slot.index slot.value slot.waits) (is_some result) slots.new }
     ensures count { objects.new ≡ pick_table (is_some result) (counted objects.old slot.object) objects.old }
 {

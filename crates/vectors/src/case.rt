@@ -25,7 +25,7 @@ pub struct Case {
     addresses: Vec<u64>,
 }
 
-// The refusal's number or 0; then the four record counts and the cursor at the finish, or the refusal's place.
+// The refusal's number or 0, as the frozen file has it; then the four record counts and the cursor at the finish, or the refusal's place.
 #[derive(Clone, Copy, PartialEq, Eq)]
 pub struct Outcome {
     pub number: u64,
@@ -100,7 +100,8 @@ pub fn read_outcome(cases: &mut Numbers<'_>) -> Outcome
     }
 }
 
-// A call, with scratch of 512 numbers. What that holds before could be the number of a slot or of a record.
+// A call, with scratch of 512 numbers. What that holds before could be the number of a slot or of a record. The tables come apart, since a
+// `Case` has them as vectors: the `Tables` are made here.
 fn called(
     call: Call<'_>,
     objects: &mut [u64],
@@ -178,6 +179,7 @@ impl Case {
             let c = after_table b (places frozen.values 3) self.now.values.items in
             IsTrue result.addresses ↔ ¬ IsFrozen c (places frozen.addresses 5) self.now.addresses.items }
     {
+        // How wide the records are is said by number, as C knows the tables.
         Differences {
             outcome: o != frozen,
             objects: !numbers.is_frozen(&self.objects, frozen.objects, 4),

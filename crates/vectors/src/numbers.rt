@@ -12,7 +12,7 @@ use std::alloc::{AllocError, Global};
 #[derive(Drop)]
 pub struct Numbers<'a>(pub &'a [u8]);
 
-// The bytes as a number, the first byte lowest.
+// The bytes as a number, the first byte lowest, by the kit's function: a program is held to no form, as `stream` is by the order.
 fn little_endian(bytes: &[u8]) -> u64
     requires { length bytes.now ≤ 8 }
     ensures { result ≡ from_le_bytes w64 bytes.now }
@@ -48,7 +48,7 @@ impl Iterator for Numbers<'_> {
 }
 
 impl Numbers<'_> {
-    // The next number, 0 where none is left.
+    // The next number, 0 where none is left: a file that is cut short has cases that differ, and the clauses say what is read of it.
     pub fn number(&mut self) -> u64
         ensures value { result ≡ unwrap_or (first_number self.old.0.now) 0 }
         ensures rest { self.new.0.now ≡ after_number self.old.0.now }

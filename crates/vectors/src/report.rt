@@ -17,7 +17,7 @@ impl Differences {
     pub fn any(&self) -> bool
         ensures { result ≡ (self.now.outcome || self.now.objects || self.now.slots || self.now.values || self.now.addresses) }
     {
-        self.outcome | self.objects | self.slots | self.values | self.addresses
+        self.outcome || self.objects || self.slots || self.values || self.addresses
     }
 }
 

@@ -66,9 +66,8 @@ module _ {x : Input} {m : Mem} (s : Sound x m) (c : Counted m) (u : Numbered m) 
       went (place_item_keeps p m s c o b done v narrow) (place_item-numbered p m s c u o (done + 1) done b v fresh narrow (omega arith)) (ground_ascends x m a (place_item x o done v m) (place_item_ground x o done v m)) f
 
 -- what an item keeps, of an object of n bytes
-pub record Added (done n : ℕ) (m : Mem) (d : ℕ) (m' : Mem) : Type 0 where
+pub record Added (n : ℕ) (m : Mem) (d : ℕ) (m' : Mem) : Type 0 where
   pub reads : m.at < m'.at
-  pub rises : done ≤ d
   pub less : d ≤ n + 2 ^ 55
 
 abbrev WentOut : Input → Mem → (ℕ → Mem → Type 0) → Out ℕ → Type 0
@@ -78,7 +77,7 @@ WentOut x m P (no n q m') = Unit {0}
 -- ---- one item, and the rest
 
 -- the definition's items, of which so many bytes are left in the payload
-abbrev pub items_from : Input → Reader SlotValue → ℕ → ℕ → ℕ → Reader ℕ
+abbrev items_from : Input → Reader SlotValue → ℕ → ℕ → ℕ → Reader ℕ
 items_from x r o n done m = items x r o n (length x.payload - m.at + 1) done m
 
 -- an object, of which so many bytes have been read: its other items, which fill it
@@ -119,12 +118,12 @@ module _ {x : Input} {h : List Head} {sc : Scratch} {m : Mem} (g : InOrder x h m
   abbrev r : Reader SlotValue
   r = ref_at x (64 - d)
 
-  slot_went : {d1 : ℕ} {m1 : Mem} → got d1 m1 ≡ slot_in x r o done m → Went x m (Added done n m) None d1 m1
+  slot_went : {d1 : ℕ} {m1 : Mem} → got d1 m1 ≡ slot_in x r o done m → Went x m (Added n m) None d1 m1
   slot_went {d1} {m1} f =
       let t = through (r m) (place_item x o done) f in
       let z : Went x m (Referred x m) Free t.value t.between = order_ref g (64 - d) t.first in
       let y : Went x t.between (Placed done t.between) None d1 m1 = place_went z.kept.sound z.kept.counted z.numbered z.ascending g.proper o done (omega (arith, z.kept.onward.objects_up)) t.value z.more.narrow z.fresh t.second in
-      record { kept = kept_trans z.kept y.kept; more = record { reads = omega (arith, z.more.reads, y.more.at_same); rises = y.more.rises; less = omega (arith, y.more.bound, z.kept.sound.skip_low, z.kept.sound.within, g.proper.short) }; numbered = y.numbered; ascending = y.ascending; fresh = tt }
+      record { kept = kept_trans z.kept y.kept; more = record { reads = omega (arith, z.more.reads, y.more.at_same); less = omega (arith, y.more.bound, z.kept.sound.skip_low, z.kept.sound.within, g.proper.short) }; numbered = y.numbered; ascending = y.ascending; fresh = tt }
 
   -- after an item the rest of the bytes is enough for the rest of the items
   enough : (u : Out ℕ) → u ≡ slot_in x r o done m → and_then u (items_from x r o n) ≡ and_then u (items x r o n (length x.payload - m.at))
@@ -143,13 +142,13 @@ module _ {x : Input} {h : List Head} {sc : Scratch} {m : Mem} (g : InOrder x h m
   pub items_one : and_then (item_in x r o n done m) (items_from x r o n) ≡ items_from x r o n done m
   items_one = by_tag (is_deferred x.sheet (peek x m)) refl
 
-  went_by_tag : (t : Bool) → is_deferred x.sheet (peek x m) ≡ t → {d1 : ℕ} {m1 : Mem} → got d1 m1 ≡ item_in x r o n done m → Went x m (Added done n m) None d1 m1
+  went_by_tag : (t : Bool) → is_deferred x.sheet (peek x m) ≡ t → {d1 : ℕ} {m1 : Mem} → got d1 m1 ≡ item_in x r o n done m → Went x m (Added n m) None d1 m1
   went_by_tag true e {d1} {m1} f =
       let i = deferred_inside g e in
       let q : got d1 m1 ≡ got n (moved (m.at + 1) m) = f ∙ sym (item_deferred x r o n done m e i) in
-      let w : Went x m (Added done n m) None n (moved (m.at + 1) m) = record { kept = moved_kept g i; more = record { reads = omega arith; rises = omega (arith, low); less = omega arith }; numbered = g.numbered; ascending = g.ascending; fresh = tt } in
-      subst (λ (u : Out ℕ). WentOut x m (Added done n m) u) (sym q) w
+      let w : Went x m (Added n m) None n (moved (m.at + 1) m) = record { kept = moved_kept g i; more = record { reads = omega arith; less = omega arith }; numbered = g.numbered; ascending = g.ascending; fresh = tt } in
+      subst (λ (u : Out ℕ). WentOut x m (Added n m) u) (sym q) w
   went_by_tag false e f = slot_went (f ∙ sym (item_slot x r o n done m e refl))
 
-  pub item_went : {d1 : ℕ} {m1 : Mem} → got d1 m1 ≡ item_in x r o n done m → Went x m (Added done n m) None d1 m1
+  pub item_went : {d1 : ℕ} {m1 : Mem} → got d1 m1 ≡ item_in x r o n done m → Went x m (Added n m) None d1 m1
   item_went = went_by_tag (is_deferred x.sheet (peek x m)) refl

@@ -107,7 +107,7 @@ module _ {w : Walker} {s : State} (g : Ready w s) (d a : ℕ) (l : Level) (b : (
             let i₂ : Indexed w₂.slots.now u.slots w₂.pending.now = subst (λ (t : Table). Indexed t.rows t.count w₂.pending.now) (sym (after_still (input_of w₁) s.alignment a l.size l.object (mem t (lent_of w₁)) f)) (rw r₂.1 i.indexed) in
             let g₂ : InOrder x w.heads.now m₂ (scratch_of w₂) = order_after (order_of g) z.kept z.numbered z.ascending (record { pending = i₂; linked = linked }) in
             let c = kept_by k in
-            let q = keep_map_went g₂ l.object (omega (arith, b, z.kept.onward.objects_up)) v z.fresh c in
+            let q = keep_map_went g.proper z l.object (omega (arith, b, z.kept.onward.objects_up)) c in
             let j : Index (table w₃.slots.now y.slots) (table w₃.addresses.now y.addresses) (scratch_of w₂) = record { pending = map_indexed x l.object v m₂ w₂.pending.now i₂ c; linked = subst (λ (g : Ground). Linked g.addresses.rows g.addresses.count w₂.index.now) (sym (same_got ground_of {m = m₂} c (keep_map_ground x l.object v m₂))) linked } in
             ready_on fixed₃ (rw (same_scratch w₂ w₃ r₃.1) (order_after g₂ q.kept q.numbered q.ascending j))
 

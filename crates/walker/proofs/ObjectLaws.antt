@@ -2,7 +2,7 @@
 use mathlib.Core.Path.{◌≡◌, refl, sym, ap, subst, ◌∙◌}
 use mathlib.Core.Bool.{Bool, true, false, ◌&&◌}
 use mathlib.Core.List.{List}
-use Prim.Native.Nat.{ℕ, zero, suc, ◌+◌, ◌-◌, ◌*◌, ◌%◌, ◌^◌, ◌<◌, ◌≤◌}
+use Prim.Native.Nat.{ℕ, zero, suc, ◌+◌, ◌-◌, ◌*◌, ◌%◌, ◌^◌, ◌<◌}
 use native.Mathlib.Nat.{mul-mod_left}
 use native.Mathlib.Omega.{arith}
 use lib.Dec.{eqb}
@@ -21,11 +21,10 @@ use Rattle.definition.specs.Object.{peek, large_byte, add_object, change_chunk, 
 use Rattle.definition.specs.Reference.{ref_at}
 use Rattle.laws.specs.Sound.{Proper, Sound, Counted, Onward, Kept, Holds}
 use Rattle.laws.specs.Steps.{kept_trans}
-use Rattle.laws.specs.Keeps.{Appended}
 use Rattle.laws.specs.Waiting.{Waits}
-use Rattle.laws.proofs.Theorems.{byte_keeps, int_keeps, add_object_keeps, keep_map_keeps, resolves_keep}
+use Rattle.laws.proofs.Theorems.{byte_keeps, int_keeps, add_object_keeps, resolves_keep}
 use Rattle.laws.specs.Addresses.{Ascending}
-use Rattle.laws.specs.Numbered.{Numbered, keep_map-numbered, resolves-numbered}
+use Rattle.laws.specs.Numbered.{resolves-numbered}
 use Rattle.objects.specs.Head.{recording, opening}
 use Rattle.objects.specs.Index.{Indexed}
 use Rattle.objects.specs.Map.{after_map}
@@ -38,8 +37,8 @@ use Rattle.objects.specs.declared.item.Level.{Level}
 use Rattle.walker.specs.Ready.{mapped, headed}
 use Rattle.walker.proofs.ScratchLaws.{Scratch, Index, InOrder}
 use Rattle.walker.proofs.SameLaws.{Same, Leaves, same_choose, next_leaves, same_got}
-use Rattle.walker.proofs.GroundLaws.{ground_ascends, keep_map_ground, resolves_ground}
-use Rattle.walker.proofs.ReadyLaws.{went, order_after, map_went}
+use Rattle.walker.proofs.GroundLaws.{ground_ascends, resolves_ground}
+use Rattle.walker.proofs.ReadyLaws.{Went, went, None, order_after, map_went, keep_map_went}
 use Rattle.walker.proofs.ItemsLaws.{through, filled}
 
 -- ---- what follows a map leaves the slots
@@ -85,7 +84,7 @@ module _ (x : Input) where
 
 -- ---- the map
 
-abbrev pub mem_of : {A : Type 0} → Out A → Mem
+abbrev mem_of : {A : Type 0} → Out A → Mem
 mem_of (got v m) = m
 mem_of (no n q m) = m
 
@@ -126,54 +125,21 @@ record Rest : Type 0 where
 abbrev rest_of : Mem → Rest
 rest_of m = record { slots = m.slots; pending = m.pending; waiting = m.waiting; addresses = m.addresses; alloc = m.alloc }
 
-abbrev Still : Mem → Mem → Type 0
-Still m m' = rest_of m' ≡ rest_of m
+-- what a reader that gave a value keeps
+held : {A : Type 0} {x : Input} {m : Mem} (P : A → Mem → Type 0) {o : Out A} → Holds x m P o → {v : A} {m' : Mem} → got v m' ≡ o → Kept x m m' × P v m'
+held {x = x} {m} P h e = subst (Holds x m P) (sym e) h
 
--- a reader passes: it keeps what it has in order, leaves the rest, and adds n objects at least
-module _ (x : Input) where
-  abbrev Passes : {A : Type 0} → Mem → ℕ → Out A → Type 0
-  Passes m n o = Holds x m (λ _ m'. (Still m m') × (m.objects.count + n ≤ m'.objects.count)) o
+-- the byte of a large object
+large_kept : {x : Input} {m : Mem} → Proper x → Sound x m → Counted m → (large : Bool) {u : Unit {0}} {m' : Mem} → got u m' ≡ choose large (byte x >> give (tt {0})) (give (tt {0})) m → Kept x m m' × (rest_of m' ≡ rest_of m)
+large_kept {x} {m} p s c true e =
+    let t = through (byte x m) (λ _. give (tt {0})) e in
+    let k = held _ (byte_keeps p m s c) t.first in
+    rw (ap mem_of t.second) (k.0, ap rest_of k.1.only)
+large_kept p s c false e = rw (ap mem_of e) (record { sound = s; counted = c; onward = omega arith }, refl)
 
-  passes_by : {A : Type 0} {P : A → Mem → Type 0} (m : Mem) (n : ℕ) (o : Out A) → Holds x m P o → ((v : A) (m' : Mem) → Kept x m m' → P v m' → (Still m m') × (m.objects.count + n ≤ m'.objects.count)) → Passes m n o
-  passes_by m n (got v m') h f = (h.0, f v m' h.0 h.1)
-  passes_by m n (no k q m') h f = h
-
-  passes_here : {A : Type 0} (m : Mem) (v : A) → Sound x m → Counted m → Passes m 0 (got v m)
-  passes_here m v s c = (record { sound = s; counted = c; onward = omega arith }, (refl, omega arith))
-
-  passes_on : {B : Type 0} (m m' : Mem) (n k : ℕ) → Kept x m m' → (Still m m') × (m.objects.count + n ≤ m'.objects.count) → (o : Out B) → Passes m' k o → Passes m (n + k) o
-  passes_on m m' n k h s (got v m₂) g = (kept_trans h g.0, (g.1.0 ∙ s.0, omega (arith, g.1.1, s.1)))
-  passes_on m m' n k h s (no r q m₂) g = kept_trans h g
-
-  passes_then : {A B : Type 0} (m : Mem) (n k : ℕ) (o : Out A) (f : A → Reader B) → Passes m n o → ((v : A) (m' : Mem) → Sound x m' → Counted m' → Passes m' k (f v m')) → Passes m (n + k) (and_then o f)
-  passes_then m n k (got v m') f h g = passes_on m m' n k h.0 h.1 (f v m') (g v m' h.0.sound h.0.counted)
-  passes_then m n k (no r q m') f h g = h
-
-  module _ (p : Proper x) where
-    int_passes : (m : Mem) → Sound x m → Counted m → Passes m 0 (int x m)
-    int_passes m s c = passes_by m 0 (int x m) (int_keeps p m s c) (λ v m' k h. (ap rest_of h.only, omega (arith, k.onward.objects_up)))
-
-    byte_passes : (m : Mem) → Sound x m → Counted m → Passes m 0 (byte x m)
-    byte_passes m s c = passes_by m 0 (byte x m) (byte_keeps p m s c) (λ v m' k h. (ap rest_of h.only, omega (arith, k.onward.objects_up)))
-
-    large_passes : (m : Mem) → Sound x m → Counted m → (t : Bool) → Passes m 0 (choose t (byte x >> give (tt {0})) (give (tt {0})) m)
-    large_passes m s c true = passes_then m 0 0 (byte x m) (λ _. give (tt {0})) (byte_passes m s c) (λ _ m' s c. passes_here m' (tt {0}) s c)
-    large_passes m s c false = passes_here m (tt {0}) s c
-
-    object_leaves : (tag words : ℕ) → Leaves rest_of (add_object x tag words)
-    unfolding add_object
-    object_leaves tag words m = same_choose rest_of (has_room 4 m.objects) _ _ m (λ _. refl) refl
-
-    object_passes : (m : Mem) (o : Out ℕ) → Holds x m (Appended (λ m. m.objects) m) o → Same rest_of m o → Passes m 1 o
-    object_passes m (got k m') h s = (h.0, (s, omega (arith, h.1.one.more)))
-    object_passes m (no n q m') h s = h
-
-    opening_passes : (space tag : ℕ) (m : Mem) → Sound x m → Counted m → Passes m 1 (opening x space tag m)
-    opening_passes space tag m s c =
-        passes_then m 0 1 (int x m) (λ words. large_byte x space >> recording x tag words) (int_passes m s c)
-        (λ words m₁ s c. passes_then m₁ 0 1 (large_byte x space m₁) (λ _. recording x tag words) (large_passes m₁ s c (is_six_x x.sheet && eqb space (lo_space x.sheet)))
-        (λ _ m₂ s c. passes_then m₂ 1 0 (add_object x tag words m₂) (λ _. give words) (object_passes m₂ (add_object x tag words m₂) (add_object_keeps p tag words m₂ s c) (object_leaves tag words m₂))
-        (λ _ m₃ s c. passes_here m₃ words s c)))
+object_leaves : (x : Input) (tag words : ℕ) → Leaves rest_of (add_object x tag words)
+unfolding add_object
+object_leaves x tag words m = same_choose rest_of (has_room 4 m.objects) _ _ m (λ _. refl) refl
 
 -- the object that is read after its map, of so many words
 abbrev opened_as : Input → ℕ → Mem → ℕ → Level
@@ -183,41 +149,50 @@ module _ {x : Input} {h : List Head} {sc : Scratch} {m : Mem} (g : InOrder x h m
   -- what holds after an object's head
   pub opened_ready : (space tag : ℕ) {words : ℕ} {m₁ : Mem} → got words m₁ ≡ opening x space tag m → (InOrder x h m₁ sc) × (m.objects.count < m₁.objects.count) × (Onward m m₁)
   opened_ready space tag {words} {m₁} e =
-      let p : Passes x m 1 (got words m₁) = subst (Passes x m 1) (sym e) (opening_passes x g.proper space tag m g.sound g.counted) in
-      let s : rest_of m ≡ rest_of m₁ = sym p.1.0 in
-      (order_after g p.0 (subst (λ (r : Rest). Waits r.slots.rows r.slots.count r.pending r.waiting) s g.numbered) (subst (λ (r : Rest). Ascending x r.addresses r.alloc) s g.ascending) (subst (λ (r : Rest). Index r.slots r.addresses sc) s g.index), omega (arith, p.1.1), p.0.onward)
+      let t = through (int x m) (λ words. large_byte x space >> recording x tag words) e in
+      let i = held _ (int_keeps g.proper m g.sound g.counted) t.first in
+      let l = through (large_byte x space t.between) (λ _. recording x tag t.value) t.second in
+      let k = large_kept g.proper i.0.sound i.0.counted (is_six_x x.sheet && eqb space (lo_space x.sheet)) l.first in
+      let r = through (add_object x tag t.value l.between) (λ _. give t.value) l.second in
+      let o = held _ (add_object_keeps g.proper tag t.value l.between k.0.sound k.0.counted) r.first in
+      let z : m₁ ≡ r.between = ap mem_of r.second in
+      let s : rest_of m ≡ rest_of m₁ = sym (ap rest_of z ∙ same_got rest_of {m = l.between} r.first (object_leaves x tag t.value l.between) ∙ k.1 ∙ ap rest_of i.1.only) in
+      let p : Kept x m m₁ = rw z (kept_trans i.0 (kept_trans k.0 o.0)) in
+      (order_after g p (subst (λ (r : Rest). Waits r.slots.rows r.slots.count r.pending r.waiting) s g.numbered) (subst (λ (r : Rest). Ascending x r.addresses r.alloc) s g.ascending) (subst (λ (r : Rest). Index r.slots r.addresses sc) s g.index), rw z (omega (arith, o.1.one.more, i.0.onward, k.0.onward)), p.onward)
 
-  -- and after its map and its resolves
+  -- and after its map
   module _ (k space bytes o : ℕ) (b : o < m.objects.count) (l : space < 256) (u : bytes % word x ≡ 0) where
-    mapped_kept : {m₃ : Mem} → got tt m₃ ≡ mapped x (ref_at x k) space bytes o m → (Kept x m m₃) × (Numbered m₃) × (Ascending x m₃.addresses m₃.alloc) × (0 < m₃.slots.count)
-    mapped_kept e =
-        let t = through ((read_map x (ref_at x k) space bytes o >>= keep_map x o) m) (λ _ m. resolves x o (length x.payload - m.at) m) e in
-        let n : ℕ = length x.payload - t.between.at in
-        let r = through (read_map x (ref_at x k) space bytes o m) (keep_map x o) t.first in
+    abbrev map : Out (Unit {0})
+    map = (read_map x (ref_at x k) space bytes o >>= keep_map x o) m
+
+    map_kept : {v : Unit {0}} {m₁ : Mem} → got v m₁ ≡ map → Went x m (λ _ m'. 0 < m'.slots.count) None v m₁
+    map_kept e =
+        let r = through (read_map x (ref_at x k) space bytes o m) (keep_map x o) e in
         let w = map_went g o b k space bytes l u r.first in
-        let b₁ : o < r.between.objects.count = omega (arith, b, w.kept.onward.objects_up) in
-        let w₁ = went (keep_map_keeps g.proper r.between w.kept.sound w.kept.counted o b₁ r.value) (keep_map-numbered g.proper r.between w.kept.sound w.kept.counted w.numbered o 0 0 b₁ r.value w.fresh) (ground_ascends x r.between w.ascending (keep_map x o r.value r.between) (keep_map_ground x o r.value r.between)) r.second in
-        let b₂ : o < t.between.objects.count = omega (arith, b₁, w₁.kept.onward.objects_up) in
-        let w₂ = went (resolves_keep g.proper t.between w₁.kept.sound w₁.kept.counted o b₂ _) (resolves-numbered g.proper t.between w₁.kept.sound w₁.kept.counted w₁.numbered o 0 0 b₂ _) (ground_ascends x t.between w₁.ascending (resolves x o n t.between) (resolves_ground x o n t.between)) t.second in
-        (kept_trans w.kept (kept_trans w₁.kept w₂.kept), w₂.numbered, w₂.ascending, omega (arith, w₁.more.more, w₂.kept.onward.slots_up))
+        let q = keep_map_went g.proper w o (omega (arith, b, w.kept.onward.objects_up)) r.second in
+        record { kept = kept_trans w.kept q.kept; more = omega (arith, q.more.more); numbered = q.numbered; ascending = q.ascending; fresh = tt }
 
-    mapped_ready : {m₃ : Mem} → got tt m₃ ≡ mapped x (ref_at x k) space bytes o m → {sc₃ : Scratch} → Index m₃.slots m₃.addresses sc₃ → (InOrder x h m₃ sc₃) × (o < m₃.objects.count) × (0 < m₃.slots.count) × (Onward m m₃)
-    mapped_ready e i = let w = mapped_kept e in (order_after g w.0 w.1 w.2 i, omega (arith, b, w.0.onward.objects_up), w.3, w.0.onward)
+    -- and its resolves
+    mapped_ready : {m₁ : Mem} → got tt m₁ ≡ mapped x (ref_at x k) space bytes o m → {sc₁ : Scratch} → Index m₁.slots m₁.addresses sc₁ → (InOrder x h m₁ sc₁) × (o < m₁.objects.count) × (0 < m₁.slots.count) × (Onward m m₁)
+    mapped_ready e i =
+        let t = through map (λ _ m. resolves x o (length x.payload - m.at) m) e in
+        let w = map_kept t.first in
+        let n : ℕ = length x.payload - t.between.at in
+        let b₁ : o < t.between.objects.count = omega (arith, b, w.kept.onward.objects_up) in
+        let q = went (resolves_keep g.proper t.between w.kept.sound w.kept.counted o b₁ n) (resolves-numbered g.proper t.between w.kept.sound w.kept.counted w.numbered o 0 0 b₁ n) (ground_ascends x t.between w.ascending (resolves x o n t.between) (resolves_ground x o n t.between)) t.second in
+        (order_after g (kept_trans w.kept q.kept) q.numbered q.ascending i, omega (arith, b₁, q.kept.onward.objects_up), omega (arith, w.more, q.kept.onward.slots_up), omega (arith, w.kept.onward, q.kept.onward))
 
-  -- after its head and its map, before the resolves
-  pub map_ready : (k space tag : ℕ) → space < 256 → {n : ℕ} {m₁ : Mem} → got n m₁ ≡ opened x (ref_at x k) space tag m.objects.count m → {sc₁ : Scratch} → Index m₁.slots m₁.addresses sc₁ → InOrder x h m₁ sc₁
-  map_ready k space tag l {m₁ = m₁} e i =
-      let o : ℕ = m.objects.count in
-      let t = through (opening x space tag m) (λ words. read_map x (ref_at x k) space (words * word x) o >>= keep_map x o >> give (words * word x)) e in
-      let bytes : ℕ = t.value * word x in
-      let u = through ((read_map x (ref_at x k) space bytes o >>= keep_map x o) t.between) (λ _. give bytes) t.second in
-      let r = through (read_map x (ref_at x k) space bytes o t.between) (keep_map x o) u.first in
-      let w₀ = opened_ready space tag t.first in
-      let w = map_went w₀.0 o w₀.1 k space bytes l (mul-mod_left t.value (word x)) r.first in
-      let b₁ : o < r.between.objects.count = omega (arith, w₀.1, w.kept.onward.objects_up) in
-      let w₁ = went {o = keep_map x o r.value r.between} (keep_map_keeps g.proper r.between w.kept.sound w.kept.counted o b₁ r.value) (keep_map-numbered g.proper r.between w.kept.sound w.kept.counted w.numbered o 0 0 b₁ r.value w.fresh) (ground_ascends x r.between w.ascending (keep_map x o r.value r.between) (keep_map_ground x o r.value r.between)) r.second in
-      let z : m₁ ≡ u.between = ap mem_of u.second in
-      rw (sym z) at (order_after g (kept_trans (record { sound = w₀.0.sound; counted = w₀.0.counted; onward = w₀.2 }) (kept_trans w.kept w₁.kept)) w₁.numbered w₁.ascending (rw z at i))
+-- after its head and its map, before the resolves
+pub map_ready : {x : Input} {h : List Head} {sc : Scratch} {m : Mem} → InOrder x h m sc → (k space tag : ℕ) → space < 256 → {n : ℕ} {m₁ : Mem} → got n m₁ ≡ opened x (ref_at x k) space tag m.objects.count m → {sc₁ : Scratch} → Index m₁.slots m₁.addresses sc₁ → InOrder x h m₁ sc₁
+map_ready {x} {m = m} g k space tag l {m₁ = m₁} e i =
+    let o : ℕ = m.objects.count in
+    let t = through (opening x space tag m) (λ words. read_map x (ref_at x k) space (words * word x) o >>= keep_map x o >> give (words * word x)) e in
+    let bytes : ℕ = t.value * word x in
+    let u = through ((read_map x (ref_at x k) space bytes o >>= keep_map x o) t.between) (λ _. give bytes) t.second in
+    let q = opened_ready g space tag t.first in
+    let w = map_kept q.0 k space bytes o q.1 l (mul-mod_left t.value (word x)) u.first in
+    let z : m₁ ≡ u.between = ap mem_of u.second in
+    rw (sym z) at (order_after q.0 w.kept w.numbered w.ascending (rw z at i))
 
 -- what holds after it, of the object that is read then
 pub record Held (m : Mem) (o size : ℕ) : Type 0 where

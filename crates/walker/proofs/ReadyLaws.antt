@@ -9,7 +9,7 @@ use Rattle.tables.specs.declared.values.SlotValue.{SlotValue}
 use Rattle.definition.specs.Memory.{Input, word, Mem, Out, got, moved}
 use Rattle.definition.specs.Object.{read_map, keep_map, object}
 use Rattle.definition.specs.Reference.{ref_at}
-use Rattle.laws.specs.Sound.{Kept, Holds, Referred}
+use Rattle.laws.specs.Sound.{Proper, Kept, Holds, Referred}
 use Rattle.laws.specs.Keeps.{More}
 use Rattle.laws.proofs.Theorems.{ref_keeps, object_keeps, map_keeps, keep_map_keeps}
 use Rattle.laws.specs.Numbered.{Numbered, FreshValue, Ordered, ref_numbered, object-numbered, map_numbered, keep_map-numbered}
@@ -80,9 +80,12 @@ module _ {x : Input} {h : List Head} {sc : Scratch} {m : Mem} (g : InOrder x h m
     map_went k space bytes l w e =
         went (map_keeps g.proper m g.sound g.counted o b (ref_at x k) (ref_keeps g.proper k) space bytes l) (map_numbered g.proper m g.sound g.counted g.numbered o 0 0 b k space bytes l) (map_ascending g.proper m g.sound g.counted g.ascending o bytes k space b w l) e
 
-    pub keep_map_went : (v : SlotValue) → FreshValue m v → {u : Unit {0}} {m' : Mem} → got u m' ≡ keep_map x o v m → Went x m (λ _ m'. More (λ m. m.slots) m m') None u m'
-    keep_map_went v f e =
-        went (keep_map_keeps g.proper m g.sound g.counted o b v) (keep_map-numbered g.proper m g.sound g.counted g.numbered o 0 0 b v f) (ground_ascends x m g.ascending (keep_map x o v m) (keep_map_ground x o v m)) e
+-- the map's slot, after the reader of the map
+pub keep_map_went : {x : Input} {m₀ m : Mem} {P : SlotValue → Mem → Type 0} {v : SlotValue} → Proper x → Went x m₀ P Free v m → (o : ℕ) → o < m.objects.count → {u : Unit {0}} {m' : Mem} → got u m' ≡ keep_map x o v m → Went x m (λ _ m'. More (λ m. m.slots) m m') None u m'
+keep_map_went {x} {m = m} {v = v} p w o b e =
+    let s = w.kept.sound in
+    let c = w.kept.counted in
+    went (keep_map_keeps p m s c o b v) (keep_map-numbered p m s c w.numbered o 0 0 b v w.fresh) (ground_ascends x m w.ascending (keep_map x o v m) (keep_map_ground x o v m)) e
 
 -- ---- the same of what a walker and a state have
 

@@ -1,10 +1,9 @@
 -- A reference at each of its ways out: what its head byte gives, what holds where an inner reference starts, and that heads that open no
 -- object change no slot. Assumes nothing.
 use mathlib.Core.Path.{◌≡◌, refl, sym, ap, subst, ◌∙◌}
-use mathlib.Core.Bool.{Bool, true, false}
+use mathlib.Core.Bool.{Bool}
 use Prim.Native.Nat.{ℕ, suc, ◌+◌, ◌-◌, ◌^◌, ◌<◌, ◌≤◌}
 use native.Mathlib.Omega.{arith}
-use denote.Enum.Bare.{sameb, same_true, same_false}
 use borrow.Author.Tests.{lt-ltb, le-ltb, eqb-true}
 use lib.Dec.{ltb, eqb}
 use lib.ListN.{length, get_or}
@@ -13,10 +12,6 @@ use Rattle.std.specs.Option.{ok_or}
 use Rattle.stream.specs.Bytes.{raw_at}
 use Rattle.stream.specs.declared.putint.Int.{Int}
 use Rattle.stream.specs.PutInt.{int_at}
-use Rattle.std.proofs.Common.{rules}
-use Rattle.heads.specs.contracts.kinds.Kind.{the_type}
-use Rattle.heads.specs.declared.kinds.Kind.{Kind}
-use Rattle.heads.specs.declared.kinds.Kind.TheVariants.{NewObject as IsNew}
 use Rattle.heads.specs.Kinds.{kind_number, new_object, backref, legacy_backref, legacy_backref_with_skip, next_chunk, alignment, hot, hot_with_skip, root_array, root_constant, root_constant_with_skip, read_only, attached, builtin, external, api, internal, deoptimizer, stream_bytes, embedder_fields, off_heap_target, cache, register_pending, cleared_weak, weak_prefix, pointer_prefix, dispatch_entry, fixed_raw, variable_raw, skip, fixed_repeat, fixed_repeat_root, repeat_previous, variable_repeat, variable_repeat_previous, variable_repeat_root, meta_map}
 use Rattle.heads.specs.Heads.{head_of}
 use Rattle.tables.specs.declared.values.Ref.{Ref}
@@ -71,7 +66,7 @@ records_of m = record { slots = m.slots; addresses = m.addresses }
 abbrev pub Idle : {A : Type 0} → Mem → Out A → Type 0
 Idle m o = Same records_of m o
 
-abbrev pub Still : {A : Type 0} → Reader A → Type 0
+abbrev Still : {A : Type 0} → Reader A → Type 0
 Still r = Leaves records_of r
 
 -- ---- steps
@@ -219,7 +214,7 @@ module _ (x : Input) (d : ℕ) (m : Mem) where
     unfolding ref_at
     ref_on = let e : 65 - d ≡ suc (64 - d) = omega arith in rw e
 
-    pub ref_end : length x.payload ≤ m.at → no 4 (length x.payload) (moved (length x.payload) m) ≡ ref_at x (65 - d) m
+    ref_end : length x.payload ≤ m.at → no 4 (length x.payload) (moved (length x.payload) m) ≡ ref_at x (65 - d) m
     unfolding reference byte
     ref_end g = rw (← ref_on, le-ltb m.at (length x.payload) g)
 
@@ -237,9 +232,6 @@ module _ {w : Walker} {s : State} (g : Ready w s) {head : CodeHead} (r : HeadAt 
   ref_head d low =
       let b : ℕ = get_or w.payload.now s.at 0 in
       rw (r.is, g.decoded.kind b r.low, g.decoded.argument b r.low) (ref_byte (input_of w) d (mem s (lent_of w)) low r.inside b refl)
-
-  pub argument_low : head.argument < 65536
-  argument_low = let b : ℕ = get_or w.payload.now s.at 0 in rw (r.is, g.decoded.argument b r.low) (head_fits w.sheet.now b r.low).small
 
   module _ (other : kind_number head.kind ≡ new_object → ⊥) where
     is_simple : Holdless (kind_number head.kind) → Simple (kind_number head.kind) head.argument
@@ -273,8 +265,8 @@ module _ {w : Walker} {s : State} (g : Ready w s) {head : CodeHead} (r : HeadAt 
 
 -- ---- a new object
 
-pub new_at : {w : Walker} {at : ℕ} {head : CodeHead} → HeadAt w at head → kind_number head.kind ≡ new_object → NewAt w at (record { tag = at; space = head.argument })
-new_at r k = record { inside = r.inside; low = r.low; kind = rw r.is at k; is = rw r.is }
+pub new_at : {w : Walker} {at : ℕ} {head : CodeHead} {new : NewObject} → HeadAt w at head → (kind_number head.kind ≡ new_object) × (new ≡ record { tag = at; space = head.argument }) → NewAt w at new
+new_at r k = record { inside = r.inside; low = r.low; kind = rw r.is at k.0; is = rw (k.1, r.is) }
 
 module _ {w : Walker} {s : State} (g : Ready w s) {new : NewObject} (n : NewAt w s.at new) where
   pub ref_object : (d : ℕ) → d ≤ 64 → object (input_of w) (ref_at (input_of w) (64 - d)) new.space new.tag (mem (moved_to (s.at + 1) s) (lent_of w)) ≡ ref_at (input_of w) (65 - d) (mem s (lent_of w))
@@ -296,18 +288,6 @@ ref_cut w s {d} h None q {e} f z y =
     rw k (ref_end (input_of w) d (mem s (lent_of w)) h (f refl))
 ref_cut w s h (Some b) q f z y = absurd (let z : ◌≡◌ {A = ℕ} 0 1 = cc in omega arith)
 
--- the code's test of a head
-opened_by : (k : Kind) → kind_number k ≡ new_object → k ≡ IsNew
-opened_by IsNew h = refl
-opened_by _ h = absurd (omega (arith, h))
-
-module _ (k : Kind) {t : Bool} (e : t ≡ sameb the_type k IsNew) where
-  pub is_new : t ≡ true → kind_number k ≡ new_object
-  is_new f = ap kind_number (same_true the_type (search rules) k IsNew (sym e ∙ f))
-
-  not_new : t ≡ false → kind_number k ≡ new_object → ⊥
-  not_new f h = same_false the_type k IsNew (sym e ∙ f) (opened_by k h)
-
 -- a head that opens no object, and what its prefix asks
 pub record Headed (w : Walker) (s : State) (head : CodeHead) (p : Answer Prefix) (w₁ : Walker) : Type 0 where
   pub ready : Ready w s
@@ -316,11 +296,10 @@ pub record Headed (w : Walker) (s : State) (head : CodeHead) (p : Answer Prefix)
   pub begins : (tag : ℕ) → Begins (input_of w) tag (kind_number head.kind) head.argument (moved_to (s.at + 1) s) (lent_of w) p (lent_of w₁)
   pub kept : Kept w w₁
 
-pub head_read : {w : Walker} {s : State} {o : Option CodeHead} {head : CodeHead} {t : Bool} {w₁ : Walker} (p : Answer Prefix) → Ready w s → IfSome o (HeadAt w s.at) → o ≡ Some head → t ≡ sameb the_type head.kind IsNew → t ≡ false
+pub head_read : {w : Walker} {s : State} {o : Option CodeHead} {head : CodeHead} {w₁ : Walker} (p : Answer Prefix) → Ready w s → IfSome o (HeadAt w s.at) → o ≡ Some head → (kind_number head.kind ≡ new_object → ⊥)
     → record { begins : (tag : ℕ) → Begins (input_of w) tag (kind_number head.kind) head.argument (moved_to (s.at + 1) s) (lent_of w) p (lent_of w₁); kept : Kept w w₁ }
     → Headed w s head p w₁
-head_read {head = head} p g r i e f q =
-    record { ready = g; read = rw i at r; other = not_new head.kind e f; begins = q.begins; kept = q.kept }
+head_read p g r i f q = record { ready = g; read = rw i at r; other = f; begins = q.begins; kept = q.kept }
 
 module _ {w : Walker} {s : State} {head : CodeHead} {p : Answer Prefix} {w₁ : Walker} (c : Headed w s head p w₁) where
   abbrev x : Input

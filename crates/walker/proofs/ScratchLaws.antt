@@ -61,7 +61,7 @@ addressed {w} {s} g =
 
 -- ---- what is only read stays
 
-pub same_heads : {w w' : Walker} → Fixed w w' → w'.heads.now ≡ w.heads.now
+same_heads : {w w' : Walker} → Fixed w w' → w'.heads.now ≡ w.heads.now
 same_heads f = rw (f.heads)
 
 -- an equation over the input after a call, as one over the input before it

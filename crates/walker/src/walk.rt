@@ -10,7 +10,6 @@ ghost use Rattle.leaves.specs.Leaf.{slot_in};
 ghost use Rattle.walker.specs.Ready.{Ready, After, InItem, mapped, headed, item_in};
 
 use arrayvec::ArrayVec;
-use heads::kinds::Kind;
 use leaves::leaf::{place_leaf, take_leaf};
 use levels::level::{LEVELS, begins_object, put_object};
 use objects::head::{NewObject, open_object};
@@ -44,11 +43,7 @@ pub fn parse_ref(w: &mut Walker, s: State, d: usize) -> Answer<SlotValue>
     }
     let head = w.head_at(at).ok_or(s.cut(w.payload))?;
     let t = State { at: at + 1, ..s };
-    if head.kind == Kind::NewObject {
-        let new = NewObject {
-            tag: at,
-            space: head.argument as u64,
-        };
+    if let Some(new) = NewObject::of(at, head) {
         return parse_object(w, t, d, new);
     }
     let (prefix, u) = begin(w, t, head)?;
@@ -140,21 +135,21 @@ fn parse_head(w: &mut Walker, s: State, d: usize, new: NewObject) -> Answer<Leve
     }
     let (words, t) = open_object(w, s, new)?;
     level.size = words * word;
-    let ((), u) = parse_map(w, t, d, new.space, level)?;
+    let ((), u) = parse_map(w, t, d, new, level)?;
     Ok((level, u))
 }
 
-// The map of an object in space a, what follows it, and its resolves.
+// The map of a new object, what follows it, and its resolves.
 #[cycle(walk)]
-fn parse_map(w: &mut Walker, s: State, d: usize, a: u64, level: Level) -> Answer<()>
+fn parse_map(w: &mut Walker, s: State, d: usize, new: NewObject, level: Level) -> Answer<()>
     requires ready { Ready w.old s }
-    requires depth { (d ≤ 64) × (a < 256) × (level.size < 2 ^ 33) × (level.object < s.objects) × (level.size % word_bytes w.old.sheet.now ≡ 0) }
-    ensures is { seen result (lent_of w.new) ≡ mapped (input_of w.old) (ref_at (input_of w.old) (64 - d)) a level.size level.object (mem s (lent_of w.old)) }
+    requires depth { (d ≤ 64) × (new.space < 256) × (level.size < 2 ^ 33) × (level.object < s.objects) × (level.size % word_bytes w.old.sheet.now ≡ 0) }
+    ensures is { seen result (lent_of w.new) ≡ mapped (input_of w.old) (ref_at (input_of w.old) (64 - d)) new.space level.size level.object (mem s (lent_of w.old)) }
     ensures after { After w.old result w.new }
 {
     let o = level.object;
     let (map, t) = parse_inner(w, s, d)?;
-    let ((), u) = after_map(w, t, s.alignment, a, level.size, o as u64)?;
+    let ((), u) = after_map(w, t, s.alignment, new.space, level.size, o as u64)?;
     let ((), y) = keep_map(w, u, o, map)?;
     resolves(w, y, o as u64)
 }

@@ -1,14 +1,11 @@
 // Weak references to a leaf, read without the readers of every reference.
 
 ghost use Rattle.std.specs.Prelude.{◌≡◌, ◌+◌, ◌^◌, ◌<◌, IfSome};
-ghost use Rattle.heads.specs.Heads.{Heads};
 ghost use Rattle.tables.specs.declared.values.SlotValue.{SlotValue};
-ghost use Rattle.tables.specs.Records.{room, field};
-ghost use Rattle.definition.specs.Memory.{Reader, got};
+ghost use Rattle.tables.specs.Records.{room, Countable};
 ghost use Rattle.definition.specs.Reference.{reference};
-ghost use Rattle.readers.specs.Views.{mem};
-ghost use Rattle.readers.specs.Lent.{input_of, lent_of, Kept};
-ghost use Rattle.leaves.specs.Leaf.{slot_in, StaysInOrder};
+ghost use Rattle.readers.specs.Lent.{input_of, Kept};
+ghost use Rattle.leaves.specs.Leaf.{slot_in, ReadAs, StaysInOrder};
 ghost use Rattle.weak_leaves.specs.Weak.{WeakAt};
 
 use heads::kinds::Kind;
@@ -40,8 +37,8 @@ fn weak_leaf(w: &Walker, s: State, d: usize) -> Option<Leaf>
 // A weak reference to a leaf at the cursor as an item of the object that is read at depth d: the bytes read then. None where none stands
 // there and where a record or the bytes read then have no room; then nothing is changed.
 pub fn place_weak(w: &mut Walker, s: State, d: usize, level: Level) -> Option<(u64, State)>
-    requires { field 4 w.old.objects.now level.object 3 < 2 ^ 63 }
-    ensures read { IfSome result (λ r. (d < 63) × (Heads w.old.sheet.now w.old.heads.now → (inner : Reader SlotValue) → got r.0 (mem r.1 (lent_of w.new)) ≡ slot_in (input_of w.old) (reference (input_of w.old) (reference (input_of w.old) inner)) level.object level.done (mem s (lent_of w.old)))) }
+    requires { Countable w.old.objects.now level.object }
+    ensures read { IfSome result (λ r. (d < 63) × ReadAs w.old s w.new (λ inner. slot_in (input_of w.old) (reference (input_of w.old) (reference (input_of w.old) inner)) level.object level.done) r) }
     ensures order { StaysInOrder w.old s result w.new }
     ensures kept { Kept w.old w.new }
 {

@@ -10,7 +10,7 @@ use Rattle.objects.proofs.AnswerLaws.{passed_on}
 use Rattle.walker.proofs.ScratchLaws.{order_of, after_on}
 use Rattle.walker.proofs.ReadyLaws.{moved_ready, value_ready}
 use Rattle.walker.proofs.ItemsLaws.{deferred_is, deferred_not, deferred_inside, item_deferred, item_slot}
-use Rattle.walker.proofs.ReferenceLaws.{ref_deep, ref_cut, new_at, ref_object, space_low, other_simple, other_asks, inner_starts, ref_refused, ref_simple, ref_root, ref_inner_no, head_read, ref_inner_got, is_new, read_as}
+use Rattle.walker.proofs.ReferenceLaws.{ref_deep, ref_cut, new_at, ref_object, space_low, other_simple, other_asks, inner_starts, ref_refused, ref_simple, ref_root, ref_inner_no, head_read, ref_inner_got, read_as}
 use Rattle.walker.proofs.NestLaws.{opens_first, opens_no, opens_on, nest_over, nest_whole, nest_no, nest_item, nest_begins, nest_roomless, nest_ends}
 use Rattle.walker.proofs.LeafLaws.{one_level, leaf_slot, weak_slot, ready_still, leaf_after}
 use Rattle.walker.proofs.MapLaws.{record_ready, mapped_no, followed_no, map_asks, kept_no, resolves_ready, map_ended, put_asks, item_put, leaf_opened, leaf_no, leaf_on, leaf_ended}
@@ -97,7 +97,7 @@ parse_item-returns-in-Some-clause-is t c =
 pub parse_map-returns-in_err-map-clause-is : goal.parse_map-returns-in_err-map-clause-is
 parse_map-returns-in_err-map-clause-is t c =
     let a = c.args in
-    passed_on _ _ _ c.from_residual.ensures.1 ∙ mapped_no c.requires.ready a.d a.a a.level c.requires.depth c.in_err-map.ensures.is
+    passed_on _ _ _ c.from_residual.ensures.1 ∙ mapped_no c.requires.ready a.d a.new.space a.level c.requires.depth c.in_err-map.ensures.is
 
 pub parse_map-after_map-requires-clause-sheet_value : goal.parse_map-after_map-requires-clause-sheet_value
 parse_map-after_map-requires-clause-sheet_value t c =
@@ -110,27 +110,27 @@ pub parse_map-after_map-requires-clause-linked_before : goal.parse_map-after_map
 parse_map-after_map-requires-clause-linked_before t c =
     let r = c.in_ok-map.ensures in
     let g = value_ready c.requires.ready (64 - c.args.d) r.after r.is in
-    (g.counted.chunk_low c.args.a, g.linked)
+    (g.counted.chunk_low c.args.new.space, g.linked)
 
 pub parse_map-returns-in_err-u-clause-is : goal.parse_map-returns-in_err-u-clause-is
 parse_map-returns-in_err-u-clause-is t c =
     let a = c.args in
     let r = c.in_ok-map.ensures in
-    passed_on _ _ _ c.from_residual-in_err-u.ensures.1 ∙ followed_no c.requires.ready a.d a.a a.level c.requires.depth r.after r.is c.in_err-u.ensures.is
+    passed_on _ _ _ c.from_residual-in_err-u.ensures.1 ∙ followed_no c.requires.ready a.d a.new.space a.level c.requires.depth r.after r.is c.in_err-u.ensures.is
 
 pub parse_map-keep_map-requires : goal.parse_map-keep_map-requires
 parse_map-keep_map-requires t c =
     let a = c.args in
     let r = c.in_ok-map.ensures in
     let q = c.in_ok-u.ensures in
-    map_asks c.requires.ready a.d a.a a.level c.requires.depth r.after r.is q.is q.rest (omega arith)
+    map_asks c.requires.ready a.d a.new.space a.level c.requires.depth r.after r.is q.is q.rest (omega arith)
 
 pub parse_map-returns-in_err-y-clause-is : goal.parse_map-returns-in_err-y-clause-is
 parse_map-returns-in_err-y-clause-is t c =
     let a = c.args in
     let r = c.in_ok-map.ensures in
     let q = c.in_ok-u.ensures in
-    passed_on _ _ _ c.from_residual-in_err-y.ensures.1 ∙ kept_no c.requires.ready a.d a.a a.level c.requires.depth r.after r.is q.is q.rest c.in_err-y.ensures.is
+    passed_on _ _ _ c.from_residual-in_err-y.ensures.1 ∙ kept_no c.requires.ready a.d a.new.space a.level c.requires.depth r.after r.is q.is q.rest c.in_err-y.ensures.is
 
 pub parse_map-resolves-requires-clause-usable : goal.parse_map-resolves-requires-clause-usable
 parse_map-resolves-requires-clause-usable t c =
@@ -138,7 +138,7 @@ parse_map-resolves-requires-clause-usable t c =
     let r = c.in_ok-map.ensures in
     let q = c.in_ok-u.ensures in
     let k = c.in_ok-y.ensures in
-    let g = resolves_ready c.requires.ready a.d a.a a.level c.requires.depth r.after r.is q.is q.rest q.linked k.is k.kept in
+    let g = resolves_ready c.requires.ready a.d a.new.space a.level c.requires.depth r.after r.is q.is q.rest q.linked k.is k.kept in
     (g.proper.sheet_usable, g.sound.within)
 
 pub parse_map-resolves-requires-clause-waits : goal.parse_map-resolves-requires-clause-waits
@@ -147,7 +147,7 @@ parse_map-resolves-requires-clause-waits t c =
     let r = c.in_ok-map.ensures in
     let q = c.in_ok-u.ensures in
     let k = c.in_ok-y.ensures in
-    let g = resolves_ready c.requires.ready a.d a.a a.level c.requires.depth r.after r.is q.is q.rest q.linked k.is k.kept in
+    let g = resolves_ready c.requires.ready a.d a.new.space a.level c.requires.depth r.after r.is q.is q.rest q.linked k.is k.kept in
     (omega (arith, g.sound.slots_fit), g.indexed, g.numbered)
 
 pub parse_map-returns : goal.parse_map-returns
@@ -157,7 +157,7 @@ parse_map-returns t c =
     let q = c.in_ok-u.ensures in
     let k = c.in_ok-y.ensures in
     let y = c.resolves.ensures in
-    let z = map_ended c.requires.ready a.d a.a a.level c.requires.depth r.after r.is q.is q.rest q.linked k.is k.kept c.resolves.result y.is y.index y.kept in
+    let z = map_ended c.requires.ready a.d a.new.space a.level c.requires.depth r.after r.is q.is q.rest q.linked k.is k.kept c.resolves.result y.is y.index y.kept in
     record { is = z.0; after = z.1 }
 
 -- ---- parse_object
@@ -263,43 +263,43 @@ pub parse_ref-parse_object-requires : goal.parse_ref-parse_object-requires
 parse_ref-parse_object-requires t c =
     let g = c.requires.ready in
     let r : HeadAt c.args.w.now c.args.s.at c.in_ok-head.head = rw c.in_ok-head.ensures.ok_part at c.head_at.ensures.some in
-    (omega arith, (moved_ready g r.inside, (c.if-d-gt-DEEPEST.false, space_low g (new_at r (is_new c.in_ok-head.head.kind c.eq.ensures c.if-eq.true)))))
+    (omega arith, (moved_ready g r.inside, (c.if-d-gt-DEEPEST.false, space_low g (new_at r c.in-Some.ensures.some))))
 
-pub parse_ref-returns-then-eq-clause-is : goal.parse_ref-returns-then-eq-clause-is
-parse_ref-returns-then-eq-clause-is t c =
+pub parse_ref-returns-in-Some-clause-is : goal.parse_ref-returns-in-Some-clause-is
+parse_ref-returns-in-Some-clause-is t c =
     let r : HeadAt c.args.w.now c.args.s.at c.in_ok-head.head = rw c.in_ok-head.ensures.ok_part at c.head_at.ensures.some in
-    c.parse_object.ensures.is ∙ ref_object c.requires.ready (new_at r (is_new c.in_ok-head.head.kind c.eq.ensures c.if-eq.true)) c.args.d c.if-d-gt-DEEPEST.false
+    c.parse_object.ensures.is ∙ ref_object c.requires.ready (new_at r c.in-Some.ensures.some) c.args.d c.if-d-gt-DEEPEST.false
 
 pub parse_ref-returns-in_err-prefix-clause-is : goal.parse_ref-returns-in_err-prefix-clause-is
-parse_ref-returns-in_err-prefix-clause-is t c = passed_on _ _ _ c.from_residual-in_err-prefix.ensures.1 ∙ ref_refused (head_read c.begin.result c.requires.ready c.head_at.ensures.some c.in_ok-head.ensures.ok_part c.eq.ensures c.if-eq.false c.begin.ensures) c.args.d c.if-d-gt-DEEPEST.false c.in_err-prefix.was
+parse_ref-returns-in_err-prefix-clause-is t c = passed_on _ _ _ c.from_residual-in_err-prefix.ensures.1 ∙ ref_refused (head_read c.begin.result c.requires.ready c.head_at.ensures.some c.in_ok-head.ensures.ok_part (c.in_default.ensures.none refl) c.begin.ensures) c.args.d c.if-d-gt-DEEPEST.false c.in_err-prefix.was
 
 pub parse_ref-simple_ref-requires-clause-addressed : goal.parse_ref-simple_ref-requires-clause-addressed
-parse_ref-simple_ref-requires-clause-addressed t c = other_asks (head_read c.begin.result c.requires.ready c.head_at.ensures.some c.in_ok-head.ensures.ok_part c.eq.ensures c.if-eq.false c.begin.ensures) (read_as c.in_ok-prefix.was c.in-Other.is)
+parse_ref-simple_ref-requires-clause-addressed t c = other_asks (head_read c.begin.result c.requires.ready c.head_at.ensures.some c.in_ok-head.ensures.ok_part (c.in_default.ensures.none refl) c.begin.ensures) (read_as c.in_ok-prefix.was c.in-Other.is)
 
 pub parse_ref-simple_ref-requires-clause-simple : goal.parse_ref-simple_ref-requires-clause-simple
-parse_ref-simple_ref-requires-clause-simple t c = other_simple (head_read c.begin.result c.requires.ready c.head_at.ensures.some c.in_ok-head.ensures.ok_part c.eq.ensures c.if-eq.false c.begin.ensures) (read_as c.in_ok-prefix.was c.in-Other.is)
+parse_ref-simple_ref-requires-clause-simple t c = other_simple (head_read c.begin.result c.requires.ready c.head_at.ensures.some c.in_ok-head.ensures.ok_part (c.in_default.ensures.none refl) c.begin.ensures) (read_as c.in_ok-prefix.was c.in-Other.is)
 
 pub parse_ref-parse_inner-requires : goal.parse_ref-parse_inner-requires
-parse_ref-parse_inner-requires t c = (omega arith, (inner_starts (head_read c.begin.result c.requires.ready c.head_at.ensures.some c.in_ok-head.ensures.ok_part c.eq.ensures c.if-eq.false c.begin.ensures) (read_as c.in_ok-prefix.was c.in-Inner.is), c.if-d-gt-DEEPEST.false))
+parse_ref-parse_inner-requires t c = (omega arith, (inner_starts (head_read c.begin.result c.requires.ready c.head_at.ensures.some c.in_ok-head.ensures.ok_part (c.in_default.ensures.none refl) c.begin.ensures) (read_as c.in_ok-prefix.was c.in-Inner.is), c.if-d-gt-DEEPEST.false))
 
 pub parse_ref-returns-in_err-value-in-Inner-clause-is : goal.parse_ref-returns-in_err-value-in-Inner-clause-is
-parse_ref-returns-in_err-value-in-Inner-clause-is t c = passed_on _ _ _ c.from_residual-in_err-value-in-Inner.ensures.1 ∙ ref_inner_no (head_read c.begin.result c.requires.ready c.head_at.ensures.some c.in_ok-head.ensures.ok_part c.eq.ensures c.if-eq.false c.begin.ensures) c.args.d c.if-d-gt-DEEPEST.false (read_as c.in_ok-prefix.was c.in-Inner.is) c.in_err-value-in-Inner.ensures.is
+parse_ref-returns-in_err-value-in-Inner-clause-is t c = passed_on _ _ _ c.from_residual-in_err-value-in-Inner.ensures.1 ∙ ref_inner_no (head_read c.begin.result c.requires.ready c.head_at.ensures.some c.in_ok-head.ensures.ok_part (c.in_default.ensures.none refl) c.begin.ensures) c.args.d c.if-d-gt-DEEPEST.false (read_as c.in_ok-prefix.was c.in-Inner.is) c.in_err-value-in-Inner.ensures.is
 
 pub parse_ref-returns-in-Other : goal.parse_ref-returns-in-Other
 parse_ref-returns-in-Other t c =
-    let z = ref_simple (head_read c.begin.result c.requires.ready c.head_at.ensures.some c.in_ok-head.ensures.ok_part c.eq.ensures c.if-eq.false c.begin.ensures) c.args.d c.if-d-gt-DEEPEST.false (read_as c.in_ok-prefix.was c.in-Other.is) c.simple_ref.result c.simple_ref.ensures.kept c.simple_ref.ensures.is in
+    let z = ref_simple (head_read c.begin.result c.requires.ready c.head_at.ensures.some c.in_ok-head.ensures.ok_part (c.in_default.ensures.none refl) c.begin.ensures) c.args.d c.if-d-gt-DEEPEST.false (read_as c.in_ok-prefix.was c.in-Other.is) c.simple_ref.result c.simple_ref.ensures.kept c.simple_ref.ensures.is in
     record { is = z.0; after = z.1 }
 
 pub parse_ref-returns-in-Root : goal.parse_ref-returns-in-Root
 parse_ref-returns-in-Root t c =
-    let z = ref_root (head_read c.begin.result c.requires.ready c.head_at.ensures.some c.in_ok-head.ensures.ok_part c.eq.ensures c.if-eq.false c.begin.ensures) c.args.d c.if-d-gt-DEEPEST.false (read_as c.in_ok-prefix.was c.in-Root.is) c.hold.result c.hold.ensures.kept c.hold.ensures.holds in
+    let z = ref_root (head_read c.begin.result c.requires.ready c.head_at.ensures.some c.in_ok-head.ensures.ok_part (c.in_default.ensures.none refl) c.begin.ensures) c.args.d c.if-d-gt-DEEPEST.false (read_as c.in_ok-prefix.was c.in-Root.is) c.hold.result c.hold.ensures.kept c.hold.ensures.holds in
     record { is = z.0; after = z.1 }
 
 pub parse_ref-returns-in_ok-value-in-Inner : goal.parse_ref-returns-in_ok-value-in-Inner
 parse_ref-returns-in_ok-value-in-Inner t c =
     let i = c.in_ok-value-in-Inner.ensures in
     let h = c.hold-in-Inner.ensures in
-    let z = ref_inner_got (head_read c.begin.result c.requires.ready c.head_at.ensures.some c.in_ok-head.ensures.ok_part c.eq.ensures c.if-eq.false c.begin.ensures) c.args.d c.if-d-gt-DEEPEST.false (read_as c.in_ok-prefix.was c.in-Inner.is) i.after i.is c.hold-in-Inner.result h.kept h.holds in
+    let z = ref_inner_got (head_read c.begin.result c.requires.ready c.head_at.ensures.some c.in_ok-head.ensures.ok_part (c.in_default.ensures.none refl) c.begin.ensures) c.args.d c.if-d-gt-DEEPEST.false (read_as c.in_ok-prefix.was c.in-Inner.is) i.after i.is c.hold-in-Inner.result h.kept h.holds in
     record { is = z.0; after = z.1 }
 
 -- ---- parse_slot
