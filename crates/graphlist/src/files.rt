@@ -27,6 +27,7 @@ pub struct Unusable {
     reason: Error,
 }
 
+// One `write!`: a derive would be no shorter.
 impl fmt::Display for Unusable {
     fn fmt<W: fmt::Write>(&self, f: &mut fmt::Formatter<W>) -> fmt::Result {
         write!(f, "{}: {}", self.name, self.reason)
@@ -52,7 +53,8 @@ fn read_needed(rt: &impl Files, alloc: Global, name: &str) -> io::Result<Vec<u8>
     read_open(alloc, fs::open(rt, name)?)
 }
 
-// The bytes of a file that counts as empty where it is missing.
+// The bytes of a file that counts as empty where it is missing. `read_needed` opens it too: one function of both would take what a missing
+// file comes to.
 fn read_if_there(rt: &impl Files, alloc: Global, name: &str) -> io::Result<Vec<u8>>
     ensures { IfOk result (λ v. vec_len v ≤ LIMIT) }
 {

@@ -61,7 +61,8 @@ fn confirmed(slots: &[u64], number: u64, n: usize, k: u64) -> Option<usize>
     waits_for(slots, number, slot).then_some(slot)
 }
 
-// The same, by scratch where it has a place; and with no search under a number that was not given out, or where no slot waits.
+// The same, by scratch where it has a place; and with no search under a number that was not given out, or where no slot waits. The length is
+// asked before the place, since what is past it is searched for.
 fn lookup(w: &Walker, s: State, number: u64) -> Option<usize>
     requires { Waiting w.now s }
     ensures { counted result ≡ waiter w.now.slots.now number s.slots }

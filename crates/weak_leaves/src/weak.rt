@@ -35,7 +35,8 @@ fn weak_leaf(w: &Walker, s: State, d: usize) -> Option<Leaf>
 }
 
 // A weak reference to a leaf at the cursor as an item of the object that is read at depth d: the bytes read then. None where none stands
-// there and where a record or the bytes read then have no room; then nothing is changed.
+// there and where a record or the bytes read then have no room; then nothing is changed. It ends as `place_leaf` does, but for the value
+// record and the width: a function of both ends would take as many arguments as it has lines.
 pub fn place_weak(w: &mut Walker, s: State, d: usize, level: Level) -> Option<(u64, State)>
     requires { Countable w.old.objects.now level.object }
     ensures read { IfSome result (λ r. (d < 63) × ReadAs w.old s w.new (λ inner. slot_in (input_of w.old) (reference (input_of w.old) (reference (input_of w.old) inner)) level.object level.done) r) }
