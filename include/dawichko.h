@@ -18,12 +18,13 @@ extern "C" {
  *   reservations  at most 65,536 numbers, else refused with 2; none where the format has none
  *   trusted       a byte for each root index; may be empty
  *
- * Lent to be written; lengths count numbers of 64 bits, and the room of a table is its length divided by the numbers of a record:
+ * Lent to be written, and may hold anything before; lengths count numbers of 64 bits, and the room of a table is its length divided by the
+ * numbers of a record:
  *   objects       4: byte size, tag offset, raw_len, slot count
  *   slots         6: object, index, kind, a, b, waits
  *   values        3: kind, a, b
  *   addresses     5: space, chunk, offset, object, placed (legacy sheets only)
- *   scratch       working memory of any length, which may hold anything before and afterwards. The graph does not depend on it, the time does.
+ *   scratch       working memory of any length, which may hold anything afterwards too. The graph does not depend on it, the time does.
  *                 It has two parts: as many numbers as the payload has bytes, for forward references that are open; then, for legacy sheets,
  *                 256 numbers and five for each address record. With three for each a back-reference takes longer to resolve. Where it is
  *                 shorter still, what has no place in it is searched for in the tables.

@@ -42,6 +42,7 @@ impl<'a> AddressIndex<'a> {
     }
 
     // The object at an address; where there is none and an alignment is pending, the one after the filler.
+    #[inline(always)]
     pub fn resolve(self, space: u64, place: Place, alignment: u64, word: u64) -> Option<u64>
         requires { (place.offset < 2 ^ 32) × (word ≤ 8) }
         ensures { result ≡ resolve_of self.entry.table.now self.entry.count space place.chunk place.offset alignment word }

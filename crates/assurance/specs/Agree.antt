@@ -15,7 +15,7 @@ use Rattle.sheet.specs.Sheet.{is_legacy}
 use Rattle.definition.specs.Memory.{Input, Event, synchronize, told, note, Mem, Out, got, no, and_then}
 use Rattle.definition.specs.Closing.{ends_legacy, padding}
 use Rattle.definition.specs.Call.{Rooms, start, walk}
-use Rattle.assurance.specs.Simulate.{over, same_rooms, Pair, φ}
+use Rattle.assurance.specs.Simulate.{over, longer, same_rooms, previous_wide, Pair, φ}
 use Rattle.assurance.specs.SimulateClosing.{Ends, ended, walk-ended, ended_law}
 use Rattle.assurance.specs.SimulateCall.{start_fits}
 
@@ -91,13 +91,14 @@ module _ (x : Input) (modern : is_legacy x.sheet ≡ false) where
           x = x;
           lo = lo;
           p' = p';
-          extra = same_rooms;
+          maps = longer same_rooms;
           h = (λ l. l);
           Shared = (λ a. a < L);
           Compared = (λ _. ⊥);
           Fuel = (λ s a n n'. (length x.payload + s ≤ a + n) × (length p' + s ≤ a + n'));
           In = (λ a. a ≤ length x.payload);
           Logged = (λ l. (es : List Event) × (l ≡ told es));
+          Filed = (λ _. Unit {0});
           Stop = (λ m. Ended x m);
           on_note = (λ e l. refl);
           shared_down = (λ a b l v. omega arith);
@@ -118,6 +119,8 @@ module _ (x : Input) (modern : is_legacy x.sheet ≡ false) where
           in_int = (λ a i e. let k = int_known x.payload a i e in omega (arith, k.0, k.1));
           in_legacy = (λ e a. absurd (not_legacy e));
           on_logged = (λ e l t. (e ∷ t.0, ap (note e) t.1));
+          on_filed = (λ t l. tt);
+          previous_same = (λ t f. previous_wide 0 t);
           stop_here = (λ m t l. record { before = t.0; told_last = ap (note (synchronize m.at)) t.1 ∙ ap (λ (q : ℕ). told (synchronize q ∷ t.0)) (omega arith); behind = omega arith; within = omega arith });
           stop_legacy = (λ e m. absurd (not_legacy e));
           stop_fuel = (λ m n' i f. absurd (omega arith));
@@ -128,7 +131,7 @@ module _ (x : Input) (modern : is_legacy x.sheet ≡ false) where
 
     pub reaches : (rooms : Rooms) (m : Mem) → lo ≡ rooms.objects → walk x (start rooms (told [])) ≡ got tt m → Reaches x p' L (start rooms (told [])) m
     reaches rooms m s e =
-        go (ended x m₀) (rw (other_same m₀) at (ended_law prefixes m₀ (start_fits prefixes rooms (told []) ([], refl) s))) (sym (walk-ended x m₀) ∙ e)
+        go (ended x m₀) (rw (other_same m₀) at (ended_law prefixes m₀ (start_fits prefixes rooms (told []) ([], refl) tt s))) (sym (walk-ended x m₀) ∙ e)
       where
         m₀ : Mem
         m₀ = start rooms (told [])

@@ -15,6 +15,7 @@ pub mod Kept
 pub mod Ring
 pub mod Assured
 pub mod Wider
+pub mod TableMap
 pub mod Simulate
 pub mod SimulateSteps
 pub mod SimulateLegacy
@@ -22,6 +23,7 @@ pub mod SimulateReaders
 pub mod SimulateClosing
 pub mod SimulateCall
 pub mod Quiet
+pub mod Unused
 pub mod Rooms
 pub mod Agree
 pub mod Padding

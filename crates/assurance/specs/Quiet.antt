@@ -4,9 +4,9 @@ use Rattle.std.proofs.Math.Path.{ap}
 use Rattle.std.proofs.Common.{◌∙◌, append-nil}
 use Rattle.definition.specs.Memory.{Input, Log, off, told, Table, Mem, Out, got, no}
 use Rattle.definition.specs.Call.{Rooms, Call, input_of, start, called, graph, answer_of, table_of}
-use Rattle.assurance.specs.Simulate.{other, same_rooms}
+use Rattle.assurance.specs.Simulate.{longer, other, same_rooms, same_lengths, previous_wide}
 use Rattle.assurance.specs.SimulateClosing.{Same}
-use Rattle.assurance.specs.SimulateCall.{Variant, calls, called_law}
+use Rattle.assurance.specs.SimulateCall.{Variant, calls, called_start}
 
 -- the same, without events
 abbrev pub quieted : Mem → Mem
@@ -19,21 +19,21 @@ quiet (got a m) = got a (quieted m)
 quiet (no n q m) = no n q (quieted m)
 
 -- the second reading records no event
-other-quiet : (m : Mem) → other same_rooms (λ _. off) m ≡ quieted m
+other-quiet : (m : Mem) → other (longer same_rooms) (λ _. off) m ≡ quieted m
 other-quiet m = simp append-nil
 
-start-quiet : (rooms : Rooms) (l : Log) → other same_rooms (λ _. off) (start rooms l) ≡ start rooms off
+start-quiet : (rooms : Rooms) (l : Log) → other (longer same_rooms) (λ _. off) (start rooms l) ≡ start rooms off
 start-quiet rooms l = simp append-nil
 
 unrecorded : (x : Input) → Variant x
 unrecorded x =
-    record { extra = same_rooms; h = (λ _. off); Compared = (λ _. Unit {0}); on_note = (λ e l. refl); compared_full = (λ v. refl); legacy_compared = (λ n e. tt) }
+    record { maps = longer same_rooms; h = (λ _. off); Compared = (λ _. Unit {0}); Filed = (λ _. Unit {0}); on_note = (λ e l. refl); on_filed = (λ t l. tt); previous_same = (λ t f. previous_wide 0 t); compared_full = (λ v. same_lengths); legacy_compared = (λ n e. tt) }
 
 module _ (c : Call) (rooms : Rooms) where
   -- THE THEOREM
   pub called_quiet : (l : Log) → called c (start rooms off) ≡ quiet (called c (start rooms l))
   unfolding unrecorded
-  called_quiet l = rw (← start-quiet rooms l) (go (called c (start rooms l)) (called_law c rooms (unrecorded (input_of c)) l))
+  called_quiet l = rw (← start-quiet rooms l) (go (called c (start rooms l)) (called_start c rooms (unrecorded (input_of c)) tt l))
     where
       go : (o : Out (Unit {0})) {o' : Out (Unit {0})} → Same (calls c rooms (unrecorded (input_of c))) o o' → o' ≡ quiet o
       go (got a m) e = e ∙ ap (got a) (other-quiet m)

@@ -8,9 +8,9 @@ use Rattle.definition.specs.Memory.{Input, told, Table, Mem, Out, got, no}
 use Rattle.definition.specs.Closing.{ends_legacy}
 use Rattle.definition.specs.Call.{Rooms, Call, input_of, start, called, graph, events_of}
 use Rattle.assurance.specs.Wider.{wide, wide_get}
-use Rattle.assurance.specs.Simulate.{wider, other}
+use Rattle.assurance.specs.Simulate.{wider, longer, other, previous_wide}
 use Rattle.assurance.specs.SimulateClosing.{Same}
-use Rattle.assurance.specs.SimulateCall.{Variant, more, start-other, calls, called_law}
+use Rattle.assurance.specs.SimulateCall.{Variant, more, start-other, calls, called_start}
 
 pub record Larger (rooms rooms' : Rooms) : Type 0 where
   pub objects_room : rooms.objects ≤ rooms'.objects
@@ -25,7 +25,7 @@ excess rooms rooms' =
 
 -- the same cursor, counts, state and events; each table with that many zeros after it
 abbrev pub roomier : Rooms → Rooms → Mem → Mem
-roomier rooms rooms' = other (excess rooms rooms') (λ l. l)
+roomier rooms rooms' = other (longer (excess rooms rooms')) (λ l. l)
 
 same_fields : (a b : Rooms) → a.objects ≡ b.objects → a.slots ≡ b.slots → a.values ≡ b.values → a.addresses ≡ b.addresses → a ≡ b
 same_fields a b o s v d = λ i. record { objects = o i; slots = s i; values = v i; addresses = d i }
@@ -43,23 +43,23 @@ no_room x n e f = go (is_legacy x.sheet) (rw f at e)
 
 module _ (c : Call) (rooms rooms' : Rooms) (l : Larger rooms rooms') where
   -- all refusals but 3 are compared
-  abbrev longer : Variant (input_of c)
-  longer =
-      record { extra = excess rooms rooms'; h = (λ l. l); Compared = (λ n. n ≡ 3 → ⊥); on_note = (λ e l. refl); compared_full = (λ v. absurd (v refl)); legacy_compared = no_room (input_of c) }
+  abbrev larger : Variant (input_of c)
+  larger =
+      record { maps = longer (excess rooms rooms'); h = (λ l. l); Compared = (λ n. n ≡ 3 → ⊥); Filed = (λ _. Unit {0}); on_note = (λ e l. refl); on_filed = (λ t l. tt); previous_same = (λ t f. previous_wide (rooms'.slots - rooms.slots) t); compared_full = (λ v. absurd (v refl)); legacy_compared = no_room (input_of c) }
 
-  graph_same : Same (calls c rooms longer) (graph c rooms) (graph c rooms')
+  graph_same : Same (calls c rooms larger) (graph c rooms) (graph c rooms')
   unfolding graph
   graph_same =
-      subst (λ (m : Mem). Same (calls c rooms longer) (called c (start rooms (told []))) (called c m)) (start-other rooms (excess rooms rooms') (λ l. l) (told []) ∙ ap (λ r. start r (told [])) (more-excess rooms rooms' l))
-      (called_law c rooms longer (told []))
+      subst (λ (m : Mem). Same (calls c rooms larger) (called c (start rooms (told []))) (called c m)) (start-other rooms (excess rooms rooms') (λ l. l) (told []) ∙ ap (λ r. start r (told [])) (more-excess rooms rooms' l))
+      (called_start c rooms larger tt (told []))
 
   -- THE THEOREM: an accepted payload is accepted with larger tables, and they hold the same, then zeros
   pub larger_accepted : (m : Mem) → graph c rooms ≡ got tt m → graph c rooms' ≡ got tt (roomier rooms rooms' m)
-  larger_accepted m e = subst (λ (o : Out (Unit {0})). Same (calls c rooms longer) o (graph c rooms')) e graph_same
+  larger_accepted m e = subst (λ (o : Out (Unit {0})). Same (calls c rooms larger) o (graph c rooms')) e graph_same
 
   -- and one refused for another reason than room is refused in the same way
   pub larger_refused : (n q : ℕ) (m : Mem) → graph c rooms ≡ no n q m → (n ≡ 3 → ⊥) → graph c rooms' ≡ no n q (roomier rooms rooms' m)
-  larger_refused n q m e f = subst (λ (o : Out (Unit {0})). Same (calls c rooms longer) o (graph c rooms')) e graph_same f
+  larger_refused n q m e f = subst (λ (o : Out (Unit {0})). Same (calls c rooms larger) o (graph c rooms')) e graph_same f
 
 -- ---- whatever the rooms
 
@@ -95,7 +95,7 @@ module _ (c : Call) (rooms rooms' : Rooms) (m m' : Mem) (e : graph c rooms ≡ g
       got_is (sym (larger_accepted c rooms (both rooms rooms') (record { objects_room = omega arith; slots_room = omega arith; values_room = omega arith; addresses_room = omega arith }) m e)
       ∙ larger_accepted c rooms' (both rooms rooms') (record { objects_room = omega arith; slots_room = omega arith; values_room = omega arith; addresses_room = omega arith }) m' e')
 
-  rows_same : (f : Mem → Table) (k : Rooms → ℕ) → ((extra : Rooms) (m : Mem) → f (other extra (λ l. l) m) ≡ wider (k extra) (f m)) → SameRows (f m) (f m')
+  rows_same : (f : Mem → Table) (k : Rooms → ℕ) → ((extra : Rooms) (m : Mem) → f (other (longer extra) (λ l. l) m) ≡ wider (k extra) (f m)) → SameRows (f m) (f m')
   rows_same f k w =
       wide_same (k (excess rooms (both rooms rooms'))) (k (excess rooms' (both rooms rooms'))) (f m).rows (f m').rows
       (ap (λ t. t.rows) (sym (w _ m)) ∙ ap (λ m. (f m).rows) meet ∙ ap (λ t. t.rows) (w _ m'))

@@ -1,6 +1,7 @@
--- Two readings compared: the second has another payload, longer tables or another log. The rules (`Pair`) say how far the payloads are the same,
--- which refusals are compared, and how the bounds of the loops go together; from them every reader gives the same in both, reader by reader
--- (SimulateSteps, SimulateLegacy, SimulateReaders, SimulateClosing). Quiet, Rooms and Prefix are three cases of it. Assumes nothing.
+-- Two readings compared: the second has another payload, longer tables or another log, or other numbers in its slots and addresses above their
+-- counts. The rules (`Pair`) say how far the payloads are the same, what the second reading's tables are, which refusals are compared, and how
+-- the bounds of the loops go together; from them every reader gives the same in both, reader by reader (SimulateSteps, SimulateLegacy,
+-- SimulateReaders, SimulateClosing). Quiet, Rooms, Prefix and Unused are four cases of it. Assumes nothing.
 use Rattle.std.specs.Prelude.{◌≡◌, refl, Bool, List, ℕ, suc, ◌+◌, ◌-◌, ◌*◌, ◌<◌, ◌≤◌, get_or, Option, Some, None}
 use Rattle.std.proofs.Common.{ap, ◌∙◌, arith}
 use Rattle.std.proofs.Math.Bool.{true, false}
@@ -13,10 +14,12 @@ use Rattle.stream.specs.Bytes.{peek_at}
 use Rattle.sheet.specs.Sheet.{is_legacy}
 use Rattle.tables.specs.Records.{field}
 use Rattle.definition.specs.Memory.{Input, Event, synchronize, Log, note, Table, table, Mem, Out, got, no, Reader, and_then, ◌>>=◌, ◌>>◌, choose, give, change, refuse, refuse_at, moved, noted, tell, cut, byte, after_int, int}
+use Rattle.definition.specs.Slots.{previous}
 use Rattle.definition.specs.Object.{peek}
 use Rattle.definition.specs.Closing.{ends_legacy}
 use Rattle.definition.specs.Call.{Rooms}
-use Rattle.assurance.specs.Wider.{wide}
+use Rattle.assurance.specs.Wider.{wide, wide_get}
+use Rattle.assurance.specs.TableMap.{TableMap, mapped, SameLength, widened, widened_none}
 
 -- the second reading's input
 abbrev pub over : Input → List ℕ → Input
@@ -25,37 +28,63 @@ over x p' = record { sheet = x.sheet; payload = p'; spaces = x.spaces; trusted =
 abbrev pub wider : ℕ → Table → Table
 wider k t = table (wide k t.rows) t.count
 
--- what the second reading has where the first has m: so many zeros after each table, and another log
-abbrev pub other : Rooms → (Log → Log) → Mem → Mem
-other extra h m =
+-- what the second reading's tables are: so many zeros after the objects and the values, which are read and written whatever their counts are
+pub record TableMaps : Type 0 where
+  pub objects : ℕ
+  pub slots : TableMap 6
+  pub values : ℕ
+  pub addresses : TableMap 5
+
+-- they are no longer than the first one's
+pub record SameLengths (maps : TableMaps) : Type 0 where
+  pub objects : SameLength (widened {fields = 4} maps.objects)
+  pub slots : SameLength maps.slots
+  pub values : SameLength (widened {fields = 3} maps.values)
+  pub addresses : SameLength maps.addresses
+
+-- so many zeros after each
+abbrev pub longer : Rooms → TableMaps
+longer extra =
+    record { objects = extra.objects; slots = widened extra.slots; values = extra.values; addresses = widened extra.addresses }
+
+-- what the second reading has where the first has m
+abbrev pub other : TableMaps → (Log → Log) → Mem → Mem
+other maps h m =
     record
-    { at = m.at; objects = wider extra.objects m.objects; slots = wider extra.slots m.slots; values = wider extra.values m.values; addresses = wider extra.addresses m.addresses; hot = m.hot; pending = m.pending; waiting = m.waiting; skip = m.skip; alignment = m.alignment; alloc = m.alloc; log = h m.log }
+    { at = m.at; objects = wider maps.objects m.objects; slots = mapped maps.slots m.slots; values = wider maps.values m.values; addresses = mapped maps.addresses m.addresses; hot = m.hot; pending = m.pending; waiting = m.waiting; skip = m.skip; alignment = m.alignment; alloc = m.alloc; log = h m.log }
 
 abbrev pub same_rooms : Rooms
 same_rooms = record { objects = 0; slots = 0; values = 0; addresses = 0 }
 
--- two readings. x and lo: the first one's input and the length of its object table. p', extra and h: the second one's payload, how much longer
--- its tables are, and its log where the first has one. Shared: the cursors up to which both payloads are the same. Compared: the refusals that
+pub same_lengths : SameLengths (longer same_rooms)
+same_lengths = record { objects = widened_none; slots = widened_none; values = widened_none; addresses = widened_none }
+
+pub previous_wide : (k : ℕ) (t : Table) → previous (wider k t) ≡ previous t
+previous_wide k t = rw (wide_get k t.rows ((t.count - 1) * 6 + 2), wide_get k t.rows ((t.count - 1) * 6 + 3), wide_get k t.rows ((t.count - 1) * 6 + 4))
+
+-- two readings. x and lo: the first one's input and the length of its object table. p', maps and h: the second one's payload, and its tables
+-- and log where the first has some. Shared: the cursors up to which both payloads are the same. Compared: the refusals that
 -- both readings give. Fuel s a n n': at cursor a, with n turns of a loop left in the first reading and n' in the second, and s to spare, the
--- loop is not cut short in either. In and Logged: what holds of the first reading's cursor and log throughout. Stop: what holds of it behind
--- the kSynchronize that ends the closing section
+-- loop is not cut short in either. In, Logged and Filed: what holds of the first reading's cursor, log and slots throughout. Stop: what holds
+-- of it behind the kSynchronize that ends the closing section
 pub record Pair : Type 1 where
   pub x : Input
   pub lo : ℕ
   pub p' : List ℕ
-  pub extra : Rooms
+  pub maps : TableMaps
   pub h : Log → Log
   pub Shared : ℕ → Type 0
   pub Compared : ℕ → Type 0
   pub Fuel : ℕ → ℕ → ℕ → ℕ → Type 0
   pub In : ℕ → Type 0
   pub Logged : Log → Type 0
+  pub Filed : Table → Type 0
   pub Stop : Mem → Type 0
   pub on_note : (e : Event) (l : Log) → note e (h l) ≡ h (note e l)
   pub shared_down : (a b : ℕ) → a ≤ b → Shared b → Shared a
   pub compared_shared : (n : ℕ) → Compared n → (a : ℕ) → Shared a
   pub compared_same : (n : ℕ) → Compared n → p' ≡ x.payload
-  pub compared_full : Compared 3 → extra ≡ same_rooms
+  pub compared_full : Compared 3 → SameLengths maps
   pub legacy_compared : (n : ℕ) → ends_legacy x n ≡ true → Compared n
   pub on_byte : (a : ℕ) → Shared a → a < length x.payload → (a < length p') × (get_or p' a 0 ≡ get_or x.payload a 0)
   pub on_peek : (a : ℕ) → Shared a → peek_at p' a ≡ peek_at x.payload a
@@ -70,6 +99,8 @@ pub record Pair : Type 1 where
   pub in_int : (a : ℕ) (i : Int) → int_at x.payload a ≡ Some i → In (a + i.count)
   pub in_legacy : is_legacy x.sheet ≡ true → (a : ℕ) → In a
   pub on_logged : (e : Event) (l : Log) → Logged l → Logged (note e l)
+  pub on_filed : (t : Table) → 0 < t.count → Filed t
+  pub previous_same : (t : Table) → Filed t → previous (mapped maps.slots t) ≡ previous t
   pub stop_here : (m : Mem) → Logged m.log → m.at < length x.payload → Stop (moved (m.at + 1) (noted (synchronize m.at) m))
   pub stop_legacy : is_legacy x.sheet ≡ true → (m : Mem) → Stop m
   pub stop_fuel : (m : Mem) (n' : ℕ) → In m.at → Fuel 1 m.at 0 n' → Stop m
@@ -78,7 +109,7 @@ abbrev pub x' : Pair → Input
 x' S = over S.x S.p'
 
 abbrev pub φ : Pair → Mem → Mem
-φ S = other S.extra S.h
+φ S = other S.maps S.h
 
 -- an object number whose record is within the first reading's table
 abbrev pub Recorded : Pair → ℕ → Type 0
@@ -88,6 +119,7 @@ Recorded S o = o * 4 + 4 ≤ S.lo
 pub record Fit (S : Pair) (at : ℕ) (objects slots addresses : Table) (log : Log) : Type 0 where
   pub inside : S.In at
   pub logged : S.Logged log
+  pub filed : S.Filed slots
   pub objects_length : length objects.rows ≡ S.lo
   pub slots_within : slots.count * 6 ≤ length slots.rows
   pub recorded : (k : ℕ) → k < addresses.count → Recorded S (field 5 addresses.rows k 3)
@@ -98,10 +130,10 @@ Fits S m = Fit S m.at m.objects m.slots m.addresses m.log
 module _ {S : Pair} {a : ℕ} {objects slots addresses : Table} {log : Log} where
   -- the cursor may move within its bounds, and an event may be noted
   pub fit_moved : {b : ℕ} → S.In b → Fit S a objects slots addresses log → Fit S b objects slots addresses log
-  fit_moved i f = record { inside = i; logged = f.logged; objects_length = f.objects_length; slots_within = f.slots_within; recorded = f.recorded }
+  fit_moved i f = record { inside = i; logged = f.logged; filed = f.filed; objects_length = f.objects_length; slots_within = f.slots_within; recorded = f.recorded }
 
   pub fit_noted : (e : Event) → Fit S a objects slots addresses log → Fit S a objects slots addresses (note e log)
-  fit_noted e f = record { inside = f.inside; logged = S.on_logged e log f.logged; objects_length = f.objects_length; slots_within = f.slots_within; recorded = f.recorded }
+  fit_noted e f = record { inside = f.inside; logged = S.on_logged e log f.logged; filed = f.filed; objects_length = f.objects_length; slots_within = f.slots_within; recorded = f.recorded }
 
 -- the first reading went from m to m₂ and gave a, of which P holds, and moved d bytes at least; the second gives the same, if the
 -- cursor is then shared

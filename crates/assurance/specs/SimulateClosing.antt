@@ -99,7 +99,7 @@ module _ (S : Pair) where
 
   entry_item_law : (o index : ℕ) (v : SlotValue) → Recorded S o → Alike S 0 Any (entry_item S.x o index v) (entry_item (x' S) o index v)
   entry_item_law o index v recorded =
-      record { at_law = (λ m fit. rw (entry_fields-wide S.extra.values m.values v) ((add_slots_law o (entry_fields m.values v) index (entry_slots S.x v) recorded).at_law m fit)) }
+      record { at_law = (λ m fit. rw (entry_fields-wide S.maps.values m.values v) ((add_slots_law o (entry_fields m.values v) index (entry_slots S.x v) recorded).at_law m fit)) }
 
   entry_items_law : (o size n n' index done : ℕ) (m : Mem) → Recorded S o → S.Fuel 1 m.at n n' → Fits S m → Follows S 0 Any m (entry_items S.x o size n index done m) (entry_items (x' S) o size n' index done (φ S m))
   unfolding entry_items
@@ -115,7 +115,7 @@ module _ (S : Pair) where
 
   entry_body_law : (o size : ℕ) → Recorded S o → Alike S 0 Any (entry_body S.x o size) (entry_body (x' S) o size)
   entry_body_law o size recorded =
-      record { at_law = (λ m fit. rw (wide_get S.extra.objects m.objects.rows (o * 4 + 3)) (entry_items_law o size _ _ (max (field 4 m.objects.rows o 3) 1) 1 m recorded (S.fuel_spare m.at) fit)) }
+      record { at_law = (λ m fit. rw (wide_get S.maps.objects m.objects.rows (o * 4 + 3)) (entry_items_law o size _ _ (max (field 4 m.objects.rows o 3) 1) 1 m recorded (S.fuel_spare m.at) fit)) }
 
   entry_of_law : (f : Fields) → (f.kind ≡ 1 → Recorded S f.a) → Alike S 0 Any (entry_of S.x f) (entry_of (x' S) f)
   entry_of_law f recorded = go (eqb f.kind 1) refl

@@ -1,19 +1,18 @@
 -- Two readings compared: what only legacy sheets have, back-references by address and allocation. Assumes nothing.
 use Rattle.std.specs.Prelude.{◌≡◌, Bool, ◌||◌, get_or, Option, Some, None, Ok, Err}
 use Rattle.std.proofs.Math.Path.{refl, ap, subst}
-use Rattle.std.proofs.Common.{◌∙◌, ⊎_elim, eq-or-lt_of_le, arith}
+use Rattle.std.proofs.Common.{sym, ◌∙◌, ⊎_elim, eq-or-lt_of_le, arith}
 use Rattle.std.proofs.Math.Bool.{true, false}
-use mathlib.Core.List.{List, append-nil}
-use Prim.Native.Nat.{ℕ, zero, suc, ◌+◌, ◌-◌, ◌<◌, ◌≤◌}
+use mathlib.Core.List.{List}
+use Prim.Native.Nat.{ℕ, zero, suc, ◌+◌, ◌-◌, ◌*◌, ◌/◌, ◌<◌, ◌≤◌}
 use borrow.Author.Tests.{leb-true, leb-false, eqb-true, lt-leb, le-leb}
 use Rattle.std.proofs.Math.Dec.{ltb, leb, eqb}
-use Rattle.std.proofs.Math.ListN.{length}
 use Rattle.stream.specs.declared.putint.Int.{Int}
 use Rattle.stream.specs.PutInt.{int_at}
 use Rattle.sheet.specs.Sheet.{is_six_x, word_bytes}
 use Rattle.tables.specs.declared.values.Ref.{Ref}
 use Rattle.tables.specs.declared.values.SlotValue.{SlotValue}
-use Rattle.tables.specs.Values.{ref_fields, fields_of}
+use Rattle.tables.specs.Values.{pick_ℕ, ref_fields, fields_of}
 use Rattle.tables.specs.Records.{room, field, written, address_row}
 use Rattle.tables.proofs.RecordLaws.{written_same, written_else}
 use Rattle.alloc.specs.declared.legacy_alloc.LegacyAlloc.{LegacyAlloc}
@@ -27,7 +26,8 @@ use Rattle.backref.specs.Legacy.{Answer, pick_backref, numbered_as, by_number, b
 use Rattle.definition.specs.Memory.{word, table, Mem, choose, change, refuse, with_alloc}
 use Rattle.definition.specs.Object.{after_allocation, allocate}
 use Rattle.definition.specs.Reference.{of_backref, legacy_reference}
-use Rattle.assurance.specs.Wider.{wide, wide_get, wide_room, wide_written, resolve_of_same, ordinal_from_same}
+use Rattle.assurance.specs.Wider.{resolve_of_same, ordinal_from_same}
+use Rattle.assurance.specs.TableMap.{TableMap, SameLength, map_room, map_written}
 use Rattle.assurance.specs.Simulate.{Pair, x', φ, Recorded, Fits, fit_moved, Follows, Alike, Any, gives, stops}
 
 -- a reference to an object is to one whose record is within its table
@@ -105,18 +105,18 @@ module _ (S : Pair) where
   by_number_finds (Some o) next i recorded = (λ e. recorded, omega arith, λ v. refl, i)
   by_number_finds None next i recorded = (λ v. refl, i)
 
-  module _ (v t : List ℕ) (k n alignment space : ℕ) (recorded : (i : ℕ) → i < n → Recorded S (field 5 t i 3)) where
-    placed_finds : (place : Place) (next : ℕ) → S.In next → Finds next (placed v t n alignment space place next) (placed v (wide k t) n alignment space place next)
+  module _ (v t u : List ℕ) (n alignment space : ℕ) (same : (i : ℕ) → i < n * 5 → get_or u i 0 ≡ get_or t i 0) (recorded : (i : ℕ) → i < n → Recorded S (field 5 t i 3)) where
+    placed_finds : (place : Place) (next : ℕ) → S.In next → Finds next (placed v t n alignment space place next) (placed v u n alignment space place next)
     placed_finds place next i =
-        rw (resolve_of_same t (wide k t) (wide_get k t) n space place.chunk place.offset alignment (word_bytes v))
+        rw (resolve_of_same t u n space place.chunk place.offset alignment (word_bytes v) same)
         (by_place_finds (resolve_of t n space place.chunk place.offset alignment (word_bytes v)) place next i (resolve_recorded S t n space place.chunk place.offset alignment (word_bytes v) recorded))
 
-    numbered_finds : (index next : ℕ) → S.In next → Finds next (numbered v t n space index next) (numbered v (wide k t) n space index next)
+    numbered_finds : (index next : ℕ) → S.In next → Finds next (numbered v t n space index next) (numbered v u n space index next)
     numbered_finds index next i =
-        rw (ordinal_from_same t (wide k t) (wide_get k t) (numbered_as v space) index 0 n)
+        rw (ordinal_from_same t u (numbered_as v space) index 0 n (λ i l. same i (omega arith)))
         (by_number_finds (ordinal_from t (numbered_as v space) index 0 n) next i (ordinal_recorded S t (numbered_as v space) index 0 n (λ i l. recorded i (omega arith))))
 
-    backref_finds : (a : ℕ) → Finds a (backref_of v S.x.payload t n alignment space a) (backref_of v S.p' (wide k t) n alignment space a)
+    backref_finds : (a : ℕ) → Finds a (backref_of v S.x.payload t n alignment space a) (backref_of v S.p' u n alignment space a)
     unfolding backref_of packed_backref plain_backref
     backref_finds a =
         pick_finds a (is_six_x v) _ _ _ _
@@ -129,8 +129,8 @@ module _ (S : Pair) where
       record {
         at_law = (λ m fit.
             go m fit (backref_of S.x.sheet S.x.payload m.addresses.rows m.addresses.count m.alignment space m.at)
-            (backref_of S.x.sheet S.p' (wide S.extra.addresses m.addresses.rows) m.addresses.count m.alignment space m.at)
-            (backref_finds S.x.sheet m.addresses.rows S.extra.addresses m.addresses.count m.alignment space fit.recorded m.at));
+            (backref_of S.x.sheet S.p' (S.maps.addresses.rows m.addresses.count m.addresses.rows) m.addresses.count m.alignment space m.at)
+            (backref_finds S.x.sheet m.addresses.rows (S.maps.addresses.rows m.addresses.count m.addresses.rows) m.addresses.count m.alignment space (S.maps.addresses.same m.addresses.count m.addresses.rows) fit.recorded m.at));
       }
     where
       go : (m : Mem) → Fits S m → (b b' : Answer) → Finds m.at b b' → Follows S 0 (RecordedValue S) m (of_backref S.x b m) (of_backref (x' S) b' (φ S m))
@@ -140,37 +140,41 @@ module _ (S : Pair) where
 
 -- ---- allocation
 
-abbrev wide_outcome : ℕ → Outcome → Outcome
-wide_outcome k r = outcome r.number r.alignment r.alloc (wide k r.table)
+-- from n records: what is given then, one record more where an object is placed
+abbrev mapped_outcome : TableMap 5 → ℕ → Outcome → Outcome
+mapped_outcome f n r = outcome r.number r.alignment r.alloc (f.rows (pick_ℕ (eqb r.number 0) (n + 1) n) r.table)
 
-pick-wide : (k : ℕ) (b : Bool) (r s r' s' : Outcome) → r' ≡ wide_outcome k r → s' ≡ wide_outcome k s → pick_outcome b r' s' ≡ wide_outcome k (pick_outcome b r s)
-pick-wide k true r s r' s' y n = y
-pick-wide k false r s r' s' y n = n
+pick-mapped : (f : TableMap 5) (n : ℕ) (b : Bool) (r s r' s' : Outcome) → r' ≡ mapped_outcome f n r → s' ≡ mapped_outcome f n s → pick_outcome b r' s' ≡ mapped_outcome f n (pick_outcome b r s)
+pick-mapped f n true r s r' s' y z = y
+pick-mapped f n false r s r' s' y z = z
 
 module _ (S : Pair) (t : List ℕ) (n spaces : ℕ) (want : Request) (c : LegacyAlloc) where
   -- where there is room
-  allocate_wide : (k : ℕ) → n < room 5 t → allocate_of (wide k t) n spaces want c ≡ wide_outcome k (allocate_of t n spaces want c)
+  allocate_mapped : (f : TableMap 5) → n < room 5 t → allocate_of (f.rows n t) n spaces want c ≡ mapped_outcome f n (allocate_of t n spaces want c)
   unfolding allocate_of
-  allocate_wide k l =
-      let e : (row : List ℕ) → length row ≡ 5 → written (wide k t) n row ≡ wide k (written t n row) = (λ row z. wide_written k t n row (omega arith) (rw z l)) in
-      rw (lt-leb (room 5 t) n l, lt-leb (room 5 (wide k t)) n (wide_room k t n 5 (omega arith) l))
-      (pick-wide k (ltb 4294967295 want.size) _ _ _ _ refl
-      (pick-wide k (leb spaces want.space) _ _ _ _ (ap (outcome 0 want.alignment c) (e _ refl))
-      (pick-wide k (ltb 4294967295 (get_or c.used want.space 0 + fill_to_align (get_or c.used want.space 0) want.alignment want.word) || ltb 4294967295 (get_or c.used want.space 0 + advance_of want.size want.alignment want.word)) _ _ _ _ refl
-      (ap (outcome 0 0 _) (e _ refl)))))
+  allocate_mapped f l =
+      let e : (chunk offset is_placed : ℕ) → written (f.rows n t) n (address_row want.space chunk offset want.object is_placed) ≡ f.rows (n + 1) (written t n (address_row want.space chunk offset want.object is_placed)) = (λ chunk offset is_placed. map_written (address_row want.space chunk offset want.object is_placed) f n t (omega arith) l) in
+      rw (lt-leb (room 5 t) n l, lt-leb (room 5 (f.rows n t)) n (map_room f n t (omega arith) l))
+      (pick-mapped f n (ltb 4294967295 want.size) _ _ _ _ refl
+      (pick-mapped f n (leb spaces want.space) _ _ _ _ (ap (outcome 0 want.alignment c) (e 0 0 0))
+      (pick-mapped f n (ltb 4294967295 (get_or c.used want.space 0 + fill_to_align (get_or c.used want.space 0) want.alignment want.word) || ltb 4294967295 (get_or c.used want.space 0 + advance_of want.size want.alignment want.word)) _ _ _ _ refl
+      (ap (outcome 0 0 _) (e _ _ 1)))))
 
-  -- without room the first reading refuses with 3
-  allocate_full : room 5 t ≤ n → allocate_of t n spaces want c ≡ outcome 3 want.alignment c t
+  -- without room a reading refuses with 3
+  allocate_full : (u : List ℕ) → room 5 u ≤ n → allocate_of u n spaces want c ≡ outcome 3 want.alignment c u
   unfolding allocate_of
-  allocate_full l = rw (le-leb (room 5 t) n l)
+  allocate_full u l = rw (le-leb (room 5 u) n l)
 
-  -- the second reading's outcome: the first one's, with a longer table; where 3 is not compared, only if there is room
-  allocated : (k : ℕ) → (S.Compared 3 → k ≡ 0) → ((allocate_of t n spaces want c).number ≡ 3 → S.Compared 3) → allocate_of (wide k t) n spaces want c ≡ wide_outcome k (allocate_of t n spaces want c)
-  allocated k full compared = go (leb (room 5 t) n) refl
+  -- the second reading's outcome: the first one's, with its own table; where 3 is not compared, only if there is room
+  allocated : (f : TableMap 5) → (S.Compared 3 → SameLength f) → ((allocate_of t n spaces want c).number ≡ 3 → S.Compared 3) → allocate_of (f.rows n t) n spaces want c ≡ mapped_outcome f n (allocate_of t n spaces want c)
+  allocated f full compared = go (leb (room 5 t) n) refl
     where
-      go : (b : Bool) → leb (room 5 t) n ≡ b → allocate_of (wide k t) n spaces want c ≡ wide_outcome k (allocate_of t n spaces want c)
-      go true e = let z : k ≡ 0 = full (compared (ap (λ (r : Outcome). r.number) (allocate_full (leb-true _ _ e)))) in rw (z, append-nil t, append-nil (allocate_of t n spaces want c).table)
-      go false e = allocate_wide k (leb-false _ _ e)
+      go : (b : Bool) → leb (room 5 t) n ≡ b → allocate_of (f.rows n t) n spaces want c ≡ mapped_outcome f n (allocate_of t n spaces want c)
+      go true e =
+          let l : room 5 t ≤ n = leb-true _ _ e in
+          let z : room 5 (f.rows n t) ≡ room 5 t = ap (λ (k : ℕ). k / 5) (full (compared (ap (λ (r : Outcome). r.number) (allocate_full t l))) n t) in
+          allocate_full (f.rows n t) (rw z l) ∙ sym (ap (mapped_outcome f n) (allocate_full t l))
+      go false e = allocate_mapped f (leb-false _ _ e)
 
   -- with the record of an object that is within its table, every address is one of such an object
   abbrev RecordedRows : Outcome → Type 0
@@ -213,16 +217,16 @@ module _ (S : Pair) where
       record {
         at_law = (λ m fit.
             go m fit (allocate_of m.addresses.rows m.addresses.count S.x.spaces (request space bytes o m) m.alloc)
-            (allocate_of (wide S.extra.addresses m.addresses.rows) m.addresses.count S.x.spaces (request space bytes o m) m.alloc)
+            (allocate_of (S.maps.addresses.rows m.addresses.count m.addresses.rows) m.addresses.count S.x.spaces (request space bytes o m) m.alloc)
             (allocated_recorded S m.addresses.rows m.addresses.count S.x.spaces (request space bytes o m) m.alloc fit.recorded recorded)
-            (allocated S m.addresses.rows m.addresses.count S.x.spaces (request space bytes o m) m.alloc S.extra.addresses (λ w. ap (λ r. r.addresses) (S.compared_full w))));
+            (allocated S m.addresses.rows m.addresses.count S.x.spaces (request space bytes o m) m.alloc S.maps.addresses (λ w. (S.compared_full w).addresses)));
       }
     where
-      go : (m : Mem) → Fits S m → (r r' : Outcome) → (r.number ≡ 0 → (j : ℕ) → j < m.addresses.count + 1 → Recorded S (field 5 r.table j 3)) → ((r.number ≡ 3 → S.Compared 3) → r' ≡ wide_outcome S.extra.addresses r) → Follows S 0 Any m (after_allocation r m) (after_allocation r' (φ S m))
+      go : (m : Mem) → Fits S m → (r r' : Outcome) → (r.number ≡ 0 → (j : ℕ) → j < m.addresses.count + 1 → Recorded S (field 5 r.table j 3)) → ((r.number ≡ 3 → S.Compared 3) → r' ≡ mapped_outcome S.maps.addresses m.addresses.count r) → Follows S 0 Any m (after_allocation r m) (after_allocation r' (φ S m))
       go m fit r r' rows e = turn (eqb r.number 0) refl
         where
           turn : (b : Bool) → eqb r.number 0 ≡ b → Follows S 0 Any m (choose b (change (with_alloc (table r.table (m.addresses.count + 1)) r.alignment r.alloc)) (refuse r.number) m) (after_allocation r' (φ S m))
           turn true z =
               let placed : r.number ≡ 0 = eqb-true _ _ z in
-              gives S (record { inside = fit.inside; logged = fit.logged; objects_length = fit.objects_length; slots_within = fit.slots_within; recorded = rows placed }) tt (omega arith) (λ v. rw (e (λ three. absurd (omega arith)), z))
+              gives S (record { inside = fit.inside; logged = fit.logged; filed = fit.filed; objects_length = fit.objects_length; slots_within = fit.slots_within; recorded = rows placed }) tt (omega arith) (λ v. rw (e (λ three. absurd (omega arith)), z))
           turn false z = stops S fit (λ v. rw (e (λ three. subst S.Compared three v), z))

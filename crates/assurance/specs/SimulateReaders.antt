@@ -14,13 +14,12 @@ use Rattle.tables.specs.declared.values.Ref.TheVariants.{Object, Root, RoRef, At
 use Rattle.tables.specs.declared.values.SlotValue.{SlotValue}
 use Rattle.tables.specs.declared.values.SlotValue.TheVariants.{Ref, Repeat, RepeatPrev, Skip, StreamBytes, Raw, ClearedWeak, WeakRef, PendingRef}
 use Rattle.tables.specs.Values.{fields_of, width_of}
-use Rattle.definition.specs.Memory.{Input, word, in_map, in_slot, item, Table, Mem, Reader, ◌>>=◌, ◌>>◌, choose, give, change, moved, with_skip, aligned, byte, int}
+use Rattle.definition.specs.Memory.{Input, word, in_map, in_slot, item, Mem, Reader, ◌>>=◌, ◌>>◌, choose, give, change, moved, with_skip, aligned, byte, int}
 use Rattle.definition.specs.Slots.{resolved, waits_of, keep_item, previous, repeat_previous as repeatPreviousSlot, place_item}
 use Rattle.definition.specs.Object.{peek, large_byte, change_chunk, alignment_byte, chunk_changes, map_first, map_then_allocate, read_map, flags, flag_object, keep_map, resolves, items, body, object}
 use Rattle.definition.specs.Closing.{ends_legacy}
 use Rattle.definition.specs.Reference.{refers, outside, raw_bytes, weak_of, repeat_of, repeat_root, by_head, reference, ref_at}
-use Rattle.assurance.specs.Wider.{wide_get}
-use Rattle.assurance.specs.Simulate.{over, wider, Pair, x', φ, Recorded, Fits, fit_moved, Follows, Alike, Any, gives, via, choose_at, then_at, then_law, seq_law, lower_at, lower, choose_law, give_law, refuse_law, refuse_at_law, change_law, tell_law, byte_law, int_law, peek_same}
+use Rattle.assurance.specs.Simulate.{over, Pair, x', φ, Recorded, Fits, fit_moved, Follows, Alike, Any, gives, via, choose_at, then_at, then_law, seq_law, lower_at, lower, choose_law, give_law, refuse_law, refuse_at_law, change_law, tell_law, byte_law, int_law, peek_same}
 use Rattle.assurance.specs.SimulateSteps.{add_value_law, add_object_law, add_slot_law, flagged_law, resolved_law, hot_law, refers_hot_law, backref_to_law, pending_law, skip_amount_law, raw_data_law}
 use Rattle.assurance.specs.SimulateLegacy.{legacy_reference_law, allocate_law}
 
@@ -32,9 +31,6 @@ resolves_in x o n n₁ b m e f = rw (e, f)
 items_in_lem : (x : Input) (r : Reader SlotValue) (o size n n₁ done b : ℕ) (m : Mem) → n ≡ suc n₁ → peek x m ≡ b → items x r o size n done m ≡ choose (leb size done) (give done) (choose (is_deferred x.sheet b) (byte x >> give size) (r >>= place_item x o done >>= items x r o size n₁)) m
 unfolding items
 items_in_lem x r o size n n₁ done b m e f = rw (e, f)
-
-previous-wide : (k : ℕ) (t : Table) → previous (wider k t) ≡ previous t
-previous-wide k t = rw (wide_get k t.rows ((t.count - 1) * 6 + 2), wide_get k t.rows ((t.count - 1) * 6 + 3), wide_get k t.rows ((t.count - 1) * 6 + 4))
 
 -- in a legacy closing section such a refusal only ends it
 pub legacy-ends : (x : Input) (n : ℕ) → is_legacy x.sheet ≡ true → not (eqb n 3 || eqb n 16) ≡ true → ends_legacy x n ≡ true
@@ -72,7 +68,7 @@ module _ (S : Pair) where
       }
 
   repeat_previous_law : Alike S 0 Any repeatPreviousSlot repeatPreviousSlot
-  repeat_previous_law = record { at_law = (λ m fit. rw (previous-wide S.extra.slots m.slots) ((add_value_law S (previous m.slots)).at_law m fit)) }
+  repeat_previous_law = record { at_law = (λ m fit. rw (S.previous_same m.slots fit.filed) ((add_value_law S (previous m.slots)).at_law m fit)) }
 
   place_item_law : (o done : ℕ) (v : SlotValue) → Recorded S o → Alike S 0 Any (place_item S.x o done v) (place_item (x' S) o done v)
   unfolding place_item

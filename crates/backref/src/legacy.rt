@@ -89,6 +89,7 @@ impl<'a> LegacyReader<'a> {
     }
 
     // The object with a number among those of a space.
+    #[inline(always)]
     fn by_number(self, space: u64, number: u64, next: usize) -> Result<Backref, BackrefError>
         ensures { result ≡ numbered_by self.entry space number next }
     {
@@ -104,6 +105,7 @@ impl<'a> LegacyReader<'a> {
 
     // The object at a place, or the place itself in the read-only heap.
     #[tactic(auto, using(crate::proofs::BackrefLaws::word_small))]
+    #[inline(always)]
     fn by_place(self, place: Place, next: usize) -> Result<Backref, BackrefError>
         requires { place.offset < 2 ^ 32 }
         ensures { result ≡ placed_by self.entry place next }
@@ -153,6 +155,7 @@ impl<'a> LegacyReader<'a> {
 
     // The back-reference at a cursor.
     #[tactic(auto, unfolding(crate::specs::Legacy::backref_of))]
+    #[inline(always)]
     pub fn backref_at(self, at: usize) -> Result<Backref, BackrefError>
         ensures { result ≡ backref_by self.entry at }
     {

@@ -1,12 +1,9 @@
 -- A call at each way out of the code. Assumes nothing.
-use Rattle.std.specs.Prelude.{◌≡◌, refl, Bool, true, false, ◌||◌, List, ℕ, ◌<◌, ◌≤◌, ltb, length, get_or, replicate, Option, Some, None, is_some, Result, Ok, Err, IfErr}
+use Rattle.std.specs.Prelude.{◌≡◌, refl, Bool, true, false, ◌||◌, List, ℕ, ◌*◌, ◌<◌, ◌≤◌, ltb, length, get_or, Option, Some, None, is_some, Result, Ok, Err}
 use Rattle.std.proofs.Common.{arith, sym, ap, subst, ◌∙◌, ltb-false}
 use Rattle.std.proofs.lemmas.List.{length-replicate}
-use Rattle.std.specs.Result.{is_err}
 use Rattle.std.specs.Option.{ok_or}
 use Rattle.stream.proofs.ByteLaws.{Bytes}
-use Rattle.refusals.specs.declared.refusal.Refusal.{Refusal}
-use Rattle.refusals.specs.declared.refusal.Refusal.TheVariants.{UnusableSheet, TooLong}
 use Rattle.refusals.specs.Numbers.{number_of}
 use Rattle.sheet.specs.Sheet.{usable, plain}
 use Rattle.heads.specs.declared.heads.Head.{Head}
@@ -20,11 +17,13 @@ use Rattle.definition.specs.Memory.{Input, off, Table, table, Mem, Out, got, no}
 use Rattle.definition.specs.Call.{Rooms, Call, input_of, start, walk, too_long, called, graph, table_of, Answer, answer_of}
 use Rattle.laws.specs.Sound.{Proper, Sound, Counted}
 use Rattle.laws.specs.Numbered.{Numbered}
-use Rattle.laws.specs.ClosingKeeps.{start_sound, start-counted}
+use Rattle.laws.specs.ClosingKeeps.{begun, start_sound, start-counted}
+use Rattle.laws.proofs.Theorems.{walk_keeps}
 use Rattle.laws.specs.Waiting.{waits_start}
 use Rattle.laws.specs.Addresses.{Ascending, start_ascending}
 use Rattle.assurance.specs.Quiet.{answer_quiet, table_quiet}
 use Rattle.assurance.specs.Refusals.{Known, refusal_known}
+use Rattle.assurance.specs.Unused.{zeros_from, cleaned, clean, called_begun}
 use Rattle.assurance.proofs.Guarantee.{guaranteed}
 use Rattle.readers.specs.declared.state.State.{State}
 use Rattle.readers.specs.declared.state.Refused.{Refused as WalkRefused}
@@ -36,7 +35,7 @@ use Rattle.walker.specs.Ready.{Ready}
 use Rattle.cache_graph.specs.declared.parse.Tables.{Tables}
 use Rattle.cache_graph.specs.declared.parse.Graph.{Graph}
 use Rattle.cache_graph.specs.declared.parse.Refused.{Refused}
-use Rattle.cache_graph.specs.Promise.{rooms_of, rooms_in, answer, refused_answer, graph_of, Reads, Assures, Cleared, Started, Ended, Walked}
+use Rattle.cache_graph.specs.Promise.{rooms_in, answer, graph_of, Reads, Assures, Cleared, Prepared, Started, begun_in, Ended}
 use Rattle.cache_graph.specs.SecondCall.{accepted_graph}
 
 -- ---- the start
@@ -44,79 +43,74 @@ use Rattle.cache_graph.specs.SecondCall.{accepted_graph}
 abbrev pub first : State
 first = record { at = 0; objects = 0; slots = 0; values = 0; addresses = 0; pending = 0; waiting = 0; skip = 0; alignment = 0 }
 
+pub same_input : (c : Call) {k : ℕ} → k ≡ spaces_of c.reservations → input c.sheet c.payload k c.trusted ≡ input_of c
+same_input c e = rw e
+
 module _ {c : Call} {h : List Head} {t : Tables} (s : Started c h t) where
-  abbrev begun : HotRing → LegacyAlloc → Lent
-  begun hot a =
+  abbrev lent : HotRing → LegacyAlloc → Lent
+  lent hot a =
       record { objects = t.objects.now; slots = t.slots.now; values = t.values.now; addresses = t.addresses.now; hot = hot; alloc = a }
 
-  pub started : {hot : HotRing} {a : LegacyAlloc} → hot ≡ empty_ring → a ≡ zero_counters → mem first (begun hot a) ≡ start (rooms_in t) off
-  started eh e = let z = s.cleared in rw (eh, e, ← z.objects_zero, ← z.slots_zero, ← z.values_zero, ← z.addresses_zero)
+  pub started : {hot : HotRing} {a : LegacyAlloc} → hot ≡ empty_ring → a ≡ zero_counters → mem first (lent hot a) ≡ begun_in t
+  started eh e = let z = s.prepared in rw (eh, e, ← z.objects_zero, ← z.values_zero)
 
   -- whatever scratch holds, it indexes no slot, and where its heads are zero no address record
-  pub started_ready : {w : Walker} → input_in w ≡ input_of c → w.heads.now ≡ h → mem first (lent_of w) ≡ start (rooms_in t) off → ((k : ℕ) → k < 256 → get_or w.index.now k 0 ≡ 0) → Ready w first
+  pub started_ready : {w : Walker} → input_in w ≡ input_of c → w.heads.now ≡ h → mem first (lent_of w) ≡ begun_in t → ((k : ℕ) → k < 256 → get_or w.index.now k 0 ≡ 0) → Ready w first
   started_ready {w} e d m z =
       let proper : Proper (input_in w) = subst Proper (sym e) s.proper in
-      let rooms = rooms_in t in
       record {
         proper = proper;
         decoded = rw (ap (λ (x : Input). x.sheet) e, d) s.decoded;
-        sound = subst (Sound (input_in w)) (sym m) (start_sound (input_in w) rooms off);
-        counted = subst Counted (sym m) (start-counted rooms off);
+        sound = subst (Sound (input_in w)) (sym m) (start_sound (input_in w) (rooms_in t) t.slots.now t.addresses.now off);
+        counted = subst Counted (sym m) (start-counted (rooms_in t) t.slots.now t.addresses.now off);
         numbered = subst Numbered (sym m) (waits_start _);
-        ascending = subst (λ (m : Mem). Ascending (input_in w) m.addresses m.alloc) (sym m) (start_ascending proper rooms off);
+        ascending = subst (λ (m : Mem). Ascending (input_in w) m.addresses m.alloc) (sym m) (start_ascending proper t.addresses.now);
         indexed = indexed_start _ _;
         linked = linked_start _ _ z;
       }
 
--- ---- what the walk leaves
+  -- ---- what the walk leaves: its input and its start are the call's
 
-pub same_input : (c : Call) {k : ℕ} → k ≡ spaces_of c.reservations → input c.sheet c.payload k c.trusted ≡ input_of c
-same_input c e = rw e
+  module _ {x : Input} {m : Mem} (ex : x ≡ input_of c) (em : m ≡ begun_in t) where
+    same_walk : {o : Out (Unit {0})} → o ≡ walk x m → walk (input_of c) (begun_in t) ≡ o
+    same_walk e = sym (e ∙ ap (λ (x : Input). walk x m) ex ∙ ap (walk (input_of c)) em)
 
--- the walk's input and its start are the call's
-module _ (c : Call) (rooms : Rooms) {x : Input} {m : Mem} (ex : x ≡ input_of c) (em : m ≡ start rooms off) where
-  same_walk : {o : Out (Unit {0})} → o ≡ walk x m → walk (input_of c) (start rooms off) ≡ o
-  same_walk e = sym (e ∙ ap (λ (x : Input). walk x m) ex ∙ ap (walk (input_of c)) em)
+    pub walk_refused : (r : WalkRefused) (l : Lent) → no (number_of r.refusal) r.place (mem r.state l) ≡ walk x m → (m : Mem) × (walk (input_of c) (begun_in t) ≡ no (number_of r.refusal) r.place m)
+    walk_refused r l e = (mem r.state l, same_walk e)
 
-  pub walk_refused : (r : WalkRefused) (l : Lent) → no (number_of r.refusal) r.place (mem r.state l) ≡ walk x m → (m : Mem) × (walk (input_of c) (start rooms off) ≡ no (number_of r.refusal) r.place m)
-  walk_refused r l e = (mem r.state l, same_walk e)
+    walk_sound : {m' : Mem} → walk (input_of c) (begun_in t) ≡ got tt m' → Sound (input_of c) m'
+    walk_sound e =
+        let k = walk_keeps s.proper (begun_in t) (start_sound (input_of c) (rooms_in t) t.slots.now t.addresses.now off) (start-counted (rooms_in t) t.slots.now t.addresses.now off) in
+        (rw e at k).0.sound
 
-  pub walk_ended : (s : State) (l : Lent) → got tt (mem s l) ≡ walk x m → {ot st vt dt : List ℕ} → ot ≡ l.objects → st ≡ l.slots → vt ≡ l.values → dt ≡ l.addresses → Ended (walk (input_of c) (start rooms off)) (graph_of s) ot st vt dt
-  walk_ended s l e h i j k =
-      record { held = mem s l; ended = same_walk e; graph_is = refl; objects_are = h; slots_are = i; values_are = j; addresses_are = k }
+    pub walk_ended : (s : State) (l : Lent) → got tt (mem s l) ≡ walk x m → {ot st vt dt : List ℕ} → ot ≡ l.objects → st ≡ l.slots → vt ≡ l.values → dt ≡ l.addresses → Ended (walk (input_of c) (begun_in t)) (graph_of s) ot st vt dt
+    walk_ended s l e h i j k =
+        let o = walk_sound (same_walk e) in
+        record { held = mem s l; ended = same_walk e; graph_is = refl; fitting = record { slots_fit = rw i o.slots_fit; addresses_fit = rw k o.addresses_fit }; objects_are = h; slots_are = i; values_are = j; addresses_are = k }
 
--- ---- tables that are cleared
+-- ---- tables that are prepared
 
 -- they are as long as before
-module _ {rooms : Rooms} {ot st vt dt : List ℕ} (z : Cleared rooms ot st vt dt) where
-  cleared_rooms : rooms_of ot st vt dt ≡ rooms
-  cleared_rooms = rw (z.objects_zero, z.slots_zero, z.values_zero, z.addresses_zero, length-replicate {A = ℕ} rooms.objects 0, length-replicate {A = ℕ} rooms.slots 0, length-replicate {A = ℕ} rooms.values 0, length-replicate {A = ℕ} rooms.addresses 0)
-
-  pub cleared_own : Cleared (rooms_of ot st vt dt) ot st vt dt
-  cleared_own = subst (λ (r : Rooms). Cleared r ot st vt dt) (sym cleared_rooms) z
-
--- and so they are when they are cleared again
-pub cleared_again : {rooms : Rooms} {ot st vt dt : List ℕ} → Cleared rooms ot st vt dt
-    → (ot' st' vt' dt' : List ℕ) → length ot' ≡ length ot → length st' ≡ length st → length vt' ≡ length vt → length dt' ≡ length dt
-    → {ot'' st'' vt'' dt'' : List ℕ} → Cleared (rooms_of ot' st' vt' dt') ot'' st'' vt'' dt'' → Cleared rooms ot'' st'' vt'' dt''
-cleared_again z ot' st' vt' dt' p q r s {ot''} {st''} {vt''} {dt''} y =
-    subst (λ (rooms : Rooms). Cleared rooms ot'' st'' vt'' dt'') ((λ i. record { objects = p i; slots = q i; values = r i; addresses = s i }) ∙ cleared_rooms z) y
+prepared_rooms : {rooms : Rooms} {t : Tables} → Prepared rooms t → rooms_in t ≡ rooms
+prepared_rooms {rooms} z =
+    rw (z.objects_zero, z.slots_length, z.values_zero, z.addresses_length, length-replicate {A = ℕ} rooms.objects 0, length-replicate {A = ℕ} rooms.values 0)
 
 -- ---- the call
 
+module _ (c : Call) where
+  pub called_unusable : (m : Mem) → usable c.sheet ≡ false → called c m ≡ no 1 0 m
+  unfolding called
+  called_unusable m e = rw e
+
+  pub called_long : (m : Mem) → usable c.sheet ≡ true → too_long c ≡ true → called c m ≡ no 2 0 m
+  unfolding called
+  called_long m e f = rw (e, f)
+
+  pub called_walks : (m : Mem) → usable c.sheet ≡ true → too_long c ≡ false → called c m ≡ walk (input_of c) m
+  unfolding called
+  called_walks m e f = rw (e, f)
+
 module _ (c : Call) (rooms : Rooms) where
-  called_unusable : usable c.sheet ≡ false → called c (start rooms off) ≡ no 1 0 (start rooms off)
-  unfolding called
-  called_unusable e = rw e
-
-  called_long : usable c.sheet ≡ true → too_long c ≡ true → called c (start rooms off) ≡ no 2 0 (start rooms off)
-  unfolding called
-  called_long e f = rw (e, f)
-
-  pub called_walks : usable c.sheet ≡ true → too_long c ≡ false → {ot st vt dt : List ℕ} → Cleared rooms ot st vt dt → called c (start rooms off) ≡ walk (input_of c) (start (rooms_of ot st vt dt) off)
-  unfolding called
-  called_walks e f z = rw (e, f) (ap (λ (r : Rooms). walk (input_of c) (start r off)) (sym (cleared_rooms z)))
-
   -- what the definition gives, without its events, is promised
   module _ (o : Out (Unit {0})) (e : called c (start rooms off) ≡ o) {r : Answer} {ot st vt dt : List ℕ} where
     reads : r ≡ answer_of o → ot ≡ table_of (λ m. m.objects) rooms.objects o → st ≡ table_of (λ m. m.slots) rooms.slots o → vt ≡ table_of (λ m. m.values) rooms.values o → dt ≡ table_of (λ m. m.addresses) rooms.addresses o → Reads c rooms r ot st vt dt
@@ -130,43 +124,33 @@ module _ (c : Call) (rooms : Rooms) where
           addresses_are = k ∙ ap (table_of (λ m. m.addresses) rooms.addresses) b ∙ table_quiet c rooms (λ m. m.addresses) rooms.addresses (λ m. refl);
         }
 
-  -- a refusal at 0, before the walk
-  abbrev early : Refusal → Answer
-  early r = refused_answer (record { refusal = r; place = 0 })
+  -- from prepared tables it gives the same, but for what is above the counts
+  module _ {t : Tables} (p : Prepared rooms t) where
+    from_zeros : called c (start rooms off) ≡ clean (called c (begun_in t))
+    from_zeros =
+        called_begun c rooms t.slots.now t.addresses.now off p.slots_length p.addresses_length p.first_slot
+        ∙ ap (λ (r : Rooms). clean (called c (begun r t.slots.now t.addresses.now off))) (sym (prepared_rooms p))
 
-  module _ {ot st vt dt : List ℕ} (z : Cleared rooms ot st vt dt) where
-    reads_none : {n q : ℕ} {m : Mem} → called c (start rooms off) ≡ no n q m → Reads c rooms (answer_of (no n q m)) ot st vt dt
-    reads_none e = reads (no _ _ _) e refl z.objects_zero z.slots_zero z.values_zero z.addresses_zero
+    -- accepted, with the rest cleared
+    pub reads_accepted : {g : Graph} {ot st vt dt : List ℕ} → Ended (called c (begun_in t)) g ot st vt dt → {ot' st' vt' dt' : List ℕ} → ot' ≡ ot → st' ≡ zeros_from (g.slots * 6) st → vt' ≡ vt → dt' ≡ zeros_from (g.addresses * 5) dt → Reads c rooms (answer (Ok g)) ot' st' vt' dt'
+    reads_accepted {g} w h i j k =
+        let slots : g.slots ≡ w.held.slots.count = ap (λ (a : Answer). a.slots) w.graph_is in
+        let addresses : g.addresses ≡ w.held.addresses.count = ap (λ (a : Answer). a.addresses) w.graph_is in
+        reads (got tt (cleaned w.held)) (from_zeros ∙ ap clean w.ended) w.graph_is
+        (h ∙ w.objects_are)
+        (i ∙ rw (slots, w.slots_are))
+        (j ∙ w.values_are)
+        (k ∙ rw (addresses, w.addresses_are))
 
-    pub reads_unusable : usable c.sheet ≡ false → Reads c rooms (early UnusableSheet) ot st vt dt
-    reads_unusable u = reads_none (called_unusable u)
-
-    pub reads_long : usable c.sheet ≡ true → too_long c ≡ true → Reads c rooms (early TooLong) ot st vt dt
-    reads_long u l = reads_none (called_long u l)
-
-  -- after the walk
-  module _ {o : Out (Unit {0})} (e : called c (start rooms off) ≡ o) (r : Result Graph Refused) (ot st vt dt : List ℕ) where
-    pub reads_accepted : is_err r ≡ false → Walked o r ot st vt dt → Reads c rooms (answer r) ot st vt dt
-    reads_accepted z w = go r z w
-      where
-        go : (r : Result Graph Refused) → is_err r ≡ false → Walked o r ot st vt dt → Reads c rooms (answer r) ot st vt dt
-        go (Ok g) z w = reads (got tt w.held) (e ∙ w.ended) w.graph_is w.objects_are w.slots_are w.values_are w.addresses_are
-        go (Err f) z w = absurd (let y : ◌≡◌ {A = ℕ} 0 1 = cc in omega arith)
-
-    pub reads_refused : is_err r ≡ true → Walked o r ot st vt dt → {ot' st' vt' dt' : List ℕ} → Cleared rooms ot' st' vt' dt' → Reads c rooms (answer r) ot' st' vt' dt'
-    reads_refused z w {ot'} {st'} {vt'} {dt'} q = go r z w
-      where
-        go : (r : Result Graph Refused) → is_err r ≡ true → Walked o r ot st vt dt → Reads c rooms (answer r) ot' st' vt' dt'
-        go (Ok g) z w = absurd (let y : ◌≡◌ {A = ℕ} 0 1 = cc in omega arith)
-        go (Err f) z w = reads_none q (e ∙ w.1)
+    -- refused, with all cleared
+    pub reads_refused : (f : Refused) → (m : Mem) × (called c (begun_in t) ≡ no (number_of f.refusal) f.place m) → {after : Rooms} → after ≡ rooms_in t → {ot st vt dt : List ℕ} → Cleared after ot st vt dt → Reads c rooms (answer (Err f)) ot st vt dt
+    reads_refused f w s {ot} {st} {vt} {dt} y =
+        let z = subst (λ (r : Rooms). Cleared r ot st vt dt) (s ∙ prepared_rooms p) y in
+        reads (no (number_of f.refusal) f.place (cleaned w.0)) (from_zeros ∙ ap clean w.1) refl z.objects_zero z.slots_zero z.values_zero z.addresses_zero
 
     -- a refusal has a number
-    pub numbered : Walked o r ot st vt dt → IfErr r (λ e. 0 < number_of e.refusal)
-    numbered w = go r w
-      where
-        go : (r : Result Graph Refused) → Walked o r ot st vt dt → IfErr r (λ e. 0 < number_of e.refusal)
-        go (Ok g) w = tt
-        go (Err f) w = (subst Known (e ∙ w.1) (refusal_known c (start rooms off))).0
+    pub numbered : (f : Refused) → (m : Mem) × (called c (begun_in t) ≡ no (number_of f.refusal) f.place m) → 0 < number_of f.refusal
+    numbered f w = (subst Known (from_zeros ∙ ap clean w.1) (refusal_known c (start rooms off))).0
 
   -- demand 3
   pub assures : {r : Answer} {ot st vt dt : List ℕ} → Reads c rooms r ot st vt dt → Bytes c.payload → plain c.sheet ≡ true → r.number ≡ 0 → Assures c rooms r ot st vt dt

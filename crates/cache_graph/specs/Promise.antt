@@ -1,13 +1,15 @@
 -- What the entry point promises. Assumes nothing: these are definitions.
-use Rattle.std.specs.Prelude.{◌≡◌, List, ℕ, length, replicate, Result, Ok, Err}
+use Rattle.std.specs.Prelude.{◌≡◌, List, ℕ, ◌*◌, ◌<◌, ◌≤◌, length, get_or, replicate, Result, Ok, Err}
 use Rattle.refusals.specs.Numbers.{number_of}
 use Rattle.heads.specs.declared.heads.Head.{Head}
 use Rattle.heads.specs.Heads.{Heads}
-use Rattle.definition.specs.Memory.{table, Mem, Out, got, no}
+use Rattle.definition.specs.Memory.{off, table, Mem, Out, got, no}
 use Rattle.definition.specs.Call.{Rooms, Call, input_of, graph, table_of, answer_of}
 pub use Rattle.definition.specs.Call.{Answer}
 use Rattle.laws.specs.Sound.{Proper}
+use Rattle.laws.specs.ClosingKeeps.{begun}
 use Rattle.assurance.specs.Guarantee.{Guaranteed}
+use Rattle.assurance.specs.Unused.{zeros_from}
 use Rattle.readers.specs.declared.state.State.{State}
 use Rattle.readers.specs.declared.state.Refused.{Refused as WalkRefused}
 use Rattle.cache_graph.specs.declared.parse.Call.{Call as CodeCall}
@@ -87,17 +89,35 @@ pub record Cleared (rooms : Rooms) (objects slots values addresses : List ℕ) :
   pub values_zero : values ≡ replicate rooms.values 0
   pub addresses_zero : addresses ≡ replicate rooms.addresses 0
 
--- it starts with a payload that it takes, the sheet's heads, and tables that are zero
+-- the tables are as long as this, and what the walk reads before it writes it is zero
+pub record Prepared (rooms : Rooms) (t : Tables) : Type 0 where
+  pub objects_zero : t.objects.now ≡ replicate rooms.objects 0
+  pub values_zero : t.values.now ≡ replicate rooms.values 0
+  pub slots_length : length t.slots.now ≡ rooms.slots
+  pub addresses_length : length t.addresses.now ≡ rooms.addresses
+  pub first_slot : (i : ℕ) → i < 6 → get_or t.slots.now i 0 ≡ 0
+
+-- it starts with a payload that it takes, the sheet's heads, and tables that are prepared
 pub record Started (c : Call) (heads : List Head) (t : Tables) : Type 0 where
   pub proper : Proper (input_of c)
   pub decoded : Heads c.sheet heads
-  pub cleared : Cleared (rooms_in t) t.objects.now t.slots.now t.values.now t.addresses.now
+  pub prepared : Prepared (rooms_in t) t
+
+-- what the definition starts with then
+abbrev pub begun_in : Tables → Mem
+begun_in t = begun (rooms_in t) t.slots.now t.addresses.now off
+
+-- the slots and addresses of a graph are within their tables
+pub record Fitting (g : Graph) (slots addresses : List ℕ) : Type 0 where
+  pub slots_fit : g.slots * 6 ≤ length slots
+  pub addresses_fit : g.addresses * 5 ≤ length addresses
 
 -- where it accepts: what the definition holds then is the graph and the tables
 pub record Ended (o : Out (Unit {0})) (g : Graph) (objects slots values addresses : List ℕ) : Type 0 where
   pub held : Mem
   pub ended : o ≡ got tt held
   pub graph_is : graph_answer g ≡ answer_of (got tt held)
+  pub fitting : Fitting g slots addresses
   pub objects_are : objects ≡ held.objects.rows
   pub slots_are : slots ≡ held.slots.rows
   pub values_are : values ≡ held.values.rows
@@ -106,3 +126,10 @@ pub record Ended (o : Out (Unit {0})) (g : Graph) (objects slots values addresse
 abbrev pub Walked : Out (Unit {0}) → Result Graph Refused → List ℕ → List ℕ → List ℕ → List ℕ → Type 0
 Walked o (Ok g) objects slots values addresses = Ended o g objects slots values addresses
 Walked o (Err e) objects slots values addresses = (m : Mem) × (o ≡ no (number_of e.refusal) e.place m)
+
+-- what the walk has not written is zero afterwards
+pub record Trimmed (g : Graph) (t t' : Tables) : Type 0 where
+  pub objects_same : t'.objects.now ≡ t.objects.now
+  pub slots_rest : t'.slots.now ≡ zeros_from (g.slots * 6) t.slots.now
+  pub values_same : t'.values.now ≡ t.values.now
+  pub addresses_rest : t'.addresses.now ≡ zeros_from (g.addresses * 5) t.addresses.now

@@ -1,10 +1,10 @@
 // The entry point: a call from its checks to its answer.
-ghost use Rattle.std.specs.Prelude.{true, ◌≡◌, List, ℕ, ◌<◌, get_or, IfErr};
+ghost use Rattle.std.specs.Prelude.{true, ◌≡◌, List, ℕ, ◌*◌, ◌<◌, ◌≤◌, length, get_or, IfOk, IfErr};
 ghost use Rattle.refusals.specs.Numbers.{number_of};
 ghost use Rattle.sheet.specs.Sheet as Sheet;
-ghost use Rattle.definition.specs.Memory.{off};
 ghost use Rattle.definition.specs.Call as Definition;
-ghost use Rattle.cache_graph.specs.Promise.{call_of, entered, rooms_in, answer, graph_of, refused_of, Reads, Assures, SameTables, Cleared, Started, Walked};
+ghost use Rattle.assurance.specs.Unused.{zeros_from};
+ghost use Rattle.cache_graph.specs.Promise.{call_of, entered, rooms_in, answer, graph_of, refused_of, Reads, Assures, SameTables, Cleared, Prepared, Fitting, Trimmed, Started, begun_in, Walked};
 
 use alloc::legacy_alloc::{LegacyAlloc, spaces};
 use backref::hot_ring::HotRing;
@@ -13,7 +13,7 @@ use heads::heads::{Head, decode};
 use readers::state::{self, State};
 use readers::walker::Walker;
 use refusals::refusal::Refusal;
-use tables::records::clear;
+use tables::records::{ADDRESS_FIELDS, SLOT_FIELDS, clear};
 
 // What is entered: the version sheet, the payload, its reservations, and the trusted list.
 #[derive(Clone, Copy)]
@@ -91,7 +91,44 @@ fn too_long(payload: &[u8], reservations: &[u32]) -> bool
     16777216 < payload.len() || 65536 < reservations.len()
 }
 
+// Clears the first n numbers of a list, as far as it has them.
+fn clear_first(t: &mut [u64], n: usize)
+    ensures { (i : ℕ) → i < n → get_or t.new i 0 ≡ 0 }
+{
+    let end = t.len().min(n);
+    clear(&mut t[..end]);
+}
+
+// Clears the numbers of a table above its records, of which there are so many.
+fn clear_above(t: &mut [u64], fields: usize, count: u64)
+    requires { count * fields ≤ length t.old }
+    ensures { t.new ≡ zeros_from (count * fields) t.old }
+{
+    clear(&mut t[count as usize * fields..]);
+}
+
 impl Tables<'_> {
+    // All that the walk reads before it has written it: objects and values, at any number, and the first slot record. Of slots and addresses
+    // it reads nothing else above its records.
+    fn prepare(&mut self)
+        ensures prepared { Prepared (rooms_in self.old) self.new }
+        ensures same { SameTables self.old self.new }
+    {
+        clear(self.objects);
+        clear(self.values);
+        clear_first(self.slots, SLOT_FIELDS);
+    }
+
+    // What stands above the records of an accepted payload; of objects and values that is zero as it is.
+    fn clear_rest(&mut self, graph: Graph)
+        requires { Fitting graph self.old.slots.now self.old.addresses.now }
+        ensures trimmed { Trimmed graph self.old self.new }
+        ensures same { SameTables self.old self.new }
+    {
+        clear_above(self.slots, SLOT_FIELDS, graph.slots);
+        clear_above(self.addresses, ADDRESS_FIELDS, graph.addresses);
+    }
+
     // Every number of the four tables is 0.
     fn clear(&mut self)
         ensures zero { Cleared (rooms_in self.old) self.new.objects.now self.new.slots.now self.new.values.now self.new.addresses.now }
@@ -104,24 +141,16 @@ impl Tables<'_> {
     }
 }
 
-// Clears the heads of the index of legacy addresses, its first 256 numbers, as far as it has them: no record is entered yet.
-fn clear_heads(index: &mut [u64])
-    ensures { (s : ℕ) → s < 256 → get_or index.new s 0 ≡ 0 }
-{
-    let end = index.len().min(256);
-    clear(&mut index[..end]);
-}
-
-// The walk of a payload over tables that are zero, which come by value, so that they and the parts of scratch can be lent at once. Scratch
+// The walk of a payload over tables that are prepared, which come by value, so that they and the parts of scratch can be lent at once. Scratch
 // may hold anything: its first part has a place for each byte of the payload, as far as it goes, and the rest is the index of legacy
-// addresses.
+// addresses, whose 256 heads are cleared: no record is entered yet.
 fn walk_payload<'a>(
     call: Call<'a>,
     heads: &'a [Head; 256],
     tables: Tables<'a>,
 ) -> Result<Graph, Refused>
     requires { Started (entered call) heads.now tables }
-    ensures { Walked (Definition.walk (Definition.input_of (entered call.entry)) (Definition.start (rooms_in tables.entry) off)) result tables.exit.0.now tables.exit.1.0.now tables.exit.1.1.0.now tables.exit.1.1.1.0.now }
+    ensures { Walked (Definition.walk (Definition.input_of (entered call.entry)) (begun_in tables.entry)) result tables.exit.0.now tables.exit.1.0.now tables.exit.1.1.0.now tables.exit.1.1.1.0.now }
 {
     let Tables {
         objects,
@@ -131,7 +160,7 @@ fn walk_payload<'a>(
         scratch,
     } = tables;
     let (pending, index) = scratch.split_at_mut(call.payload.len().min(scratch.len()));
-    clear_heads(index);
+    clear_first(index, 256);
     let mut w = Walker {
         sheet: call.sheet,
         heads,
@@ -163,16 +192,14 @@ fn walk_payload<'a>(
     Ok(Graph::from(s))
 }
 
-// The object graph of a payload, in the four tables. `Reads` says what the answer and the tables are, in refusal too; `Assures` says what
-// is guaranteed of an accepted payload under a plain sheet. Both hold for every length of scratch and whatever it holds; what it holds at
-// the end is not said. A refusal has a number above 0, and the tables that were lent are the ones that are written.
-pub fn parse_with(call: Call<'_>, tables: &mut Tables<'_>) -> Result<Graph, Refused>
-    ensures reads { Reads (entered call.entry) (rooms_in tables.old) (answer result) tables.new.objects.now tables.new.slots.now tables.new.values.now tables.new.addresses.now }
-    ensures assured { Sheet.plain call.entry.sheet.now ≡ true → (answer result).number ≡ 0 → Assures (entered call.entry) (rooms_in tables.old) (answer result) tables.new.objects.now tables.new.slots.now tables.new.values.now tables.new.addresses.now }
-    ensures refused { IfErr result (λ e. 0 < number_of e.refusal) }
+// The checks, and then the walk.
+fn read(call: Call<'_>, tables: &mut Tables<'_>) -> Result<Graph, Refused>
+    requires { Prepared (rooms_in tables.old) tables.old }
+    ensures walked { Walked (Definition.called (entered call.entry) (begun_in tables.old)) result tables.new.objects.now tables.new.slots.now tables.new.values.now tables.new.addresses.now }
+    ensures bytes { IfOk result (λ g. (i : ℕ) → get_or call.entry.payload.now i 0 < 256) }
+    ensures rooms { rooms_in tables.new ≡ rooms_in tables.old }
     ensures same { SameTables tables.old tables.new }
 {
-    tables.clear();
     let heads = decode(call.sheet).ok_or(at_start(Refusal::UnusableSheet))?;
     if too_long(call.payload, call.reservations) {
         return Err(at_start(Refusal::TooLong));
@@ -184,9 +211,23 @@ pub fn parse_with(call: Call<'_>, tables: &mut Tables<'_>) -> Result<Graph, Refu
         addresses: tables.addresses,
         scratch: tables.scratch,
     };
-    let graph = walk_payload(call, &heads, lent);
-    if graph.is_err() {
-        tables.clear();
+    walk_payload(call, &heads, lent)
+}
+
+// The object graph of a payload, in the four tables. `Reads` says what the answer and the tables are, in refusal too; `Assures` says what
+// is guaranteed of an accepted payload under a plain sheet. Both hold whatever the tables hold before, for every length of scratch and
+// whatever it holds; what scratch holds at the end is not said. A refusal has a number above 0, and the tables that were lent are the ones that are written.
+pub fn parse_with(call: Call<'_>, tables: &mut Tables<'_>) -> Result<Graph, Refused>
+    ensures reads { Reads (entered call.entry) (rooms_in tables.old) (answer result) tables.new.objects.now tables.new.slots.now tables.new.values.now tables.new.addresses.now }
+    ensures assured { Sheet.plain call.entry.sheet.now ≡ true → (answer result).number ≡ 0 → Assures (entered call.entry) (rooms_in tables.old) (answer result) tables.new.objects.now tables.new.slots.now tables.new.values.now tables.new.addresses.now }
+    ensures refused { IfErr result (λ e. 0 < number_of e.refusal) }
+    ensures same { SameTables tables.old tables.new }
+{
+    tables.prepare();
+    let graph = read(call, tables);
+    match graph {
+        Ok(g) => tables.clear_rest(g),
+        Err(_) => tables.clear(),
     }
     graph
 }

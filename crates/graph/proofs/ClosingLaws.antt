@@ -15,7 +15,7 @@ use Rattle.sheet.specs.Tests.{closing_of}
 use Rattle.tables.specs.declared.values.SlotValue.{SlotValue}
 use Rattle.tables.specs.Values.{fields_of}
 use Rattle.definition.specs.Memory.{Input, dropped, value, Mem, Out, got, no, Reader, choose, give, refuse_at, tell, byte}
-use Rattle.definition.specs.Object.{peek, object}
+use Rattle.definition.specs.Object.{peek}
 use Rattle.definition.specs.Reference.{ref_at}
 use Rattle.definition.specs.Closing.{entry, drop_reference, ends_legacy, after_entry, by_entry, entries, closing}
 use Rattle.laws.specs.Keeps.{Reads}

@@ -26,13 +26,15 @@ fn ends_legacy(sheet: &[u16], e: Refusal) -> bool
 }
 
 // A reference at depth 0, whose value is dropped. A new object, the commonest, needs no call of `parse_ref`.
+#[inline(always)]
 fn drop_ref(w: &mut Walker, s: State) -> Answer<()>
     requires ready { Ready w.old s }
     ensures is { seen result (lent_of w.new) ≡ drop_reference (input_of w.old) (mem s (lent_of w.old)) }
     ensures after { After w.old result w.new }
 {
     let Some(new) = new_object_at(w, s.at) else {
-        let (_, t) = parse_ref(w, s, 0)?;
+        let u = s;
+        let (_, t) = parse_ref(w, u, 0)?;
         return Ok(((), t));
     };
     let (_, t) = parse_object(w, State { at: s.at + 1, ..s }, 0, new)?;

@@ -15,15 +15,15 @@ use Rattle.tables.proofs.RecordLaws.{written_same, written_else}
 use Rattle.alloc.specs.Fill.{pick_ℕ, max_fill_to_align, fill_to_align}
 use Rattle.alloc.specs.declared.legacy_alloc.LegacyAlloc.{LegacyAlloc}
 use Rattle.alloc.specs.declared.legacy_alloc.Request.{Request}
-use Rattle.alloc.specs.Allocation.{pick_alloc, next_chunk, advance_of, Outcome, allocate_of}
+use Rattle.alloc.specs.Allocation.{zero_counters, pick_alloc, next_chunk, advance_of, Outcome, allocate_of}
 use Rattle.address_index.specs.Links.{space_of}
 use Rattle.address_index.specs.Sorted.{AtMost, Sorted}
 use Rattle.address_index.proofs.FindLaws.{space_field}
-use Rattle.definition.specs.Memory.{Input, word, resolve, Log, Table, table, Mem, Out, got, no, noted}
+use Rattle.definition.specs.Memory.{Input, word, resolve, Table, table, Mem, Out, got, no, noted}
 use Rattle.definition.specs.Slots.{waiter, fill_waiter, resolved}
 use Rattle.definition.specs.Object.{read_map, object}
 use Rattle.definition.specs.Reference.{ref_at}
-use Rattle.definition.specs.Call.{Rooms, start, walk}
+use Rattle.definition.specs.Call.{walk}
 use Rattle.laws.specs.Leaves.{pick_outcome_case}
 use Rattle.laws.specs.Sound.{Proper, Sound, Counted}
 use Rattle.laws.specs.Rules.{Frame, frame, Listed, Rules}
@@ -351,8 +351,8 @@ module _ {x : Input} (g : Proper x) where
     walk_ascending = stays (walk_ends g (seated_rules g) (from [] tt tt))
 
   -- a call starts so
-  pub start_ascending : (rooms : Rooms) (log : Log) → Ascending x (start rooms log).addresses (start rooms log).alloc
-  start_ascending rooms log =
+  pub start_ascending : (dt : List ℕ) → Ascending x (table dt 0) zero_counters
+  start_ascending dt =
       record {
         chunks = refl;
         offsets = refl;

@@ -14,7 +14,8 @@ use Rattle.tables.specs.declared.values.SlotValue.{SlotValue}
 use Rattle.tables.specs.declared.values.Fields.{Fields}
 use Rattle.tables.specs.Values.{fields_of}
 use Rattle.tables.specs.Records.{field}
-use Rattle.definition.specs.Memory.{Input, Log, in_slot, synchronize, Mem, Out, got, no, Reader, and_then, ◌>>=◌, choose, refuse_at, noted, byte}
+use Rattle.alloc.specs.Allocation.{zero_counters}
+use Rattle.definition.specs.Memory.{Input, Log, in_slot, synchronize, table, Mem, Out, got, no, Reader, and_then, ◌>>=◌, choose, refuse_at, with_slots, with_alloc, noted, byte}
 use Rattle.definition.specs.Object.{peek, object}
 use Rattle.definition.specs.Reference.{ref_at}
 use Rattle.definition.specs.Closing.{add_slots, entry_fields, entry_slots, entry_count, entry_item, entry_items, entry_of, entry, drop_reference, ends_legacy, after_entry, by_entry, entries, padding, closing}
@@ -134,16 +135,20 @@ module _ {x : Input} {I : List Frame → Mem → Type 0} {W : Mem → SlotValue 
   unfolding walk
   walk_ends w = then₁ w (by w top_keeps) _ (λ _ m1 w1 k1 p. last w1 (closing_ends (here w1)) (λ _ m2 w2 k2 _. omega (arith, p, k2.onward)))
 
--- ---- a call starts in order
+-- ---- a call starts in order, whatever its slots and addresses hold
+
+-- its start with these in place of zeros
+abbrev pub begun : Rooms → List ℕ → List ℕ → Log → Mem
+begun rooms st dt log = with_alloc (table dt 0) 0 zero_counters (with_slots (table st 0) (start rooms log))
 
 pub zero_at : (n i : ℕ) → ◌≡◌ {A = ℕ} (get_or (replicate n 0) i 0) 0
 zero_at zero i = refl
 zero_at (suc n) zero = refl
 zero_at (suc n) (suc i) = zero_at n i
 
-pub start_sound : (x : Input) (rooms : Rooms) (log : Log) → Sound x (start rooms log)
-start_sound x rooms log = omega arith
+pub start_sound : (x : Input) (rooms : Rooms) (st dt : List ℕ) (log : Log) → Sound x (begun rooms st dt log)
+start_sound x rooms st dt log = omega arith
 
-pub start-counted : (rooms : Rooms) (log : Log) → Counted (start rooms log)
-start-counted rooms log =
+pub start-counted : (rooms : Rooms) (st dt : List ℕ) (log : Log) → Counted (begun rooms st dt log)
+start-counted rooms st dt log =
     record { chunk_low = λ s. rw (zero_at 256 s) (omega arith); count_low = λ o. rw (zero_at rooms.objects (o * 4 + 3)) (omega arith) }

@@ -11,14 +11,14 @@ use Rattle.definition.specs.Slots.{waiter, fill_waiter, resolved, waits_of, plac
 use Rattle.definition.specs.Object.{read_map, keep_map, resolves, items, object}
 use Rattle.definition.specs.Reference.{ref_at}
 use Rattle.definition.specs.Closing.{closing}
-use Rattle.definition.specs.Call.{Rooms, start, walk}
+use Rattle.definition.specs.Call.{Rooms, walk}
 use Rattle.laws.specs.Sound.{Proper, Sound, Counted}
 use Rattle.laws.specs.Waiting.{Waits, Fresh, waiter_found, waits_more, waits_restart, fresh_next, waits_added, waits_filled, waits_start}
 use Rattle.laws.specs.Rules.{Frame, frame, Listed, Given, Sides, sides, Rules}
 use Rattle.laws.specs.Steps.{Good, Result, Ends}
 use Rattle.laws.specs.Keeps.{waits_low, object-keeping, map_ends, keep_map_ends, resolves_end, place_item-ends, items_end}
 use Rattle.laws.specs.References.{ref_keeping}
-use Rattle.laws.specs.ClosingKeeps.{closing_ends, walk_ends, start_sound, start-counted}
+use Rattle.laws.specs.ClosingKeeps.{closing_ends, walk_ends, begun, start_sound, start-counted}
 
 -- of what a reader has
 abbrev pub Numbered : Mem → Type 0
@@ -168,5 +168,5 @@ module _ {x : Input} (g : Proper x) where
     walk-numbered = orders (walk_ends g (numbered-rules x) (good [] tt)) (λ _ m' p. tt)
 
   -- a call starts so
-  pub call_numbered : (rooms : Rooms) (log : Log) → Ordered (λ _ m'. Unit {0}) (walk x (start rooms log))
-  call_numbered rooms log = walk-numbered (start rooms log) (start_sound x rooms log) (start-counted rooms log) (waits_start _)
+  pub call_numbered : (rooms : Rooms) (st dt : List ℕ) (log : Log) → Ordered (λ _ m'. Unit {0}) (walk x (begun rooms st dt log))
+  call_numbered rooms st dt log = walk-numbered (begun rooms st dt log) (start_sound x rooms st dt log) (start-counted rooms st dt log) (waits_start _)

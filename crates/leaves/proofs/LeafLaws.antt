@@ -2,7 +2,6 @@
 use mathlib.Core.Path.{◌≡◌, refl, sym, ap, subst, ◌∙◌}
 use mathlib.Core.Bool.{Bool, true, false}
 use mathlib.Core.List.{List}
-use mathlib.Core.Logic.{⊎_elim}
 use Prim.Native.Nat.{ℕ, ◌+◌, ◌*◌, ◌/◌, ◌^◌, ◌<◌, ◌≤◌}
 use native.Mathlib.Nat.{mul-le-mul, le_of_lt}
 use native.Mathlib.Omega.{arith}
@@ -13,8 +12,7 @@ use Rattle.std.specs.Result.{result_ok}
 use Rattle.stream.specs.Bytes.{raw_at}
 use Rattle.stream.specs.declared.putint.Int.{Int}
 use Rattle.stream.specs.PutInt.{int_at}
-use Rattle.sheet.specs.Sheet.{word_bytes, usable}
-use Rattle.sheet.proofs.UsableSheet.{usable_gives}
+use Rattle.sheet.specs.Sheet.{word_bytes}
 use Rattle.heads.specs.Heads.{head_at, Heads}
 use Rattle.heads.specs.Kinds.{kind_number}
 use Rattle.tables.specs.declared.values.Ref.{Ref}
@@ -69,10 +67,6 @@ ref_stands : (x : Input) (tag kind a : ℕ) (s : State) (l : Lent) (r : Ref) (ne
     → Stands x tag kind a s l (one_word r next ts enters)
 ref_stands x tag kind a s l r next ts enters ew read =
     record { is = read; width = sym ew; narrow = λ few. omega (arith, few, ew); kept = ref_kept x r; waits = refl }
-
--- a usable sheet's words have 4 or 8 bytes
-pub words_low : (v : List ℕ) {w : ℕ} → usable v ≡ true → w ≡ word_bytes v → (0 < w) × (w ≤ 8)
-words_low v u e = ⊎_elim (λ f. (omega (arith, e, f), omega (arith, e, f))) (λ f. (omega (arith, e, f), omega (arith, e, f))) (usable_gives v u).word
 
 narrow_words : {n w : ℕ} → n < 65536 → w ≤ 8 → n * w < 2 ^ 20
 narrow_words h l = let z = mul-le-mul (le_of_lt h) l in omega (arith, z)

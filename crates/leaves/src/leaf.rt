@@ -23,7 +23,7 @@ use objects::item::Level;
 use readers::simple::find_backref;
 use readers::state::State;
 use readers::walker::{DEEPEST, Walker};
-use sheet::numbers::word_bytes;
+use sheet::numbers::{word_bytes, words_in};
 use stream::bytes::raw;
 use stream::putint::putint;
 use tables::records::{Slot, append_slot};
@@ -51,6 +51,7 @@ fn reference(r: Ref, next: usize, word: u64, enters: bool) -> Leaf
 }
 
 // A reference at a place of the hot ring.
+#[inline(always)]
 fn hot_leaf(hot: &HotRing, place: usize, next: usize, word: u64) -> Option<Leaf>
     ensures { (p : List ℕ) (objects : ℕ) → Found p hot.now objects word next hot_kind place result }
 {
@@ -63,6 +64,7 @@ fn hot_leaf(hot: &HotRing, place: usize, next: usize, word: u64) -> Option<Leaf>
 
 // An object by plain index, which enters the ring. It and `root_array_leaf` share all but a test, as `back_ref` and `root_array` of readers
 // do: a closure for the test would be no shorter.
+#[inline(always)]
 fn back_leaf(p: &[u8], at: usize, objects: usize, word: u64) -> Option<Leaf>
     ensures { (hot : HotRing) (i : ℕ) → Found p.now hot objects word at backref i result }
 {
@@ -74,6 +76,7 @@ fn back_leaf(p: &[u8], at: usize, objects: usize, word: u64) -> Option<Leaf>
 }
 
 // A root by integer, which enters the ring.
+#[inline(always)]
 fn root_array_leaf(p: &[u8], at: usize, word: u64) -> Option<Leaf>
     ensures { (hot : HotRing) (objects i : ℕ) → Found p.now hot objects word at root_array i result }
 {
@@ -82,6 +85,7 @@ fn root_array_leaf(p: &[u8], at: usize, word: u64) -> Option<Leaf>
 }
 
 // A read-only reference.
+#[inline(always)]
 fn read_only_leaf(p: &[u8], at: usize, word: u64) -> Option<Leaf>
     ensures { (hot : HotRing) (objects i : ℕ) → Found p.now hot objects word at read_only i result }
 {
@@ -98,6 +102,7 @@ fn read_only_leaf(p: &[u8], at: usize, word: u64) -> Option<Leaf>
 }
 
 // Fixed raw data of n words.
+#[inline(always)]
 fn raw_leaf(p: &[u8], at: usize, n: u64, word: u64) -> Option<Leaf>
     requires { n < 65536 }
     ensures { (hot : HotRing) (objects : ℕ) → Found p.now hot objects word at fixed_raw n result }
@@ -117,6 +122,7 @@ fn raw_leaf(p: &[u8], at: usize, n: u64, word: u64) -> Option<Leaf>
 }
 
 // The leaf that a head begins, after which the cursor stands.
+#[inline(always)]
 fn leaf_of(w: &Walker, head: Head, at: usize, objects: usize) -> Option<Leaf>
     ensures { Found w.now.payload.now w.now.hot objects (word_bytes w.now.sheet.now) at (kind_number head.kind) head.argument result }
 {
@@ -135,6 +141,7 @@ fn leaf_of(w: &Walker, head: Head, at: usize, objects: usize) -> Option<Leaf>
 }
 
 // What stands at a place, where there are so many objects.
+#[inline(always)]
 pub fn leaf_at(w: &Walker, at: usize, objects: usize) -> Option<Leaf>
     ensures { LeafAt w.now at objects result }
 {
@@ -142,6 +149,7 @@ pub fn leaf_at(w: &Walker, at: usize, objects: usize) -> Option<Leaf>
 }
 
 // A legacy back-reference to a space, which enters the ring. The cursor stands after its head.
+#[inline(always)]
 fn legacy_leaf(w: &Walker, s: State, at: usize, space: u64) -> Option<Leaf>
     requires addressed { Addressed w.now s.addresses }
     ensures { FoundIn w.now s at legacy_backref space result }
@@ -204,7 +212,7 @@ pub fn place_leaf(w: &mut Walker, s: State, d: usize, level: Level) -> Option<(u
     let end = start.checked_add(leaf.width)?;
     let slot = Slot {
         object: level.object as u64,
-        index: start / word_bytes(w.sheet),
+        index: words_in(w.sheet, start),
         value: Fields::from(leaf.value),
         waits: 0,
     };

@@ -1,14 +1,11 @@
 -- Objects within objects, as the loop over them keeps them. Assumes nothing: these are definitions.
-use Rattle.std.specs.Prelude.{◌≡◌, false, ℕ, ◌<◌}
-use Rattle.stream.specs.Bytes.{peek_at}
-use Rattle.sheet.specs.Tests.{is_deferred}
+use Rattle.std.specs.Prelude.{ℕ, ◌<◌}
 use Rattle.readers.specs.declared.walker.Walker.{Walker}
 use Rattle.objects.specs.declared.head.NewObject.{NewObject}
 use Rattle.objects.specs.Head.{NewAt}
 
--- the byte at the cursor is the head of this new object and ends no object early; depth and room are left
+-- the byte at the cursor is the head of this new object; depth and room are left
 pub record Begins (w : Walker) (at d kept : ℕ) (new : NewObject) : Type 0 where
   pub head : NewAt w at new
-  pub not_deferred : is_deferred w.sheet.now (peek_at w.payload.now at) ≡ false
   pub deep : d < 64
   pub roomy : kept < 8

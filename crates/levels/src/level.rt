@@ -15,10 +15,7 @@ use objects::head::{NewObject, new_object_at};
 use objects::item::{Level, push_slot};
 use readers::state::{Answer, State};
 use readers::walker::{DEEPEST, Walker};
-use sheet::names::K_DEFERRED;
-use sheet::numbers::word_bytes;
-use sheet::tests::is_tag;
-use stream::bytes::peek;
+use sheet::numbers::{word_bytes, words_in};
 use tables::values::{Fields, Ref, SlotValue};
 
 // How many objects around the current one are kept.
@@ -28,14 +25,14 @@ pub const LEVELS: usize = 8;
 pub fn begins_object(w: &Walker, at: usize, d: usize, kept: usize) -> Option<NewObject>
     ensures { IfSome result (Begins w.now at d kept) }
 {
-    if DEEPEST <= d || LEVELS <= kept || is_tag(w.sheet, K_DEFERRED, peek(w.payload, at)) {
+    if DEEPEST <= d || LEVELS <= kept {
         return None;
     }
     new_object_at(w, at)
 }
 
 // An object that is full, as an item of the one around it: the bytes of that which have been read then. `place_item` of `objects` does the
-// same of any value, but asks that no sum overflows and that the word is not 0; this never asked, hence `wrapping_add` and `max`.
+// same of any value, but asks that no sum overflows; this never asked, hence `wrapping_add`.
 pub fn put_object(w: &mut Walker, s: State, outer: Level, child: usize) -> Answer<u64>
     requires { Countable w.old.objects.now outer.object }
     ensures is { (x : Input) → word_of x ≡ word_bytes w.old.sheet.now → 0 < word_of x → outer.done + s.skip + word_of x < 2 ^ 64 → seen result (lent_of w.new) ≡ place_item x outer.object outer.done (IsRef (Object child)) (mem s (lent_of w.old)) }
@@ -44,7 +41,7 @@ pub fn put_object(w: &mut Walker, s: State, outer: Level, child: usize) -> Answe
     let word = word_bytes(w.sheet);
     let start = outer.done.wrapping_add(s.skip);
     let value = SlotValue::Ref(Ref::Object(child as u64));
-    let index = start / word.max(1);
+    let index = words_in(w.sheet, start);
     let (_, t) = push_slot(w, s, outer.object as u64, index, Fields::from(value), false)?;
     Ok((start.wrapping_add(word), State { skip: 0, ..t }))
 }

@@ -99,7 +99,7 @@ module _ (x : Input) (v : ℕ) (m m' : Mem) where
 -- ---- the resolves after a map
 
 module _ (x : Input) (o : ℕ) (m : Mem) where
-  resolves_stop : (n : ℕ) → is_resolve x.sheet (peek x m) ≡ false → got tt m ≡ resolves x o n m
+  pub resolves_stop : (n : ℕ) → is_resolve x.sheet (peek x m) ≡ false → got tt m ≡ resolves x o n m
   unfolding resolves
   resolves_stop zero e = refl
   resolves_stop (suc n) e = rw e

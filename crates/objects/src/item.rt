@@ -15,7 +15,7 @@ use readers::prefix::push_value;
 use readers::state::{Answer, State};
 use readers::walker::Walker;
 use refusals::refusal::Refusal;
-use sheet::numbers::word_bytes;
+use sheet::numbers::{word_bytes, words_in};
 use tables::records::{Slot, append_slot, slot_at};
 use tables::values::{Fields, SlotValue, width};
 
@@ -79,6 +79,7 @@ fn keep_previous(w: &mut Walker, s: State) -> Answer<u64>
 
 // An item that becomes a slot, after the with-skip amount that stands: the bytes read then.
 #[tactic(auto, unfolding(definition::specs::Slots::keep_item))]
+#[inline(always)]
 fn keep_item(w: &mut Walker, s: State, level: Level, v: SlotValue) -> Answer<u64>
     requires fits { ItemFits w.old s level v }
     requires indexed { Indexed w.old.slots.now s.slots w.old.pending.now }
@@ -90,7 +91,8 @@ fn keep_item(w: &mut Walker, s: State, level: Level, v: SlotValue) -> Answer<u64
     let start = level.done + s.skip;
     let end = start + width(v, word);
     let o = level.object as u64;
-    let (k, t) = push_slot(w, s, o, start / word, Fields::from(v), waits_of(v))?;
+    let index = words_in(w.sheet, start);
+    let (k, t) = push_slot(w, s, o, index, Fields::from(v), waits_of(v))?;
     if let SlotValue::PendingRef(number) = v {
         note(w.pending, number, k as u64 + 1);
     }

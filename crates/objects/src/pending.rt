@@ -92,6 +92,7 @@ fn with_waiting(s: State, waiting: u64) -> State
 }
 
 // A resolve of a number, after the map of object o.
+#[inline(always)]
 fn resolve(w: &mut Walker, s: State, number: u64, o: u64) -> State
     requires { Waiting w.old s }
     ensures is { mem result (lent_of w.new) ≡ resolved number o (mem s (lent_of w.old)) }
@@ -106,6 +107,7 @@ fn resolve(w: &mut Walker, s: State, number: u64, o: u64) -> State
 }
 
 // Resolves as long as they stand at the cursor: the step is what was read, so that a `for` would be no plainer.
+#[inline(always)]
 pub fn resolves(w: &mut Walker, s: State, o: u64) -> Answer<()>
     requires usable { (usable w.old.sheet.now ≡ true) × (s.at ≤ length w.old.payload.now) }
     requires waits { Waiting w.old s }

@@ -92,6 +92,7 @@ pub fn push_value(w: &mut Walker, s: State, f: Fields) -> Answer<u64>
 
 // The value that a reference held: as it is, or as a value record.
 #[tactic(auto, using(crate::proofs::ViewLaws::then_no, crate::proofs::ViewLaws::then_got))]
+#[inline(always)]
 pub fn hold(w: &mut Walker, s: State, held: Held, v: SlotValue) -> Answer<SlotValue>
     ensures holds { seen result (lent_of w.new) ≡ heldAs held v (mem s (lent_of w.old)) }
     ensures kept { Kept w.old w.new }

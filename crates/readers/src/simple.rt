@@ -61,6 +61,7 @@ fn hot_ref(w: &Walker, s: State, place: usize) -> Answer<SlotValue>
 }
 
 // The back-reference to a space that stands at a place.
+#[inline(always)]
 pub fn find_backref(w: &Walker, s: State, space: u64, at: usize) -> Result<Backref, BackrefError>
     requires { Addressed w.now s.addresses }
     ensures { result ≡ backref_of w.now.sheet.now w.now.payload.now w.now.addresses.now s.addresses s.alignment space at }

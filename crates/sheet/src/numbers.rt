@@ -1,7 +1,7 @@
 // The numbers of a version sheet, with the defaults of those that are absent, and what they make the sheet. A sheet is a slice, as C lends
 // it, and a parameter of its own: a struct around it would say nothing of it that its clauses do not, and the definitions would name its
 // field at each place. A number is a u64 below 65536, since all that is made of it has 64 bits.
-ghost use Rattle.std.specs.Prelude.{◌≡◌, ◌<◌, IfSome};
+ghost use Rattle.std.specs.Prelude.{◌≡◌, ◌/◌, ◌<◌, IfSome};
 ghost use Rattle.sheet.specs.Sheet as Sheet;
 
 use crate::names::{
@@ -82,6 +82,17 @@ pub fn word_bytes(sheet: &[u16]) -> u64
     ensures { (result ≡ Sheet.word_bytes sheet.now) × (result < 65536) }
 {
     number(sheet, TAGGED_SIZE)
+}
+
+// How many whole words so many bytes are. Division by a constant takes less time than by a number that is not known.
+pub fn words_in(sheet: &[u16], bytes: u64) -> u64
+    ensures { result ≡ bytes / Sheet.word_bytes sheet.now }
+{
+    match word_bytes(sheet) {
+        4 => bytes / 4,
+        8 => bytes / 8,
+        word => bytes.checked_div(word).unwrap_or(0),
+    }
 }
 
 // Whether variable raw data moves on in its object.

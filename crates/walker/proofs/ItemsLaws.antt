@@ -14,7 +14,7 @@ use Rattle.sheet.specs.Sheet.{number}
 use Rattle.sheet.specs.Tests.{is_deferred}
 use Rattle.tables.specs.declared.values.SlotValue.{SlotValue}
 use Rattle.tables.specs.Values.{width_of}
-use Rattle.definition.specs.Memory.{Input, word, Mem, Out, got, no, Reader, and_then, moved, byte}
+use Rattle.definition.specs.Memory.{Input, word, Mem, Out, got, no, Reader, and_then, ◌>>◌, choose, give, moved, byte}
 use Rattle.definition.specs.Slots.{place_item}
 use Rattle.definition.specs.Object.{peek, items, closed}
 use Rattle.definition.specs.Reference.{ref_at}
@@ -30,7 +30,6 @@ use Rattle.heads.specs.declared.heads.Head.{Head}
 use Rattle.readers.proofs.ViewLaws.{then_no}
 use Rattle.objects.specs.declared.item.Level.{Level}
 use Rattle.leaves.specs.Leaf.{slot_in}
-use Rattle.walker.specs.Ready.{item_in}
 use Rattle.walker.proofs.ScratchLaws.{Scratch, InOrder}
 use Rattle.walker.proofs.GroundLaws.{ground_ascends, place_item_ground}
 use Rattle.walker.proofs.ReadyLaws.{Went, went, Free, None, moved_kept, order_ref}
@@ -47,12 +46,8 @@ through (got a m) f e = record { value = a; between = m; first = refl; second = 
 through (no n q m) f e = absurd (let z : ◌≡◌ {A = ℕ} 0 1 = cc in omega arith)
 
 -- the code's test of the byte at the cursor
-module _ (v p : List ℕ) (at : ℕ) {b : ℕ} {t : Bool} (eb : b ≡ peek_at p at) (et : t ≡ eqb (number v k_deferred) b) where
-  pub deferred_is : t ≡ true → is_deferred v (peek_at p at) ≡ true
-  deferred_is e = rw (← eb) (sym et ∙ e)
-
-  pub deferred_not : t ≡ false → is_deferred v (peek_at p at) ≡ false
-  deferred_not e = rw (← eb) (sym et ∙ e)
+pub tag_is : (k : ℕ) (v p : List ℕ) (at : ℕ) {b : ℕ} {t : Bool} → b ≡ peek_at p at → t ≡ eqb (number v k) b → eqb (number v k) (peek_at p at) ≡ t
+tag_is k v p at eb et = rw (← eb) (sym et)
 
 -- ---- an item
 
@@ -75,6 +70,10 @@ WentOut x m P (got d m') = Went x m P None d m'
 WentOut x m P (no n q m') = Unit {0}
 
 -- ---- one item, and the rest
+
+-- an item: a reference, or kDeferred, which ends the object early
+abbrev pub item_in : Input → Reader SlotValue → ℕ → ℕ → ℕ → Reader ℕ
+item_in x r o size done m = choose (is_deferred x.sheet (peek x m)) (byte x >> give size) (slot_in x r o done) m
 
 -- the definition's items, of which so many bytes are left in the payload
 abbrev items_from : Input → Reader SlotValue → ℕ → ℕ → ℕ → Reader ℕ

@@ -1,12 +1,11 @@
 -- What holds at the start of each of the readers that call each other, and the parts of an object that they read. Assumes nothing: these
 -- are definitions.
-use Rattle.std.specs.Prelude.{ℕ, ◌-◌, ◌*◌, ◌^◌, ◌<◌, length}
-use Rattle.sheet.specs.Tests.{is_deferred}
+use Rattle.std.specs.Prelude.{ℕ, ◌+◌, ◌-◌, ◌*◌, ◌^◌, ◌<◌, ◌≤◌, length}
 use Rattle.heads.specs.Heads.{Heads}
 use Rattle.tables.specs.declared.values.SlotValue.{SlotValue}
 use Rattle.address_index.specs.Links.{Linked}
-use Rattle.definition.specs.Memory.{Input, word, table, Reader, ◌>>=◌, ◌>>◌, choose, give, byte}
-use Rattle.definition.specs.Object.{peek, read_map, keep_map, resolves}
+use Rattle.definition.specs.Memory.{Input, word, table, Reader, ◌>>=◌, ◌>>◌, give}
+use Rattle.definition.specs.Object.{read_map, keep_map, resolves, items, closed}
 use Rattle.laws.specs.Sound.{Proper, Sound, Counted}
 use Rattle.laws.specs.Numbered.{Numbered}
 use Rattle.laws.specs.Addresses.{Ascending}
@@ -17,7 +16,6 @@ use Rattle.readers.specs.Lent.{input_of, lent_of, Fixed}
 use Rattle.objects.specs.declared.item.Level.{Level}
 use Rattle.objects.specs.Head.{opening}
 use Rattle.objects.specs.Index.{Indexed, IndexedAfter, LinkedAfter}
-use Rattle.leaves.specs.Leaf.{slot_in}
 
 -- the input is one that the walk takes, the heads are the sheet's, what the reader has is in order, and so is scratch
 pub record Ready (w : Walker) (s : State) : Type 0 where
@@ -48,9 +46,14 @@ headed x r space tag m =
     >>= (λ words. mapped x r space (words * word x) m.objects.count >> give (record { object = m.objects.count; size = words * word x; done = word x; tag = tag })))
     m
 
--- the same as a reference, where kDeferred may end the object early
-abbrev pub item_in : Input → Reader SlotValue → ℕ → ℕ → ℕ → Reader ℕ
-item_in x r o size done m = choose (is_deferred x.sheet (peek x m)) (byte x >> give size) (slot_in x r o done) m
+-- the items of an object whose head has been read: the object
+abbrev pub items_of : Input → Reader SlotValue → Level → Reader SlotValue
+items_of x r l m =
+    (items x r l.object l.size (length x.payload - m.at + 1) l.done >>= closed l.object l.tag l.size) m
+
+-- what holds of an object after its head: it has its record and a slot, and no more than its map has been read
+abbrev pub Opened : Level → State → Type 0
+Opened l s = (l.object < s.objects) × (0 < s.slots) × (l.size < 2 ^ 33) × (l.done ≤ 8)
 
 -- what holds of an object when an item of it is read: it has its record and a slot
 abbrev pub InItem : Level → State → Type 0

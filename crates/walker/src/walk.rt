@@ -7,7 +7,7 @@ ghost use Rattle.definition.specs.Reference.{ref_at};
 ghost use Rattle.readers.specs.Views.{mem, seen};
 ghost use Rattle.readers.specs.Lent.{input_of, lent_of};
 ghost use Rattle.leaves.specs.Leaf.{slot_in};
-ghost use Rattle.walker.specs.Ready.{Ready, After, InItem, mapped, headed, item_in};
+ghost use Rattle.walker.specs.Ready.{Ready, After, InItem, mapped, headed, items_of, Opened};
 
 use arrayvec::ArrayVec;
 use leaves::leaf::{place_leaf, take_leaf};
@@ -22,7 +22,7 @@ use readers::simple::simple_ref;
 use readers::state::{Answer, State};
 use readers::walker::{DEEPEST, Walker};
 use refusals::refusal::Refusal;
-use sheet::names::K_DEFERRED;
+use sheet::names::{K_DEFERRED, K_RESOLVE_PENDING_FORWARD_REF};
 use sheet::numbers::word_bytes;
 use sheet::tests::is_tag;
 use stream::bytes::peek;
@@ -73,9 +73,9 @@ fn parse_inner(w: &mut Walker, s: State, d: usize) -> Answer<SlotValue>
     parse_ref(w, s, d + 1)
 }
 
-// A new object at depth d, after whose head the cursor stands. Objects within it are read in the same loop, as many levels down as `outer`
-// has room for: it has the objects around the current one, the outermost first. What a turn does is read off the level and the head at the
-// cursor, and its step is what was read, so that neither an enum of states nor an iterator would be plainer.
+// A new object at depth d, after whose head the cursor stands. A state that is handed to a function which stays a call is copied for it, and
+// what it answers is taken apart: else the state would stand in memory where no such call is made, too (as in the next ones).
+#[inline(always)]
 #[cycle(walk)]
 pub fn parse_object(w: &mut Walker, s: State, d: usize, new: NewObject) -> Answer<SlotValue>
     requires ready { Ready w.old s }
@@ -83,7 +83,26 @@ pub fn parse_object(w: &mut Walker, s: State, d: usize, new: NewObject) -> Answe
     ensures is { seen result (lent_of w.new) ≡ object (input_of w.old) (ref_at (input_of w.old) (64 - d)) new.space new.tag (mem s (lent_of w.old)) }
     ensures after { After w.old result w.new }
 {
-    let (mut level, mut t) = parse_head(w, s, d, new)?;
+    let (level, t) = parse_head(w, s, d, new)?;
+    if level.done == level.size {
+        return Ok((SlotValue::Ref(Ref::Object(level.object as u64)), t));
+    }
+    let (u, whole) = (t, level);
+    let (object, y) = parse_items(w, u, d, whole)?;
+    Ok((object, y))
+}
+
+// The items of an object at depth d whose head has been read: the object then. Objects within it are read in the same loop, as many levels
+// down as `outer` has room for: it has the objects around the current one, the outermost first. What a turn does is read off the level and
+// the head at the cursor, and its step is what was read, so that neither an enum of states nor an iterator would be plainer.
+#[cycle(walk)]
+fn parse_items(w: &mut Walker, s: State, d: usize, whole: Level) -> Answer<SlotValue>
+    requires ready { Ready w.old s }
+    requires opened { (d ≤ 64) × Opened whole s }
+    ensures is { seen result (lent_of w.new) ≡ items_of (input_of w.old) (ref_at (input_of w.old) (64 - d)) whole (mem s (lent_of w.old)) }
+    ensures after { After w.old result w.new }
+{
+    let (mut level, mut t) = (whole, s);
     let mut outer: ArrayVec<Level, LEVELS> = ArrayVec::new();
     loop {
         let e = d + outer.len();
@@ -98,6 +117,9 @@ pub fn parse_object(w: &mut Walker, s: State, d: usize, new: NewObject) -> Answe
             let (done, y) = put_object(w, t, around, o)?;
             level = Level { done, ..around };
             t = y;
+        } else if is_tag(w.sheet, K_DEFERRED, peek(w.payload, t.at)) {
+            level.done = level.size;
+            t = State { at: t.at + 1, ..t };
         } else if let Some(child) = begins_object(w, t.at, e, outer.len()) {
             outer.push(level);
             let u = State { at: t.at + 1, ..t };
@@ -111,7 +133,7 @@ pub fn parse_object(w: &mut Walker, s: State, d: usize, new: NewObject) -> Answe
 }
 
 // The head of a new object at depth d, its map and its resolves: the object then. Where the map is one of the commonest references, this
-// needs no call of the cycle.
+// needs no call of the cycle, and where no resolve follows it, none of `resolves`.
 #[inline(always)]
 #[cycle(walk)]
 fn parse_head(w: &mut Walker, s: State, d: usize, new: NewObject) -> Answer<Level>
@@ -121,20 +143,47 @@ fn parse_head(w: &mut Walker, s: State, d: usize, new: NewObject) -> Answer<Leve
     ensures after { After w.old result w.new }
     ensures small { IfOk result (λ r. r.0.size < 2 ^ 33) }
 {
+    if let Some((bytes, t)) = open_leaf(w, s, d, new) {
+        let level = Level {
+            object: s.objects,
+            size: bytes,
+            done: word_bytes(w.sheet),
+            tag: new.tag,
+        };
+        if !is_tag(
+            w.sheet,
+            K_RESOLVE_PENDING_FORWARD_REF,
+            peek(w.payload, t.at),
+        ) {
+            return Ok((level, t));
+        }
+        let y = t;
+        let ((), u) = resolves(w, y, level.object as u64)?;
+        return Ok((level, u));
+    }
+    let t = s;
+    let (level, u) = parse_long_head(w, t, d, new)?;
+    Ok((level, u))
+}
+
+// The same where the map may be any reference.
+#[cycle(walk)]
+fn parse_long_head(w: &mut Walker, s: State, d: usize, new: NewObject) -> Answer<Level>
+    requires ready { Ready w.old s }
+    requires depth { (d ≤ 64) × (new.space < 256) }
+    ensures is { seen result (lent_of w.new) ≡ headed (input_of w.old) (ref_at (input_of w.old) (64 - d)) new.space new.tag (mem s (lent_of w.old)) }
+    ensures after { After w.old result w.new }
+    ensures small { IfOk result (λ r. r.0.size < 2 ^ 33) }
+{
     let word = word_bytes(w.sheet);
-    let mut level = Level {
-        object: s.objects,
-        size: 0,
+    let object = s.objects;
+    let (words, t) = open_object(w, s, new)?;
+    let level = Level {
+        object,
+        size: words * word,
         done: word,
         tag: new.tag,
     };
-    if let Some((bytes, t)) = open_leaf(w, s, d, new) {
-        level.size = bytes;
-        let ((), u) = resolves(w, t, level.object as u64)?;
-        return Ok((level, u));
-    }
-    let (words, t) = open_object(w, s, new)?;
-    level.size = words * word;
     let ((), u) = parse_map(w, t, d, new, level)?;
     Ok((level, u))
 }
@@ -159,17 +208,15 @@ fn parse_map(w: &mut Walker, s: State, d: usize, new: NewObject, level: Level) -
 fn parse_item(w: &mut Walker, s: State, d: usize, level: Level) -> Answer<u64>
     requires ready { Ready w.old s }
     requires item { (d ≤ 64) × InItem level s }
-    ensures is { seen result (lent_of w.new) ≡ item_in (input_of w.old) (ref_at (input_of w.old) (64 - d)) level.object level.size level.done (mem s (lent_of w.old)) }
+    ensures is { seen result (lent_of w.new) ≡ slot_in (input_of w.old) (ref_at (input_of w.old) (64 - d)) level.object level.done (mem s (lent_of w.old)) }
     ensures after { After w.old result w.new }
 {
-    if is_tag(w.sheet, K_DEFERRED, peek(w.payload, s.at)) {
-        let t = State { at: s.at + 1, ..s };
-        return Ok((level.size, t));
-    }
     if let Some(read) = place_leaf(w, s, d, level) {
         return Ok(read);
     }
-    parse_slot(w, s, d, level)
+    let t = s;
+    let (done, u) = parse_slot(w, t, d, level)?;
+    Ok((done, u))
 }
 
 // An item that is a reference: the bytes read then. A weak reference to one of the commonest references needs no call of the cycle.

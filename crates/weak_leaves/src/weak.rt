@@ -13,7 +13,7 @@ use leaves::leaf::{Leaf, enter, leaf_at};
 use objects::item::Level;
 use readers::state::State;
 use readers::walker::{DEEPEST, Walker};
-use sheet::numbers::word_bytes;
+use sheet::numbers::{word_bytes, words_in};
 use tables::records::{SLOT_FIELDS, Slot, add_value, append_slot, has_room};
 use tables::values::{Fields, SlotValue};
 
@@ -50,7 +50,7 @@ pub fn place_weak(w: &mut Walker, s: State, d: usize, level: Level) -> Option<(u
     let k = s.values;
     let slot = Slot {
         object: level.object as u64,
-        index: start.checked_div(word)?,
+        index: words_in(w.sheet, start),
         value: Fields::from(SlotValue::WeakRef(k as u64)),
         waits: 0,
     };

@@ -1,7 +1,8 @@
-//! A walker written by hand for speed, as a mark of what is possible: it clears and fills the same tables by one switch over the head byte.
+//! A walker written by hand for speed, as a mark of what is possible: it fills the same tables by one switch over the head byte, and clears
+//! what lies past their records.
 //! It reads accepted payloads under plain sheets without a trusted list; what it refuses gets a number without a place, and its tables stay.
 
-use crate::library::{Call, Outcome, Tables};
+use crate::library::{Call, Outcome, Tables, FIELDS};
 use oracle::sheet::NAMES;
 
 #[derive(Clone, Copy, PartialEq)]
@@ -112,7 +113,6 @@ struct Walk<'a> {
 
 /// The refusal's number or 0, and the outcome.
 pub fn graph(call: &Call, tables: &mut Tables) -> (u64, Outcome) {
-    tables.records.iter_mut().for_each(|table| table.fill(0));
     let sheet = Sheet(&call.sheet);
     let [objects, slots, values, _] = &mut tables.records;
     let advances = call.sheet[57] != 0;
@@ -133,8 +133,12 @@ pub fn graph(call: &Call, tables: &mut Tables) -> (u64, Outcome) {
         waiting: 0,
     };
     let number = walk.whole(&sheet).err().unwrap_or(0);
-    let [objects, slots, values] = walk.counts.map(|n| n as u64);
-    (number, [objects, slots, values, 0, walk.at as u64, 0])
+    let end = walk.at as u64;
+    let [objects, slots, values] = walk.counts;
+    for ((table, fields), count) in tables.records.iter_mut().zip(FIELDS).zip([objects, slots, values, 0]) {
+        table[count * fields..].fill(0);
+    }
+    (number, [objects as u64, slots as u64, values as u64, 0, end, 0])
 }
 
 impl Walk<'_> {

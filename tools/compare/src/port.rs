@@ -30,7 +30,8 @@ extern "C" {
 pub const FIELDS: [usize; 4] = [4, 6, 3, 5];
 const LETTERS: [char; 4] = ['o', 's', 'v', 'd'];
 
-/// A call's input; the sheet may have any length. Scratch is as long as `scratch` says, and `fill` is the seed of what it holds before.
+/// A call's input; the sheet may have any length. Scratch is as long as `scratch` says, and `fill` is the seed of what it and the tables
+/// hold before.
 #[derive(Clone)]
 pub struct Call {
     pub sheet: Vec<u16>,
@@ -53,14 +54,14 @@ impl Call {
         payload.len() + 256 + numbers * records
     }
 
-    /// What scratch holds before: numbers that slots and records can have, and larger ones.
-    fn filled_scratch(&self) -> Vec<u64> {
-        let mut random = Random::new(!self.fill);
+    /// So many numbers that slots and records can have, and larger ones; others for each `part`.
+    fn filled(&self, length: usize, part: u64) -> Vec<u64> {
+        let mut random = Random::new(!self.fill ^ part);
         let mut number = || {
             let bits = random.one_of(&[2, 4, 6, 12, 32, 64]);
             random.next() >> (64 - bits)
         };
-        (0..self.scratch).map(|_| number()).collect()
+        (0..length).map(|_| number()).collect()
     }
 }
 
@@ -71,10 +72,12 @@ pub struct Graph {
     pub tables: [Vec<u64>; 4],
 }
 
-/// Calls the port with tables of these lengths, which hold other numbers before.
+/// Calls the port with tables of these lengths, which hold numbers at random before, as scratch does.
 pub fn graph(call: &Call, lengths: [usize; 4]) -> Graph {
-    let mut tables = lengths.map(|n| vec![0xabab_abab_abab_abab_u64; n]);
-    let mut scratch = call.filled_scratch();
+    let [objects, slots, values, addresses] = lengths;
+    let mut tables =
+        [call.filled(objects, 1), call.filled(slots, 2), call.filled(values, 3), call.filled(addresses, 4)];
+    let mut scratch = call.filled(call.scratch, 0);
     let mut outcome = [u64::MAX; 6];
     let [objects, slots, values, addresses] = &mut tables;
     // Each length is that of the slice whose pointer stands before it, and no two of them overlap.

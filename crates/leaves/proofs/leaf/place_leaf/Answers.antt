@@ -1,11 +1,8 @@
 use mathlib.Core.Path.{refl}
 use Rattle.readers.proofs.ViewLaws.{put_done, put_below}
 use Rattle.objects.proofs.WaiterLaws.{indexed_plain}
-use Rattle.leaves.proofs.LeafLaws.{item_read, words_low}
+use Rattle.leaves.proofs.LeafLaws.{item_read}
 use Rattle.leaves.proofs.leaf.place_leaf.Goals as goal
-
-pub nonzero_div-slot : goal.nonzero_div-slot
-nonzero_div-slot c = (words_low _ c.requires.1.usable c.word_bytes.ensures.0).0
 
 pub returns-clause-read : goal.returns-clause-read
 returns-clause-read c =
@@ -13,7 +10,7 @@ returns-clause-read c =
     let f = c.in_ok-leaf.ensures in
     let p = c.in_ok-append_slot.ensures.slot in
     let e = c.in_ok-start.ensures.1 in
-    (c.if-d-ge-DEEPEST.false, λ h inner. rw (c.in_ok-end.ensures.1, e) (item_read a.w.now a.s c.in_ok-leaf.leaf h f.there.0 f.there.1 f.found a.level.object a.level.done _ _ _ (put_below p refl) (rw (← c.word_bytes.ensures.0, ← e, ← c.from.ensures) (put_done p refl).1) c.in_ok-append_slot.ensures.count c.enter.ensures inner))
+    (c.if-d-ge-DEEPEST.false, λ h inner. rw (c.in_ok-end.ensures.1, e) (item_read a.w.now a.s c.in_ok-leaf.leaf h f.there.0 f.there.1 f.found a.level.object a.level.done _ _ _ (put_below p refl) (rw (← e, ← c.words_in.ensures, ← c.from.ensures) (put_done p refl).1) c.in_ok-append_slot.ensures.count c.enter.ensures inner))
 
 pub returns-clause-order : goal.returns-clause-order
 returns-clause-order c =

@@ -14,7 +14,7 @@ use Rattle.objects.proofs.item.keep_item.Goals.{In_ok-k}
 
 -- the slot record, in the definition's words
 pushed : (c : In_ok-k) → let a = c.args in got c.in_ok-k.k (mem c.in_ok-k.t (lent_of c.push_slot.new.w)) ≡ slot_of a.level.object ((a.level.done + a.s.skip) / word_bytes a.w.now.sheet.now) (fields_of a.v) (waits_of a.v) (mem a.s (lent_of a.w.now))
-pushed c = rw (c.word_bytes-word.ensures.0, c.from.ensures, c.waits_of.ensures) at c.in_ok-k.ensures.is
+pushed c = rw (c.words_in-index.ensures, c.from.ensures, c.waits_of.ensures) at c.in_ok-k.ensures.is
 
 pub overflow_add-k : goal.overflow_add-k
 overflow_add-k c = omega (arith, kept_room _ _ _ _ (pushed (goal.at.overflow_add-k c).In_ok-k), c.well_formed)

@@ -1,17 +1,19 @@
--- The goals of the seven readers that the search leaves, each by its laws in proofs/.
+-- The goals of the nine readers that the search leaves, each by its laws in proofs/.
 use Rattle.std.proofs.Common.{◌-◌, length, refl, ap, ◌∙◌, arith}
 use Rattle.std.proofs.lemmas.Bool.{false≢true}
 use native.Mathlib.Nat.{mul-mod_left}
+use Rattle.sheet.specs.Names.{k_deferred, k_resolve_pending_forward_ref}
 use Rattle.definition.specs.Reference.{ref_at}
 use Rattle.readers.specs.Views.{Lent, mem}
 use Rattle.readers.specs.Lent.{input_of, lent_of, HeadAt}
 use Rattle.objects.proofs.HeadLaws.{bytes_small}
-use Rattle.objects.proofs.AnswerLaws.{passed_on}
-use Rattle.walker.proofs.ScratchLaws.{order_of, after_on}
+use Rattle.objects.proofs.AnswerLaws.{fixed_refl, passed_on}
+use Rattle.objects.proofs.ResolveLaws.{resolves_stop}
+use Rattle.walker.proofs.ScratchLaws.{after_on}
 use Rattle.walker.proofs.ReadyLaws.{moved_ready, value_ready}
-use Rattle.walker.proofs.ItemsLaws.{deferred_is, deferred_not, deferred_inside, item_deferred, item_slot}
+use Rattle.walker.proofs.ItemsLaws.{tag_is}
 use Rattle.walker.proofs.ReferenceLaws.{ref_deep, ref_cut, new_at, ref_object, space_low, other_simple, other_asks, inner_starts, ref_refused, ref_simple, ref_root, ref_inner_no, head_read, ref_inner_got, read_as}
-use Rattle.walker.proofs.NestLaws.{opens_first, opens_no, opens_on, nest_over, nest_whole, nest_no, nest_item, nest_begins, nest_roomless, nest_ends}
+use Rattle.walker.proofs.NestLaws.{object_headless, object_whole, object_opened, object_items, nest_first, opens_no, opens_on, nest_over, nest_whole, nest_deferred, nest_slot_no, nest_slot, nest_begins, nest_roomless, nest_ends}
 use Rattle.walker.proofs.LeafLaws.{one_level, leaf_slot, weak_slot, ready_still, leaf_after}
 use Rattle.walker.proofs.MapLaws.{record_ready, mapped_no, followed_no, map_asks, kept_no, resolves_ready, map_ended, put_asks, item_put, leaf_opened, leaf_no, leaf_on, leaf_ended}
 use Rattle.walker.proofs.walk.+walk.Goals as goal
@@ -38,11 +40,30 @@ parse_head-returns-in_err-u-clause-is t c =
     let r = c.in-Some.ensures in
     passed_on _ _ _ c.from_residual.ensures.1 ∙ leaf_no c.requires.ready a.d a.new c.requires.depth.1 r.read r.rest c.in_err-u.ensures.is
 
+pub parse_head-returns-then-not-is_tag-clause-is : goal.parse_head-returns-then-not-is_tag-clause-is
+parse_head-returns-then-not-is_tag-clause-is t c =
+    let a = c.args in
+    let w = c.open_leaf.new.w in
+    let u = c.in-Some.t in
+    let r = c.in-Some.ensures in
+    let e = tag_is k_resolve_pending_forward_ref w.sheet.now w.payload.now u.at c.peek.ensures c.is_tag.ensures ∙ c.if-not-is_tag.true in
+    leaf_on c.requires.ready a.d a.new c.requires.depth.1 r.read r.rest (resolves_stop (input_of w) a.s.objects (mem u (lent_of w)) (length w.payload.now - u.at) e) (rw (r.rest.0.sheet) at c.word_bytes.ensures.0)
+
+pub parse_head-returns-then-not-is_tag-clause-after : goal.parse_head-returns-then-not-is_tag-clause-after
+parse_head-returns-then-not-is_tag-clause-after t c =
+    let a = c.args in
+    let w = c.open_leaf.new.w in
+    let u = c.in-Some.t in
+    let r = c.in-Some.ensures in
+    let e = tag_is k_resolve_pending_forward_ref w.sheet.now w.payload.now u.at c.peek.ensures c.is_tag.ensures ∙ c.if-not-is_tag.true in
+    let i = r.indexed c.requires.ready.indexed in
+    leaf_ended c.requires.ready a.d a.new c.requires.depth.1 r.read r.rest i r.linked (resolves_stop (input_of w) a.s.objects (mem u (lent_of w)) (length w.payload.now - u.at) e) i (fixed_refl w, (refl, refl))
+
 pub parse_head-returns-in-Some-clause-is : goal.parse_head-returns-in-Some-clause-is
 parse_head-returns-in-Some-clause-is t c =
     let a = c.args in
     let r = c.in-Some.ensures in
-    leaf_on c.requires.ready a.d a.new c.requires.depth.1 r.read r.rest c.in_ok-u.ensures.is c.word_bytes-word.ensures.0
+    leaf_on c.requires.ready a.d a.new c.requires.depth.1 r.read r.rest c.in_ok-u.ensures.is (rw (r.rest.0.sheet) at c.word_bytes.ensures.0)
 
 pub parse_head-returns-in-Some-clause-after : goal.parse_head-returns-in-Some-clause-after
 parse_head-returns-in-Some-clause-after t c =
@@ -51,18 +72,23 @@ parse_head-returns-in-Some-clause-after t c =
     let q = c.in_ok-u.ensures in
     leaf_ended c.requires.ready a.d a.new c.requires.depth.1 r.read r.rest (r.indexed c.requires.ready.indexed) r.linked q.is q.index q.kept
 
-pub parse_head-parse_map-requires : goal.parse_head-parse_map-requires
-parse_head-parse_map-requires t c =
-    let a = c.args in
+pub parse_head-parse_long_head-requires : goal.parse_head-parse_long_head-requires
+parse_head-parse_long_head-requires t c =
     let n = c.open_leaf.ensures in
     let s = c.in_default.ensures.none refl in
-    let g = ready_still (n.rest.0, (n.rest.1, s.1)) s.0 c.requires.ready in
-    let q = c.in_ok-words.ensures in
-    let z = record_ready g a.new.space a.new.tag q.kept q.is in
-    (omega arith, (z.0, (c.requires.depth.0, c.requires.depth.1, bytes_small _ c.requires.ready.proper.sheet_usable c.word_bytes-word.ensures.0 q.small, z.1, rw (q.kept.0.sheet, n.rest.0.sheet, c.word_bytes-word.ensures.0) (mul-mod_left _ _))))
+    (omega arith, (ready_still (n.rest.0, (n.rest.1, s.1)) s.0 c.requires.ready, c.requires.depth))
 
-pub parse_head-returns-clause-small : goal.parse_head-returns-clause-small
-parse_head-returns-clause-small t c = bytes_small _ c.requires.ready.proper.sheet_usable c.word_bytes-word.ensures.0 c.in_ok-words.ensures.small
+-- ---- parse_long_head
+
+pub parse_long_head-parse_map-requires : goal.parse_long_head-parse_map-requires
+parse_long_head-parse_map-requires t c =
+    let a = c.args in
+    let q = c.in_ok-words.ensures in
+    let z = record_ready c.requires.ready a.new.space a.new.tag q.kept q.is in
+    (omega arith, (z.0, (c.requires.depth.0, c.requires.depth.1, bytes_small _ c.requires.ready.proper.sheet_usable c.word_bytes-word.ensures.0 q.small, z.1, rw (q.kept.0.sheet, c.word_bytes-word.ensures.0) (mul-mod_left _ _))))
+
+pub parse_long_head-returns-clause-small : goal.parse_long_head-returns-clause-small
+parse_long_head-returns-clause-small t c = bytes_small _ c.requires.ready.proper.sheet_usable c.word_bytes-word.ensures.0 c.in_ok-words.ensures.small
 
 -- ---- parse_inner
 
@@ -77,20 +103,12 @@ parse_inner-returns-in-Some-clause-after t c = let r = c.in-Some.ensures in leaf
 
 -- ---- parse_item
 
-pub parse_item-returns-then-is_tag-clause-is : goal.parse_item-returns-then-is_tag-clause-is
-parse_item-returns-then-is_tag-clause-is t c =
-    let a = c.args in
-    let x = input_of a.w.now in
-    let e = deferred_is a.w.now.sheet.now a.w.now.payload.now a.s.at c.peek.ensures c.is_tag.ensures c.if-is_tag.true in
-    item_deferred x (ref_at x (64 - a.d)) a.level.object a.level.size a.level.done (mem a.s (lent_of a.w.now)) e (deferred_inside (order_of c.requires.ready) e)
-
 pub parse_item-returns-in-Some-clause-is : goal.parse_item-returns-in-Some-clause-is
 parse_item-returns-in-Some-clause-is t c =
     let a = c.args in
     let x = input_of a.w.now in
     let r = c.in-Some.ensures in
-    let n = deferred_not a.w.now.sheet.now a.w.now.payload.now a.s.at c.peek.ensures c.is_tag.ensures c.if-is_tag.false in
-    item_slot x (ref_at x (64 - a.d)) a.level.object a.level.size a.level.done (mem a.s (lent_of a.w.now)) n (r.read.1 c.requires.ready.decoded (ref_at x (63 - a.d)) ∙ leaf_slot x a.d (mem a.s (lent_of a.w.now)) a.level r.read.0)
+    r.read.1 c.requires.ready.decoded (ref_at x (63 - a.d)) ∙ leaf_slot x a.d (mem a.s (lent_of a.w.now)) a.level r.read.0
 
 -- ---- parse_map
 
@@ -164,91 +182,134 @@ parse_map-returns t c =
 
 pub parse_object-returns-in_err-level-clause-is : goal.parse_object-returns-in_err-level-clause-is
 parse_object-returns-in_err-level-clause-is t c =
-    let a = c.args in
-    passed_on _ _ _ c.from_residual.ensures.1 ∙ opens_no (opens_first a.d a.new c.requires.ready (omega arith) c.requires.depth.0 c.requires.depth.1) (omega arith) c.in_err-level.ensures.is
+    passed_on _ _ _ c.from_residual.ensures.1 ∙ object_headless c.args.d c.args.new c.requires.ready c.requires.depth c.in_err-level.ensures.is
 
-pub parse_object-loop-level-init : goal.parse_object-loop-level-init
-parse_object-loop-level-init t c =
-    let a = c.args in
+pub parse_object-returns-then-level-clause-is : goal.parse_object-returns-then-level-clause-is
+parse_object-returns-then-level-clause-is t c =
     let r = c.in_ok-level.ensures in
-    (opens_on (opens_first a.d a.new c.requires.ready (omega arith) c.requires.depth.0 c.requires.depth.1) (omega arith) c.new-outer.ensures r.is r.small r.after).0
+    object_whole c.args.d c.args.new c.requires.ready c.requires.depth r.is r.small r.after c.if-level.true
+
+pub parse_object-parse_items-requires : goal.parse_object-parse_items-requires
+parse_object-parse_items-requires t c =
+    let r = c.in_ok-level.ensures in
+    let z = object_opened c.args.d c.args.new c.requires.ready c.requires.depth r.is r.small r.after in
+    (omega arith, (z.0, (c.requires.depth.0, z.1)))
+
+pub parse_object-returns-in_err-object-clause-is : goal.parse_object-returns-in_err-object-clause-is
+parse_object-returns-in_err-object-clause-is t c =
+    let r = c.in_ok-level.ensures in
+    passed_on _ _ _ c.from_residual-in_err-object.ensures.1 ∙ object_items c.args.d c.args.new c.requires.ready c.requires.depth r.is r.small r.after c.in_err-object.ensures.is
+
+pub parse_object-returns-clause-is : goal.parse_object-returns-clause-is
+parse_object-returns-clause-is t c =
+    let r = c.in_ok-level.ensures in
+    object_items c.args.d c.args.new c.requires.ready c.requires.depth r.is r.small r.after c.in_ok-object.ensures.is
+
+pub parse_object-returns-clause-after : goal.parse_object-returns-clause-after
+parse_object-returns-clause-after t c = after_on c.in_ok-level.ensures.after.fixed c.in_ok-object.ensures.after
+
+-- ---- parse_items
+
+pub parse_items-loop-level-init : goal.parse_items-loop-level-init
+parse_items-loop-level-init t c =
+    let a = c.args in
+    rw c.new-outer.ensures (nest_first a.d a.whole c.requires.ready (omega arith) c.requires.opened.0 c.requires.opened.1)
 
 -- an object that is full
 
-pub parse_object-returns-then-level-2-clause-is : goal.parse_object-returns-then-level-2-clause-is
-parse_object-returns-then-level-2-clause-is t c =
+pub parse_items-returns-then-level-2-clause-is : goal.parse_items-returns-then-level-2-clause-is
+parse_items-returns-then-level-2-clause-is t c =
     rw c.refused_at.ensures (nest_over c.loop-level.invariant c.if-level.true c.if-level-2.true)
 
-pub parse_object-returns-in_default-clause-is : goal.parse_object-returns-in_default-clause-is
-parse_object-returns-in_default-clause-is t c =
+pub parse_items-returns-in_default-clause-is : goal.parse_items-returns-in_default-clause-is
+parse_items-returns-in_default-clause-is t c =
     nest_whole c.loop-level.invariant c.if-level-2.false (λ b. false≢true (c.in_default.ensures.variant.1 b))
 
-pub parse_object-put_object-requires : goal.parse_object-put_object-requires
-parse_object-put_object-requires t c =
+pub parse_items-put_object-requires : goal.parse_items-put_object-requires
+parse_items-put_object-requires t c =
     let g = c.loop-level.invariant.inside.ready in
     omega (arith, c.loop-level.invariant.inside.few, g.counted.count_low c.in-Some.around.object, g.sound.slots_fit)
 
-pub parse_object-returns-in_err-done-clause-is : goal.parse_object-returns-in_err-done-clause-is
-parse_object-returns-in_err-done-clause-is t c =
-    passed_on _ _ _ c.from_residual-in_err-done.ensures.1
+pub parse_items-returns-in_err-done-clause-is : goal.parse_items-returns-in_err-done-clause-is
+parse_items-returns-in_err-done-clause-is t c =
+    passed_on _ _ _ c.from_residual.ensures.1
     ∙ nest_roomless c.loop-level.invariant c.if-level-2.false _ _ c.in-Some.ensures.items c.in_err-done.ensures.is
 
-pub parse_object-loop-level-smaller-then-level : goal.parse_object-loop-level-smaller-then-level
-parse_object-loop-level-smaller-then-level t c =
+pub parse_items-loop-level-smaller-then-level : goal.parse_items-loop-level-smaller-then-level
+parse_items-loop-level-smaller-then-level t c =
     let q = c.in_ok-done.ensures in
     let z = nest_ends c.loop-level.invariant c.if-level-2.false _ _ c.in-Some.ensures.items q.is q.kept in
     rw q.kept.0.payload (omega (arith, c.in-Some.ensures.len, z.1))
 
-pub parse_object-loop-level-preserved-then-level : goal.parse_object-loop-level-preserved-then-level
-parse_object-loop-level-preserved-then-level t c =
+pub parse_items-loop-level-preserved-then-level : goal.parse_items-loop-level-preserved-then-level
+parse_items-loop-level-preserved-then-level t c =
     let q = c.in_ok-done.ensures in
     (nest_ends c.loop-level.invariant c.if-level-2.false _ _ c.in-Some.ensures.items q.is q.kept).0
 
+-- kDeferred
+
+pub parse_items-loop-level-smaller-then-is_tag : goal.parse_items-loop-level-smaller-then-is_tag
+parse_items-loop-level-smaller-then-is_tag t c =
+    let z = nest_deferred c.loop-level.invariant (omega arith) (tag_is k_deferred c.loop-level.w.sheet.now c.loop-level.w.payload.now c.loop-level.t.at c.peek.ensures c.is_tag.ensures ∙ c.if-is_tag.true) in
+    let y = z.0.inside.ready.sound.within in
+    omega (arith, z.1, y)
+
+pub parse_items-loop-level-preserved-then-is_tag : goal.parse_items-loop-level-preserved-then-is_tag
+parse_items-loop-level-preserved-then-is_tag t c =
+    (nest_deferred c.loop-level.invariant (omega arith) (tag_is k_deferred c.loop-level.w.sheet.now c.loop-level.w.payload.now c.loop-level.t.at c.peek.ensures c.is_tag.ensures ∙ c.if-is_tag.true)).0
+
 -- an object that begins
 
-pub parse_object-parse_head-requires-in-Some-begins_object : goal.parse_object-parse_head-requires-in-Some-begins_object
-parse_object-parse_head-requires-in-Some-begins_object t c =
-    let o = nest_begins c.loop-level.invariant (omega arith) (omega (arith, c.len-else-level.ensures.value)) c.in-Some-begins_object.ensures in
+pub parse_items-parse_head-requires : goal.parse_items-parse_head-requires
+parse_items-parse_head-requires t c =
+    let n = tag_is k_deferred c.loop-level.w.sheet.now c.loop-level.w.payload.now c.loop-level.t.at c.peek.ensures c.is_tag.ensures ∙ c.if-is_tag.false in
+    let o = nest_begins c.loop-level.invariant (omega arith) (omega (arith, c.len.ensures.value)) n c.in-Some-begins_object.ensures in
     (omega (arith, c.in-Some-begins_object.ensures.deep), (o.inside.ready, (omega (arith, c.in-Some-begins_object.ensures.deep), o.low)))
 
-pub parse_object-returns-in_err-level-2-clause-is : goal.parse_object-returns-in_err-level-2-clause-is
-parse_object-returns-in_err-level-2-clause-is t c =
-    let o = nest_begins c.loop-level.invariant (omega arith) (omega (arith, c.len.ensures.value)) c.in-Some-begins_object.ensures in
-    passed_on _ _ _ c.from_residual-in_err-level-2.ensures.1
-    ∙ opens_no o (omega (arith, c.len.ensures.value, ap length c.push.ensures.items, c.push.ensures.len)) c.in_err-level-2.ensures.is
+pub parse_items-returns-in_err-level-clause-is : goal.parse_items-returns-in_err-level-clause-is
+parse_items-returns-in_err-level-clause-is t c =
+    let n = tag_is k_deferred c.loop-level.w.sheet.now c.loop-level.w.payload.now c.loop-level.t.at c.peek.ensures c.is_tag.ensures ∙ c.if-is_tag.false in
+    let o = nest_begins c.loop-level.invariant (omega arith) (omega (arith, c.len.ensures.value)) n c.in-Some-begins_object.ensures in
+    passed_on _ _ _ c.from_residual-in_err-level.ensures.1
+    ∙ opens_no o (omega (arith, c.len.ensures.value, ap length c.push.ensures.items, c.push.ensures.len)) c.in_err-level.ensures.is
 
-pub parse_object-loop-level-smaller-in-Some-begins_object : goal.parse_object-loop-level-smaller-in-Some-begins_object
-parse_object-loop-level-smaller-in-Some-begins_object t c =
-    let o = nest_begins c.loop-level.invariant (omega arith) (omega (arith, c.len.ensures.value)) c.in-Some-begins_object.ensures in
-    let q = c.in_ok-level-2.ensures in
+pub parse_items-loop-level-smaller-in-Some-begins_object : goal.parse_items-loop-level-smaller-in-Some-begins_object
+parse_items-loop-level-smaller-in-Some-begins_object t c =
+    let n = tag_is k_deferred c.loop-level.w.sheet.now c.loop-level.w.payload.now c.loop-level.t.at c.peek.ensures c.is_tag.ensures ∙ c.if-is_tag.false in
+    let o = nest_begins c.loop-level.invariant (omega arith) (omega (arith, c.len.ensures.value)) n c.in-Some-begins_object.ensures in
+    let q = c.in_ok-level.ensures in
     let z = opens_on o (omega (arith, c.len.ensures.value, ap length c.push.ensures.items, c.push.ensures.len)) c.push.ensures.items q.is q.small q.after in
     let y = z.0.inside.ready.sound.within in
     rw q.after.fixed.payload (omega (arith, c.push.ensures.len, z.1, rw q.after.fixed.payload at y))
 
-pub parse_object-loop-level-preserved-in-Some-begins_object : goal.parse_object-loop-level-preserved-in-Some-begins_object
-parse_object-loop-level-preserved-in-Some-begins_object t c =
-    let o = nest_begins c.loop-level.invariant (omega arith) (omega (arith, c.len.ensures.value)) c.in-Some-begins_object.ensures in
-    let q = c.in_ok-level-2.ensures in
+pub parse_items-loop-level-preserved-in-Some-begins_object : goal.parse_items-loop-level-preserved-in-Some-begins_object
+parse_items-loop-level-preserved-in-Some-begins_object t c =
+    let n = tag_is k_deferred c.loop-level.w.sheet.now c.loop-level.w.payload.now c.loop-level.t.at c.peek.ensures c.is_tag.ensures ∙ c.if-is_tag.false in
+    let o = nest_begins c.loop-level.invariant (omega arith) (omega (arith, c.len.ensures.value)) n c.in-Some-begins_object.ensures in
+    let q = c.in_ok-level.ensures in
     (opens_on o (omega (arith, c.len.ensures.value, ap length c.push.ensures.items, c.push.ensures.len)) c.push.ensures.items q.is q.small q.after).0
 
 -- another item
 
-pub parse_object-returns-in_err-done-2-clause-is : goal.parse_object-returns-in_err-done-2-clause-is
-parse_object-returns-in_err-done-2-clause-is t c =
+pub parse_items-returns-in_err-done-2-clause-is : goal.parse_items-returns-in_err-done-2-clause-is
+parse_items-returns-in_err-done-2-clause-is t c =
+    let n = tag_is k_deferred c.loop-level.w.sheet.now c.loop-level.w.payload.now c.loop-level.t.at c.peek.ensures c.is_tag.ensures ∙ c.if-is_tag.false in
     passed_on _ _ _ c.from_residual-in_err-done-2.ensures.1
-    ∙ nest_no c.loop-level.invariant (omega arith) (omega (arith, c.len.ensures.value)) c.in_err-done-2.ensures.is
+    ∙ nest_slot_no c.loop-level.invariant (omega arith) (omega (arith, c.len.ensures.value)) n c.in_err-done-2.ensures.is
 
-pub parse_object-loop-level-smaller : goal.parse_object-loop-level-smaller
-parse_object-loop-level-smaller t c =
+pub parse_items-loop-level-smaller : goal.parse_items-loop-level-smaller
+parse_items-loop-level-smaller t c =
+    let n = tag_is k_deferred c.loop-level.w.sheet.now c.loop-level.w.payload.now c.loop-level.t.at c.peek.ensures c.is_tag.ensures ∙ c.if-is_tag.false in
     let q = c.in_ok-done-2.ensures in
-    let z = nest_item c.loop-level.invariant (omega arith) (omega (arith, c.len.ensures.value)) q.is q.after in
+    let z = nest_slot c.loop-level.invariant (omega arith) (omega (arith, c.len.ensures.value)) n q.is q.after in
     let y = z.0.inside.ready.sound.within in
     rw q.after.fixed.payload (omega (arith, z.1, rw q.after.fixed.payload at y))
 
-pub parse_object-loop-level-preserved : goal.parse_object-loop-level-preserved
-parse_object-loop-level-preserved t c =
+pub parse_items-loop-level-preserved : goal.parse_items-loop-level-preserved
+parse_items-loop-level-preserved t c =
+    let n = tag_is k_deferred c.loop-level.w.sheet.now c.loop-level.w.payload.now c.loop-level.t.at c.peek.ensures c.is_tag.ensures ∙ c.if-is_tag.false in
     let q = c.in_ok-done-2.ensures in
-    (nest_item c.loop-level.invariant (omega arith) (omega (arith, c.len.ensures.value)) q.is q.after).0
+    (nest_slot c.loop-level.invariant (omega arith) (omega (arith, c.len.ensures.value)) n q.is q.after).0
 
 -- ---- parse_ref
 

@@ -12,7 +12,7 @@ returns-clause-read c =
     let q = c.in_ok-leaf.ensures in
     let e = c.in_ok-start.ensures.1 in
     let n = c.word_bytes-word.ensures.0 in
-    (q.is.deep, λ h inner. rw (c.in_ok-end.ensures.1, e, n) (weak_placed a.w.now a.s a.d c.in_ok-leaf.leaf h q.is a.level.object a.level.done (rw c.from-2.ensures at c.in_ok-add_value.ensures) c.in_ok-append_slot.ensures.slot (rw (← n, ← e) c.in_ok-checked_div.ensures.1) c.from.ensures c.in_ok-append_slot.ensures.count c.enter.ensures inner))
+    (q.is.deep, λ h inner. rw (c.in_ok-end.ensures.1, e, n) (weak_placed a.w.now a.s a.d c.in_ok-leaf.leaf h q.is a.level.object a.level.done (rw c.from-2.ensures at c.in_ok-add_value.ensures) c.in_ok-append_slot.ensures.slot (rw (← e) c.words_in.ensures) c.from.ensures c.in_ok-append_slot.ensures.count c.enter.ensures inner))
 
 pub returns-clause-order : goal.returns-clause-order
 returns-clause-order c =
