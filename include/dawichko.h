@@ -26,8 +26,10 @@ extern "C" {
  *   addresses     5: space, chunk, offset, object, placed (legacy sheets only)
  *   scratch       working memory of any length, which may hold anything afterwards too. The graph does not depend on it, the time does.
  *                 It has two parts: as many numbers as the payload has bytes, for forward references that are open; then, for legacy sheets,
- *                 256 numbers and five for each address record. With three for each a back-reference takes longer to resolve. Where it is
- *                 shorter still, what has no place in it is searched for in the tables.
+ *                 nine numbers and eight for each address record. A forward reference without a place is searched for in the slots; and all
+ *                 back-references in the addresses, once there are more of these than there is room for. The ninth number of the second
+ *                 part, scratch[payload_length + 8], is a seed: where it is random, no payload can be made whose back-references are slow to
+ *                 resolve on average. Its place depends on the payload's length. Zero does for payloads that V8 wrote.
  *
  * outcome gets the counts of objects, slots, values and addresses, the cursor at the finish, and the refusal's place. After a refusal all
  * but the place are 0, and so is every entry of the tables; else the place is 0, and so is every entry past the counts.

@@ -4,6 +4,8 @@ use crate::ffi::{self, Tables};
 use crate::graph::{Graph, ADDRESS, OBJECT, SLOT, VALUE};
 use crate::refusal::Refusal;
 use crate::sheet::Sheet;
+use std::collections::hash_map::RandomState;
+use std::hash::{BuildHasher, Hasher};
 
 /// The longest payload that is read.
 pub const MOST_BYTES: usize = 16_777_216;
@@ -106,11 +108,20 @@ pub fn read_up_to<'a>(call: &Call<'a>, most: Rooms) -> Result<Graph<'a>, Refusal
 }
 
 /// As much scratch as keeps the call from searching: a place for each pending number, of which there are no more than payload bytes, and for
-/// legacy sheets the index of addresses, 256 numbers and five for each record, of which two are places for hints where a search begins.
+/// legacy sheets the index of addresses, nine numbers and eight for each record.
 fn scratch_length(call: &Call, rooms: Rooms) -> usize {
-    let records = rooms.addresses.saturating_mul(5);
-    let index = if call.sheet.is_legacy() { records.saturating_add(256) } else { 0 };
+    let records = rooms.addresses.saturating_mul(8);
+    let index = if call.sheet.is_legacy() { records.saturating_add(9) } else { 0 };
     call.bytes().saturating_add(index)
+}
+
+/// Scratch with a random seed of the index (include/dawichko.h).
+fn scratch(call: &Call, rooms: Rooms) -> Vec<u64> {
+    let mut scratch = vec![0; scratch_length(call, rooms)];
+    if let Some(seed) = scratch.get_mut(call.bytes() + 8) {
+        *seed = RandomState::new().build_hasher().finish();
+    }
+    scratch
 }
 
 /// One call with these rooms: refused with 3 if they do not suffice.
@@ -122,7 +133,7 @@ pub fn read_within<'a>(call: &Call<'a>, rooms: Rooms) -> Result<Graph<'a>, Refus
         slots: table(rooms.slots, SLOT),
         values: table(rooms.values, VALUE),
         addresses: table(rooms.addresses, ADDRESS),
-        scratch: table(scratch_length(call, rooms), 1),
+        scratch: scratch(call, rooms),
     };
     let (number, [objects, slots, values, addresses, end, place]) = ffi::graph(call, &mut tables);
     if number != 0 {

@@ -1,4 +1,4 @@
+pub mod CountLaws
+pub mod LayoutLaws
 pub mod LinkLaws
-pub mod SearchLaws
 pub mod FindLaws
-pub mod OrdinalLaws

@@ -1,6 +1,6 @@
-pub mod Links
-pub mod Sorted
-pub mod Search
-pub mod KeyLaws
 pub mod Searches
+pub mod Layout
+pub mod Links
 pub mod Entries
+pub mod Sorted
+pub mod Numbered

@@ -1,41 +1,46 @@
--- The index of legacy addresses. Assumes nothing: these are definitions.
-use Rattle.std.specs.Prelude.{◌≡◌, List, ℕ, zero, suc, ◌+◌, ◌-◌, ◌*◌, ◌<◌, ◌≤◌, eqb, length, get_or, Option, Some, None}
+-- What the index of legacy addresses keeps. Assumes nothing: these are definitions.
+use Rattle.std.specs.Prelude.{◌≡◌, List, ℕ, zero, suc, ◌*◌, ◌<◌, ◌≤◌, eqb, length, get_or}
 use Rattle.tables.specs.Values.{pick_ℕ}
-
--- the number by which the index names a record, or none
-abbrev pub counted : Option ℕ → ℕ
-counted (Some i) = suc i
-counted None = 0
+use Rattle.tables.specs.Records.{field}
+use Rattle.address_index.specs.Layout.{capacity, list_cell, bucket_cell, link_cell, bucket}
 
 -- the space of address record i
 abbrev pub space_of : List ℕ → ℕ → ℕ
 space_of t i = get_or t (i * 5) 0
 
--- of the first n address records the newest of a space, counted from 1; 0: there is none
-unfoldable pub newest : List ℕ → ℕ → ℕ → ℕ
-newest t space zero = 0
-newest t space (suc n) = pick_ℕ (eqb (space_of t n) space) (suc n) (newest t space n)
-
--- how many of the first n are of a space
+-- how many of the first n address records are of a space
 unfoldable pub count_in : List ℕ → ℕ → ℕ → ℕ
 count_in t space zero = 0
 count_in t space (suc n) = pick_ℕ (eqb (space_of t n) space) (suc (count_in t space n)) (count_in t space n)
 
--- the index has room for what is kept of record i
-abbrev pub Roomy : ℕ → List ℕ → Type 0
-Roomy i index = 256 + i * 3 + 3 ≤ length index
+-- the bucket of address record i
+abbrev pub bucket_of : List ℕ → ℕ → ℕ → ℕ → ℕ
+bucket_of t r seed i = bucket r seed (space_of t i) (field 5 t i 1) (field 5 t i 2)
 
--- a jump leads nowhere, or to an older record of the same space
-abbrev pub JumpOf : List ℕ → ℕ → ℕ → Type 0
-JumpOf t i j = 0 < j → (j ≤ i) × (space_of t (j - 1) ≡ space_of t i)
+-- of the first n records the newest in bucket b, counted from 1; 0: there is none
+unfoldable pub newest : (ℕ → ℕ) → ℕ → ℕ → ℕ
+newest bucket_at b zero = 0
+newest bucket_at b (suc n) = pick_ℕ (eqb (bucket_at n) b) (suc n) (newest bucket_at b n)
+
+-- v names it, where there is one; else v may be anything, since scratch is not cleared
+abbrev pub Names : (ℕ → ℕ) → ℕ → ℕ → ℕ → Type 0
+Names bucket_at b n v = 0 < newest bucket_at b n → v ≡ newest bucket_at b n
+
+-- the spaces 0 to 7 have counts and lists of their records
+pub record Lists (t : List ℕ) (n r : ℕ) (index : List ℕ) : Type 0 where
+  pub counts : (s : ℕ) → s < 8 → get_or index s 0 ≡ count_in t s n
+  pub places : (i : ℕ) → i < n → space_of t i < 8 → get_or index (list_cell r (space_of t i) (count_in t (space_of t i) i)) 0 ≡ i
+
+-- a bucket names its newest record, and a record's link the one before it in its bucket
+pub record Chains (t : List ℕ) (n r seed : ℕ) (index : List ℕ) : Type 0 where
+  pub buckets : (b : ℕ) → b < r * 3 → Names (bucket_of t r seed) b n (get_or index (bucket_cell r b) 0)
+  pub links : (i : ℕ) → i < n → Names (bucket_of t r seed) (bucket_of t r seed i) i (get_or index (link_cell r i) 0)
 
 -- what is kept of the first n records is right
 pub record Links (t : List ℕ) (n : ℕ) (index : List ℕ) : Type 0 where
-  pub heads : (s : ℕ) → s < 256 → get_or index s 0 ≡ newest t s n
-  pub olders : (i : ℕ) → i < n → get_or index (256 + i * 3) 0 ≡ newest t (space_of t i) i
-  pub jumps : (i : ℕ) → i < n → JumpOf t i (get_or index (256 + i * 3 + 1) 0)
-  pub ordinals : (i : ℕ) → i < n → get_or index (256 + i * 3 + 2) 0 ≡ count_in t (space_of t i) i
+  pub lists : Lists t n (capacity (length index)) index
+  pub chains : Chains t n (capacity (length index)) (get_or index 8 0) index
 
 -- where the index has room for all of them
 abbrev pub Linked : List ℕ → ℕ → List ℕ → Type 0
-Linked t n index = 256 + n * 3 ≤ length index → Links t n index
+Linked t n index = n ≤ capacity (length index) → Links t n index

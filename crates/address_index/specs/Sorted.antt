@@ -10,7 +10,7 @@ use Rattle.address_index.specs.Links.{space_of}
 abbrev pub AtMost : ℕ → ℕ → ℕ → ℕ → Type 0
 AtMost chunk offset chunk' offset' = (chunk < chunk') ⊎ ((chunk ≡ chunk') × (offset ≤ offset'))
 
--- in one way alone
+-- it is a proposition
 pub AtMost-prop : (chunk offset chunk' offset' : ℕ) → IsProp (AtMost chunk offset chunk' offset')
 AtMost-prop chunk offset chunk' offset' (inl a) (inl b) = ap inl (le_prop a b)
 AtMost-prop chunk offset chunk' offset' (inl a) (inr b) = absurd (omega (arith, a, b.0))

@@ -47,7 +47,7 @@ impl From<Address> for Place {
 }
 
 // Record i is placed at this address.
-fn is_address(table: &[u64], i: usize, space: u64, place: Place) -> bool
+pub fn is_address(table: &[u64], i: usize, space: u64, place: Place) -> bool
     requires { i < room 5 table.now }
     ensures { result ≡ is_address table.now space place.chunk place.offset i }
 {

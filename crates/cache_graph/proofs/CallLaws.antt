@@ -54,8 +54,8 @@ module _ {c : Call} {h : List Head} {t : Tables} (s : Started c h t) where
   pub started : {hot : HotRing} {a : LegacyAlloc} → hot ≡ empty_ring → a ≡ zero_counters → mem first (lent hot a) ≡ begun_in t
   started eh e = let z = s.prepared in rw (eh, e, ← z.objects_zero, ← z.values_zero)
 
-  -- whatever scratch holds, it indexes no slot, and where its heads are zero no address record
-  pub started_ready : {w : Walker} → input_in w ≡ input_of c → w.heads.now ≡ h → mem first (lent_of w) ≡ begun_in t → ((k : ℕ) → k < 256 → get_or w.index.now k 0 ≡ 0) → Ready w first
+  -- whatever scratch holds, it indexes no slot, and where its counts are zero no address record
+  pub started_ready : {w : Walker} → input_in w ≡ input_of c → w.heads.now ≡ h → mem first (lent_of w) ≡ begun_in t → ((k : ℕ) → k < 8 → get_or w.index.now k 0 ≡ 0) → Ready w first
   started_ready {w} e d m z =
       let proper : Proper (input_in w) = subst Proper (sym e) s.proper in
       record {

@@ -6,6 +6,7 @@ ghost use Rattle.definition.specs.Call as Definition;
 ghost use Rattle.assurance.specs.Unused.{zeros_from};
 ghost use Rattle.cache_graph.specs.Promise.{call_of, entered, rooms_in, answer, graph_of, refused_of, Reads, Assures, SameTables, Cleared, Prepared, Fitting, Trimmed, Started, begun_in, Walked};
 
+use address_index::layout::LISTED_SPACES;
 use alloc::legacy_alloc::{LegacyAlloc, spaces};
 use backref::hot_ring::HotRing;
 use graph::walk::walk;
@@ -143,7 +144,7 @@ impl Tables<'_> {
 
 // The walk of a payload over tables that are prepared, which come by value, so that they and the parts of scratch can be lent at once. Scratch
 // may hold anything: its first part has a place for each byte of the payload, as far as it goes, and the rest is the index of legacy
-// addresses, whose 256 heads are cleared: no record is entered yet.
+// addresses, whose counts are cleared: no record is entered yet.
 fn walk_payload<'a>(
     call: Call<'a>,
     heads: &'a [Head; 256],
@@ -160,7 +161,7 @@ fn walk_payload<'a>(
         scratch,
     } = tables;
     let (pending, index) = scratch.split_at_mut(call.payload.len().min(scratch.len()));
-    clear_first(index, 256);
+    clear_first(index, LISTED_SPACES as usize);
     let mut w = Walker {
         sheet: call.sheet,
         heads,

@@ -18,7 +18,7 @@ use Rattle.alloc.specs.declared.legacy_alloc.Request.{Request}
 use Rattle.alloc.specs.Allocation.{zero_counters, pick_alloc, next_chunk, advance_of, Outcome, allocate_of}
 use Rattle.address_index.specs.Links.{space_of}
 use Rattle.address_index.specs.Sorted.{AtMost, Sorted}
-use Rattle.address_index.proofs.FindLaws.{space_field}
+use Rattle.address_index.proofs.CountLaws.{space_field}
 use Rattle.definition.specs.Memory.{Input, word, resolve, Table, table, Mem, Out, got, no, noted}
 use Rattle.definition.specs.Slots.{waiter, fill_waiter, resolved}
 use Rattle.definition.specs.Object.{read_map, object}
@@ -168,7 +168,7 @@ module _ (x : Input) (a : Table) (c : LegacyAlloc) (space : ℕ) (p : Ascending 
 
 -- the fields of the records with one more, record n
 module _ (t row : List ℕ) (n : ℕ) (five : length row ≡ 5) (roomy : n < room 5 t) where
-  old_field : (i k : ℕ) → i < n → k < 5 → field 5 (written t n row) i k ≡ field 5 t i k
+  pub old_field : (i k : ℕ) → i < n → k < 5 → field 5 (written t n row) i k ≡ field 5 t i k
   old_field i k l b = subst (λ (w : ℕ). field w (written t n row) i k ≡ field w t i k) five (written_else t row n i k (omega (arith, five, b)) (λ e. omega (arith, e, l)))
 
   new_field : (k : ℕ) → k < 5 → field 5 (written t n row) n k ≡ get_or row k 0

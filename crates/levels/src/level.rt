@@ -35,7 +35,7 @@ pub fn begins_object(w: &Walker, at: usize, d: usize, kept: usize) -> Option<New
 // same of any value, but asks that no sum overflows; this never asked, hence `wrapping_add`.
 pub fn put_object(w: &mut Walker, s: State, outer: Level, child: usize) -> Answer<u64>
     requires { Countable w.old.objects.now outer.object }
-    ensures is { (x : Input) → word_of x ≡ word_bytes w.old.sheet.now → 0 < word_of x → outer.done + s.skip + word_of x < 2 ^ 64 → seen result (lent_of w.new) ≡ place_item x outer.object outer.done (IsRef (Object child)) (mem s (lent_of w.old)) }
+    ensures is { (x : Input) → word_of x ≡ word_bytes w.old.sheet.now → outer.done + s.skip + word_of x < 2 ^ 64 → seen result (lent_of w.new) ≡ place_item x outer.object outer.done (IsRef (Object child)) (mem s (lent_of w.old)) }
     ensures kept { Kept w.old w.new }
 {
     let word = word_bytes(w.sheet);

@@ -115,7 +115,6 @@ module _ (w w' : Walker) (s t : State) {k : ℕ} (e : got k (mem t (lent_of w'))
         slots = rw objects g.slots;
         waiting = rw beside.waiting_same g.waiting;
         word_low = rw f.sheet g.word_low;
-        word_some = rw f.sheet g.word_some;
         end = rw (f.sheet, beside.skip_same) (rw p at g.end);
       }
 

@@ -26,11 +26,11 @@ use Rattle.alloc.specs.declared.legacy_alloc.Request.{Request}
 use Rattle.alloc.specs.Fill.{fill_to_align}
 use Rattle.alloc.specs.Allocation.{next_chunk, Outcome, outcome, allocate_of}
 use Rattle.alloc.proofs.AllocationLaws.{next_chunk_cur, allocate_room}
-use Rattle.address_index.specs.Links.{space_of, Linked}
+use Rattle.address_index.specs.Links.{Linked}
 use Rattle.address_index.proofs.LinkLaws.{linked_same}
 use Rattle.definition.specs.Memory.{Input, word, Mem, Out, got, no, moved, aligned}
 use Rattle.definition.specs.Object.{peek, change_chunk, allocate, alignment_byte, chunk_changes}
-use Rattle.laws.specs.Addresses.{Shape, bare, seated, allocate_shape, old_space, new_space}
+use Rattle.laws.specs.Addresses.{Shape, bare, seated, allocate_shape, old_field}
 use Rattle.readers.specs.declared.state.State.{State}
 use Rattle.readers.specs.declared.walker.Walker.{Walker}
 use Rattle.readers.specs.Lent.{input_of, lent_of, Kept}
@@ -75,24 +75,23 @@ module _ (addresses : List ℕ) (n spaces : ℕ) (want : Request) (c : LegacyAll
   record Row : Type 0 where
     row : List ℕ
     five : length row ≡ 5
-    of_space : get_or row 0 0 ≡ want.space
     is : after ≡ written addresses n row
 
   added_row : Row
   added_row = of (subst (λ (a : Outcome). a.number ≡ 0 → (n < room 5 addresses) × (Shape addresses n spaces want c a)) (sym e) (allocate_shape addresses n spaces want c) refl).1
     where
       of : Shape addresses n spaces want c (outcome 0 alignment c' after) → Row
-      of (bare a q b) = record { row = address_row want.space 0 0 want.object 0; five = refl; of_space = refl; is = q }
-      of (seated a q b d) = record { row = address_row want.space (get_or c.cur want.space 0) (get_or c.used want.space 0 + fill_to_align (get_or c.used want.space 0) want.alignment want.word) want.object 1; five = refl; of_space = refl; is = q }
+      of (bare a q b) = record { row = address_row want.space 0 0 want.object 0; five = refl; is = q }
+      of (seated a q b d) = record { row = address_row want.space (get_or c.cur want.space 0) (get_or c.used want.space 0 + fill_to_align (get_or c.used want.space 0) want.alignment want.word) want.object 1; five = refl; is = q }
 
   -- what its entering the index asks
-  pub enter_asks : want.space < 256 → (ix : List ℕ) → Linked addresses n ix → (n < room 5 after) × (space_of after n < 256) × Linked after n ix
-  enter_asks low ix i =
+  pub enter_asks : (ix : List ℕ) → Linked addresses n ix → (n < room 5 after) × Linked after n ix
+  enter_asks ix i =
       let d = added_row in
       let roomy = allocated_room in
       let same : length (written addresses n d.row) ≡ length addresses = written_length addresses d.row n in
       rw d.is
-      (omega (arith, same, roomy), rw (new_space addresses d.row n d.five roomy, d.of_space) low, linked_same addresses _ n ix (λ i l. old_space addresses d.row n d.five roomy i l) i)
+      (omega (arith, same, roomy), linked_same addresses _ n (old_field addresses d.row n d.five roomy) ix i)
 
 module _ (x : Input) (s : State) (space bytes o : ℕ) (w : ℕ) (l : Lent) (ew : w ≡ word x) where
   abbrev allocates : Outcome

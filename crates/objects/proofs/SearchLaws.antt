@@ -19,9 +19,9 @@ use Rattle.std.specs.declared.iter.Rev.{Rev}
 use Rattle.std.proofs.lemmas.Iterator.{YieldsList}
 use Rattle.std.proofs.lemmas.Iterator.Consumers.{YieldsList-from_shown}
 use Rattle.std.proofs.lemmas.Iterator.Search.{find_from_yields_List}
-use Rattle.address_index.specs.Links.{counted}
 use Rattle.tables.specs.Values.{pick_ℕ}
 use Rattle.definition.specs.Slots.{waits_for, waiter}
+use Rattle.objects.specs.Index.{counted}
 
 -- n numbers from a on, the greatest first
 abbrev down : ℕ → ℕ → List ℕ

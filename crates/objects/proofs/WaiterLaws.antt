@@ -13,13 +13,12 @@ use lib.Seq.{get_or-set_same, get_or-set_other}
 use Rattle.std.proofs.Math.Bool.{and-false}
 use Rattle.std.specs.Bool.{then_some}
 use Rattle.std.proofs.lemmas.Bool.{and_parts}
-use Rattle.address_index.specs.Links.{counted}
 use Rattle.tables.specs.declared.values.Fields.{Fields}
 use Rattle.tables.specs.Records.{room, field, slot_row, written, filled}
 use Rattle.tables.proofs.RecordLaws.{written_same, written_else, filled_same, filled_else}
 use Rattle.definition.specs.Slots.{waits_for, waiter}
 use Rattle.laws.specs.Waiting.{Waits, waiter_one}
-use Rattle.objects.specs.Index.{Entry, Indexed}
+use Rattle.objects.specs.Index.{counted, Entry, Indexed}
 
 pub by_case : (P : Type 0) (t : Bool) → (t ≡ true → P) → (t ≡ false → P) → P
 by_case P true y n = y refl

@@ -1,6 +1,6 @@
 -- The index from pending numbers to waiting slots, and that of legacy addresses, where a reader went on. Assumes nothing: these are
 -- definitions.
-use Rattle.std.specs.Prelude.{◌≡◌, List, ℕ, ◌<◌, ◌≤◌, length, get_or, Ok, Err}
+use Rattle.std.specs.Prelude.{◌≡◌, List, ℕ, suc, ◌<◌, ◌≤◌, length, get_or, Option, Some, None, Ok, Err}
 use Rattle.tables.specs.Records.{room}
 use Rattle.address_index.specs.Links.{Linked}
 use Rattle.laws.specs.Waiting.{Waits}
@@ -8,6 +8,11 @@ use Rattle.readers.specs.declared.state.State.{State}
 use Rattle.readers.specs.declared.walker.Walker.{Walker}
 use Rattle.readers.specs.Views.{Answer}
 use Rattle.definition.specs.Slots.{waiter}
+
+-- a slot, counted from 1; 0: none
+abbrev pub counted : Option ℕ → ℕ
+counted (Some i) = suc i
+counted None = 0
 
 -- k is right for a number: where one of the first `count` slots waits under it, k is that slot, counted from 1; else k may be anything
 abbrev pub Entry : List ℕ → ℕ → ℕ → ℕ → Type 0

@@ -21,5 +21,4 @@ pub record ItemFits (w : Walker) (s : State) (l : Level) (v : SlotValue) : Type 
   pub slots : Countable w.objects.now l.object
   pub waiting : s.waiting < 2 ^ 63
   pub word_low : word_bytes w.sheet.now ≤ 8
-  pub word_some : 0 < word_bytes w.sheet.now
   pub end : l.done + s.skip + width_of (word_bytes w.sheet.now) v < 2 ^ 64

@@ -4,7 +4,8 @@ ghost use Rattle.std.specs.Prelude.{true, ◌≡◌, List, ℕ, ◌+◌, ◌-◌
 ghost use Rattle.sheet.specs.Sheet.{usable};
 ghost use Rattle.tables.specs.Records.{room, field};
 ghost use Rattle.alloc.specs.Allocation.{allocate_of, seen as allocated};
-ghost use Rattle.address_index.specs.Links.{space_of, Linked, Roomy};
+ghost use Rattle.address_index.specs.Layout.{capacity, Roomy};
+ghost use Rattle.address_index.specs.Links.{Linked};
 ghost use Rattle.address_index.specs.Entries.{IsEntry};
 ghost use Rattle.refusals.specs.Numbers.{number_of};
 ghost use Rattle.definition.specs.Memory.{got, aligned};
@@ -29,16 +30,16 @@ use tables::values::{Fields, Ref, SlotValue};
 
 // What the index keeps of address record n, where it has room for it.
 fn new_entry(w: &Walker, n: usize) -> Option<Entry>
-    requires { (n < room 5 w.now.addresses.now) × (space_of w.now.addresses.now n < 256) × Linked w.now.addresses.now n w.now.index.now }
+    requires { (n < room 5 w.now.addresses.now) × Linked w.now.addresses.now n w.now.index.now }
     ensures some { IfSome result (λ e. Roomy n w.now.index.now × IsEntry w.now.addresses.now n w.now.index.now e) }
-    ensures none { IsNone result → length w.now.index.now < 256 + (n + 1) * 3 }
+    ensures none { IsNone result → capacity (length w.now.index.now) ≤ n }
 {
     has_room(w.index, n).then(|| entry_of(w.addresses, w.index, n))
 }
 
 // Address record n enters the index, where the index has room for it.
 fn enter_record(w: &mut Walker, n: usize)
-    requires { (n < room 5 w.old.addresses.now) × (space_of w.old.addresses.now n < 256) × Linked w.old.addresses.now n w.old.index.now }
+    requires { (n < room 5 w.old.addresses.now) × Linked w.old.addresses.now n w.old.index.now }
     ensures linked { Linked w.new.addresses.now (n + 1) w.new.index.now }
     ensures lent { lent_of w.new ≡ lent_of w.old }
     ensures rest { PendingKept w.old w.new }

@@ -9,8 +9,7 @@ ghost use Rattle.definition.specs.Slots.{waits_for, waiter, renumbered, resolved
 ghost use Rattle.definition.specs.Object.{resolves as resolvesFrom};
 ghost use Rattle.readers.specs.Views.{Lent, mem, seen};
 ghost use Rattle.readers.specs.Lent.{input_of, lent_of, Kept};
-ghost use Rattle.objects.specs.Index.{Entry, Indexed, IndexedAfter, Waiting};
-ghost use Rattle.address_index.specs.Links.{counted};
+ghost use Rattle.objects.specs.Index.{counted, Entry, Indexed, IndexedAfter, Waiting};
 
 use readers::ints::read_int;
 use readers::state::{Answer, State};

@@ -68,7 +68,7 @@ pub fn find_backref(w: &Walker, s: State, space: u64, at: usize) -> Result<Backr
 {
     let addresses = AddressIndex {
         table: w.addresses,
-        links: w.index,
+        index: w.index,
         count: s.addresses,
     };
     let reader = LegacyReader {

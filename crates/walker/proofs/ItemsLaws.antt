@@ -1,7 +1,6 @@
 -- The items of an object in the steps that the code takes: one item, what it keeps, and the rest after it. Assumes nothing.
 use mathlib.Core.Path.{◌≡◌, refl, sym, subst, ◌∙◌}
 use mathlib.Core.Bool.{Bool, true, false}
-use mathlib.Core.Logic.{⊎_elim}
 use mathlib.Core.List.{List}
 use Prim.Native.Nat.{ℕ, suc, ◌+◌, ◌-◌, ◌^◌, ◌<◌, ◌≤◌}
 use native.Mathlib.Omega.{arith}
@@ -21,7 +20,7 @@ use Rattle.definition.specs.Reference.{ref_at}
 use Rattle.laws.specs.Sound.{Proper, Sound, Counted, Referred}
 use Rattle.laws.specs.Leaves.{tag_inside}
 use Rattle.laws.specs.Steps.{kept_trans}
-use Rattle.laws.specs.Keeps.{sheet_gives, word_low, Placed}
+use Rattle.laws.specs.Keeps.{sheet_gives, Placed}
 use Rattle.laws.proofs.Theorems.{ref_keeps, place_item_keeps}
 use Rattle.laws.specs.Numbered.{Numbered, FreshValue, place_item-numbered}
 use Rattle.laws.specs.Addresses.{Ascending}
@@ -50,9 +49,6 @@ pub tag_is : (k : ℕ) (v p : List ℕ) (at : ℕ) {b : ℕ} {t : Bool} → b �
 tag_is k v p at eb et = rw (← eb) (sym et)
 
 -- ---- an item
-
-pub word_some : {x : Input} {h : List Head} {sc : Scratch} {m : Mem} → InOrder x h m sc → (word x ≤ 8) × (0 < word x)
-word_some g = (word_low g.proper, ⊎_elim (λ e. omega arith) (λ e. omega arith) (sheet_gives g.proper).word)
 
 -- what a value that was placed keeps
 module _ {x : Input} {m : Mem} (s : Sound x m) (c : Counted m) (u : Numbered m) (a : Ascending x m.addresses m.alloc) (p : Proper x) where

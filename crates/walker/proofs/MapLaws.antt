@@ -29,12 +29,12 @@ use Rattle.walker.specs.Ready.{Ready, After, InItem, mapped, headed}
 use Rattle.objects.proofs.AnswerLaws.{fixed_on}
 use Rattle.readers.proofs.ViewLaws.{then_got, then_no}
 use Rattle.objects.proofs.MapSteps.{map_no, map_got}
+use Rattle.laws.specs.Keeps.{word_low}
 use Rattle.laws.specs.Sound.{Referred}
 use Rattle.walker.proofs.SameLaws.{same_got}
 use Rattle.walker.proofs.ScratchLaws.{Index, InOrder, OutIndex, scratch_of, order_of, same_scratch, at_input, ready_on, after_of}
 use Rattle.walker.proofs.GroundLaws.{Ground, ground_of, answer_index, keep_map_ground, resolves_ground, place_item_ground}
 use Rattle.walker.proofs.ReadyLaws.{Went, Free, order_after, map_went, keep_map_went, ref_went, value_ready}
-use Rattle.walker.proofs.ItemsLaws.{word_some}
 use Rattle.walker.proofs.ObjectLaws.{after_still, map_indexed, opened_ready, map_ready}
 use Rattle.walker.proofs.OpeningLaws.{opened_by}
 
@@ -126,9 +126,8 @@ module _ {w : Walker} {s : State} (g : Ready w s) (d : ℕ) (l : Level) (b : (d 
       let z = ref_went g (65 - (d + 1)) e in
       let u = z.kept.onward in
       let o = g₁.sound in
-      let k = word_some (order_of g₁) in
       let wide : width_of (word_bytes w₁.sheet.now) v ≤ 2 ^ 34 = rw i.fixed.sheet z.more.narrow in
-      (record { listed = omega (arith, o.objects_fit, u.objects_up, b); slots = omega (arith, o.slots_fit, u.slots_size, g₁.counted.count_low l.object); waiting = omega (arith, o.slots_fit, o.waiting_low, u.slots_size); word_low = k.0; word_some = k.1; end = omega (arith, wide, b, o.skip_low, o.within, g₁.proper.short) }, omega (arith, u.slots_up, b), omega (arith, o.slots_fit))
+      (record { listed = omega (arith, o.objects_fit, u.objects_up, b); slots = omega (arith, o.slots_fit, u.slots_size, g₁.counted.count_low l.object); waiting = omega (arith, o.slots_fit, o.waiting_low, u.slots_size); word_low = word_low g₁.proper; end = omega (arith, wide, b, o.skip_low, o.within, g₁.proper.short) }, omega (arith, u.slots_up, b), omega (arith, o.slots_fit))
 
 pub item_put : {w w₁ w₂ : Walker} {v : SlotValue} {t : State} → After w (Ok (v, t)) w₁ → (l : Level) (r : Answer ℕ) → seen r (lent_of w₂) ≡ place_item (input_of w₁) l.object l.done v (mem t (lent_of w₁)) → IndexedAfter r w₂.slots.now w₂.pending.now → IndexKept w₁ w₂ → After w r w₂
 item_put {w} {w₁} {w₂} {v} {t} i l r q x k =

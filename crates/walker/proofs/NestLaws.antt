@@ -23,6 +23,7 @@ use Rattle.definition.specs.Memory.{Input, word, in_slot, item, tell, change, wi
 use Rattle.definition.specs.Slots.{add_slot, keep_item, place_item}
 use Rattle.definition.specs.Object.{closed, object}
 use Rattle.definition.specs.Reference.{ref_at}
+use Rattle.laws.specs.Keeps.{word_low}
 use Rattle.laws.specs.Sound.{Onward}
 use Rattle.leaves.specs.Leaf.{slot_in}
 use Rattle.readers.specs.declared.state.State.{State}
@@ -39,7 +40,7 @@ use Rattle.walker.proofs.SameLaws.{same_got}
 use Rattle.walker.proofs.ScratchLaws.{Scratch, Index, InOrder, scratch_of, order_of, ready_on, same_scratch, got_index, at_input}
 use Rattle.walker.proofs.GroundLaws.{Ground, ground_of, place_item_ground}
 use Rattle.walker.proofs.ReadyLaws.{one_less, order_after, moved_ready}
-use Rattle.walker.proofs.ItemsLaws.{through, item_in, filled, filled_no, items_full, items_one, item_went, item_deferred, item_slot, deferred_inside, place_went, word_some}
+use Rattle.walker.proofs.ItemsLaws.{through, item_in, filled, filled_no, items_full, items_one, item_went, item_deferred, item_slot, deferred_inside, place_went}
 use Rattle.walker.proofs.ObjectLaws.{slots_of, plain_slot, Held, headed_ready, headed_object}
 use Rattle.walker.proofs.ReferenceLaws.{ref_object, space_low}
 
@@ -153,7 +154,7 @@ module _ {w₀ : Walker} {s₀ : State} {d : ℕ} {first : Level} {ls : List Lev
       let g = order_of o.inside.ready in
       let r = headed_ready g (64 - e) child.space child.tag o.low f small (got_index a) in
       let s : resumed (input_of w) d ls (filled (input_of w) (inner w₀ s₀ d first (input_of w) ls) l (got l.done (mem y (lent_of w₁)))) ≡ Whole w₀ s₀ d first = rw (← f) at begun in
-      rw es (record { inside = inside_on o.inside ls o.inside.deep o.inside.outer a.fixed r.0 r.3 _ s; held = r.1; most = omega (arith, r.2, (word_some g).0) }, r.3.at_up)
+      rw es (record { inside = inside_on o.inside ls o.inside.deep o.inside.outer a.fixed r.0 r.3 _ s; held = r.1; most = omega (arith, r.2, word_low g.proper) }, r.3.at_up)
 
 -- ---- the outermost object, by its head and its items
 
@@ -183,7 +184,7 @@ module _ (d : ℕ) (new : NewObject) {w : Walker} {s : State} (g : Ready w s) (a
     object_opened =
         let o = order_of g in
         let r = headed_ready o (64 - d) new.space new.tag asks.1 f small (got_index a) in
-        (ready_on a.fixed r.0, (r.1.below, r.1.some, small, omega (arith, r.2, (word_some o).0)))
+        (ready_on a.fixed r.0, (r.1.below, r.1.some, small, omega (arith, r.2, word_low o.proper)))
 
     pub object_items : {o : Out SlotValue} → o ≡ items_of (input_of w₁) (ref_at (input_of w₁) (64 - d)) l (mem y (lent_of w₁)) → o ≡ given
     object_items h = at_input a.fixed (λ x. items_of x (ref_at x (64 - d)) l (mem y (lent_of w₁))) h ∙ by_rest
@@ -268,7 +269,7 @@ module _ {w₀ : Walker} {s₀ : State} {d : ℕ} {first : Level} {ls : List Lev
     -- what `put_object` says of its answer
     abbrev Put : Out ℕ → Type 0
     Put o =
-        (x : Input) → word x ≡ word_bytes w.sheet.now → 0 < word x → around.done + t.skip + word x < 2 ^ 64 → o ≡ place_item x around.object around.done (Ref (Object l.object)) m
+        (x : Input) → word x ≡ word_bytes w.sheet.now → around.done + t.skip + word x < 2 ^ 64 → o ≡ place_item x around.object around.done (Ref (Object l.object)) m
 
     parts : All (Around m) ls₁ × Around m around
     parts = All-pop (Around m) ls ls₁ (Some around) z n.inside.outer
@@ -276,8 +277,7 @@ module _ {w₀ : Walker} {s₀ : State} {d : ℕ} {first : Level} {ls : List Lev
     put : {o : Out ℕ} → Put o → o ≡ place_item x around.object around.done (Ref (Object l.object)) m
     put f =
         let g = n.inside.ready in
-        let k = word_some (order_of g) in
-        f x refl k.1 (omega (arith, parts.1.0.small, parts.1.1, k.0, g.sound.skip_low, g.sound.within, g.proper.short))
+        f x refl (omega (arith, parts.1.0.small, parts.1.1, word_low g.proper, g.sound.skip_low, g.sound.within, g.proper.short))
 
     left : resumed x d ls₁ (filled x (ref_at x (64 - (d + length ls₁))) around (place_item x around.object around.done (Ref (Object l.object)) m)) ≡ whole
     left = let f = full e in sym (resumed_inner x d ls₁ around (got (Ref (Object l.object)) m) refl) ∙ rw z at f
@@ -290,7 +290,7 @@ module _ {w₀ : Walker} {s₀ : State} {d : ℕ} {first : Level} {ls : List Lev
         let g = order_of n.inside.ready in
         let q = parts in
         let p = put f in
-        let r = place_went g.sound g.counted g.numbered g.ascending g.proper around.object around.done q.1.0.below (Ref (Object l.object)) (omega (arith, (word_some g).0)) tt p in
+        let r = place_went g.sound g.counted g.numbered g.ascending g.proper around.object around.done q.1.0.below (Ref (Object l.object)) (omega (arith, word_low g.proper)) tt p in
         let u = r.kept.onward in
         let i = object_index x around.object around.done l.object m (scratch_of w) g.index p in
         let s : resumed x d ls₁ (filled x (ref_at x (64 - (d + length ls₁))) around (got k (mem y (lent_of w₁)))) ≡ whole = rw (← p) at left in

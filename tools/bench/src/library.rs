@@ -1,5 +1,7 @@
 //! The library, by the declaration of include/dawichko.h.
 
+use std::sync::atomic::{AtomicU64, Ordering};
+
 extern "C" {
     fn dawichko_graph(
         sheet: *const u16,
@@ -46,10 +48,12 @@ pub struct Tables {
 /// Of a byte that is in no table, so that a table that is not cleared is seen.
 const OTHER: u64 = 0xabab_abab_abab_abab;
 
-/// As much scratch as keeps the library from searching: a place for each pending number, in legacy then the index of addresses with its
-/// hints.
+/// The seed of the index of legacy addresses.
+pub static SEED: AtomicU64 = AtomicU64::new(0);
+
+/// As much scratch as keeps the library from searching: a place for each pending number, in legacy then the index of addresses.
 fn scratch_length(bytes: usize, legacy: bool, addresses: usize) -> usize {
-    bytes + if legacy { 256 + 5 * addresses } else { 0 }
+    bytes + if legacy { 9 + 8 * addresses } else { 0 }
 }
 
 impl Tables {
@@ -80,6 +84,9 @@ impl Tables {
 /// The refusal's number or 0, and the outcome.
 pub fn graph(call: &Call, tables: &mut Tables) -> (u64, Outcome) {
     let mut outcome = [u64::MAX; 6];
+    if let Some(seed) = tables.scratch.get_mut(call.payload.len() + 8) {
+        *seed = SEED.load(Ordering::Relaxed);
+    }
     let [objects, slots, values, addresses] = &mut tables.records;
     // Each length is that of the slice whose pointer stands before it, and no two of them overlap.
     let number = unsafe {

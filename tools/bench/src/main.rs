@@ -15,10 +15,11 @@ use rows::ROWS;
 use sheets::Family;
 use std::path::PathBuf;
 use std::process::ExitCode;
+use std::sync::atomic::Ordering;
 use std::time::{Duration, Instant};
 
 const USAGE: &str = "usage: bench [--sizes MB,MB,..] [--repeats N] [--seconds S] [--variables N]
-             [--only TEXT] [--without rust] [--without scratch] [--real FOLDER] [--stack yes]";
+             [--only TEXT] [--without rust] [--without scratch] [--seed N] [--real FOLDER] [--stack yes]";
 const MB: f64 = 1048576.0;
 /// At the largest size the time for a byte is at most so many times that at the smallest; and at most so many times the twin's.
 const GROWTH_AIM: f64 = 1.5;
@@ -66,6 +67,7 @@ fn options() -> Result<Options, String> {
             "--only" => given.only = value,
             "--without" if value == "rust" => given.rust = false,
             "--without" if value == "scratch" => given.scratch = false,
+            "--seed" => library::SEED.store(value.parse().map_err(|_| USAGE)?, Ordering::Relaxed),
             "--real" => given.real = Some(value.into()),
             "--stack" => given.stack = value == "yes",
             _ => return Err(USAGE.into()),

@@ -62,7 +62,7 @@ pub const ROWS: [Row; 21] = [
     old("legacy back-references, to the oldest", 10.0, to_oldest),
     old("legacy back-references, misses", 10.0, misses),
     old("legacy back-references by number", 10.0, by_number),
-    old("legacy back-references, hints that collide", 10.0, colliding),
+    old("legacy back-references, buckets that collide", 10.0, colliding),
     six("6.x repeats, chains of 4", 10.0, chains),
 ];
 
@@ -260,27 +260,27 @@ fn by_number(size: usize) -> Items {
     items
 }
 
-/// Two objects in each chunk, the second at an address whose hint shares its place with those of all the others, and scattered references to
-/// these: the worst case of the search. The place is computed as crates/address_index/src/hints.rt does.
+/// Two objects in each chunk, the second at an address whose bucket is one of few, and scattered references to these: near the worst case of
+/// the search, since four in five end in lists. The bucket is computed as crates/address_index/src/layout.rt does, with the seed 0; with another
+/// seed (`--seed`) they do not collide.
 fn colliding(size: usize) -> Items {
     let longest = 12 + 1 + integer(size).len() + 4;
     let count = size / longest;
-    let places = 2 * (2 * count + 1);
-    let words = |chunk: usize| {
-        let base = chunk * 65537 % (1 << 32);
-        (places - base % places).min((1 << 32) - base)
+    let buckets = 3 * (2 * count as u64 + 1);
+    let start = |chunk: usize, block: u64| {
+        let mixed = ((chunk as u64) << 17 | block).wrapping_mul(11400714819323198485) >> 32;
+        mixed * buckets >> 32
     };
+    let blocks: Vec<u64> =
+        (0..count).map(|chunk| (1..).find(|&block| start(chunk, block) < buckets / 256 + 1).expect("a block")).collect();
     let mut items = Items { bytes: Vec::new(), words: 0, closing: Vec::new() };
-    for chunk in 0..count {
+    for (chunk, block) in blocks.iter().enumerate() {
         if 0 < chunk {
             items.bytes.extend([NEXT_CHUNK, 0]);
         }
         items.bytes.push(NEW);
-        items.bytes.extend(integer(words(chunk)));
-        items.bytes.push(ROOT + 5);
-        if 1 < words(chunk) {
-            items.bytes.push(DEFERRED);
-        }
+        items.bytes.extend(integer(4096 * *block as usize));
+        items.bytes.extend([ROOT + 5, DEFERRED]);
         items.bytes.extend(ONE_WORD);
     }
     let mut random = Random(5);
@@ -288,7 +288,7 @@ fn colliding(size: usize) -> Items {
         let chunk = random.below(count);
         items.bytes.push(BACK);
         items.bytes.extend(integer(chunk));
-        items.bytes.extend(integer(8 * words(chunk)));
+        items.bytes.extend(integer(32768 * blocks[chunk] as usize));
     }
     items.words = 3 * count;
     items

@@ -139,16 +139,14 @@ fn generated(seed: u64, sheets: &[sheets::Sheet]) -> (String, Call) {
     (sheet.family.into(), call)
 }
 
-/// Too little scratch for pending numbers; enough for these, and none, too little or some for the index of legacy addresses; enough for both,
-/// without hints and with them.
+/// Too little scratch for pending numbers; enough for these, and none, too little or some for the index of legacy addresses; enough for both.
 fn scratch_length(random: &mut Random, payload: &[u8]) -> usize {
     let bytes = payload.len();
-    let few = random.below(40);
-    let index = bytes + 256;
-    let [some, more] = [3, 5].map(|numbers| index + numbers * few);
-    let linked = Call::index_scratch(payload, 3);
+    let index = bytes + 9;
+    let some = Call::scratch_for(payload, random.below(40));
+    let less = some - 1 - random.below(7);
     let full = Call::full_scratch(payload);
-    random.one_of(&[0, 1, 3, 64, bytes, index - 1, index, some, more, linked, full, 100_000])
+    random.one_of(&[0, 1, 3, 64, bytes, bytes + 8, index, index + 8, some, less, full, 100_000])
 }
 
 /// Inputs at the limits of document 01 and one past them, with its answers. The payload, zeros, opens objects until they lie too deep.
@@ -312,13 +310,15 @@ fn different(got: &str, wanted: &str) -> Option<String> {
     Some(format!("{got}, the Rust has {wanted}"))
 }
 
-/// Without scratch, and with as much as is of use, without hints and with them, which holds other numbers than before, the graph is the same.
+/// Without scratch, with room in the index for half of the records, and with as much as is of use, which holds other numbers than before, the
+/// graph is the same.
 fn other_scratch(call: &Call, graph: &Graph) -> Option<String> {
     if graph.number != 0 {
         return None;
     }
     let payload = &call.payload;
-    [0, Call::index_scratch(payload, 3), Call::full_scratch(payload)].into_iter().find_map(|scratch| {
+    let half = Call::scratch_for(payload, graph.outcome[3] as usize / 2);
+    [0, half, Call::full_scratch(payload)].into_iter().find_map(|scratch| {
         let other = port::graph(&Call { scratch, fill: !call.fill, ..call.clone() }, graph.lengths());
         let changed = || (!graph.is_same(&other)).then(|| format!("another graph with {scratch} of scratch"));
         other.left_over().or_else(changed)

@@ -43,15 +43,14 @@ pub struct Call {
 }
 
 impl Call {
-    /// Scratch in which nothing has to be searched: a place for each pending number, then the index of legacy addresses with its hints.
+    /// Scratch in which nothing has to be searched: a place for each pending number, then the index of legacy addresses.
     pub fn full_scratch(payload: &[u8]) -> usize {
-        Call::index_scratch(payload, 5)
+        Call::scratch_for(payload, payload.len() / 2 + 2)
     }
 
-    /// The same with so many numbers for each record in the index: three are its links, two more are places for hints.
-    pub fn index_scratch(payload: &[u8], numbers: usize) -> usize {
-        let records = payload.len() / 2 + 2;
-        payload.len() + 256 + numbers * records
+    /// The same, with an index that has room for so many records.
+    pub fn scratch_for(payload: &[u8], records: usize) -> usize {
+        payload.len() + 9 + 8 * records
     }
 
     /// So many numbers that slots and records can have, and larger ones; others for each `part`.
