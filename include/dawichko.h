@@ -34,7 +34,7 @@ extern "C" {
  * outcome gets the counts of objects, slots, values and addresses, the cursor at the finish, and the refusal's place. After a refusal all
  * but the place are 0, and so is every entry of the tables; else the place is 0, and so is every entry past the counts.
  *
- * The call takes up to 250 kB of stack, where objects lie inside each other as deep as is read.
+ * The call takes up to 130 kB of stack, where objects lie inside each other as deep as is read (docs/BENCHMARKS.md).
  *
  * The caller sees to it that each pointer leads to as many elements as its length says, aligned for its type, that nothing else reads or
  * writes a table during the call, and that no table overlaps another argument. A pointer may be anything where its length is 0.
