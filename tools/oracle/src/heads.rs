@@ -2,6 +2,7 @@
 
 use crate::sheet::Sheet;
 
+/// The head bytes of a payload under a sheet.
 pub struct Heads<'a> {
     pub sheet: &'a Sheet,
     pub payload: &'a [u8],

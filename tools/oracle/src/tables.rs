@@ -2,6 +2,7 @@
 
 use std::collections::HashMap;
 
+/// Tag values, constants and root names of a version.
 pub struct VersionTable {
     pub v8: String,
     pub tagged_size: u8,
@@ -11,6 +12,7 @@ pub struct VersionTable {
     pub serialization: SerializationCfg,
 }
 
+/// Tag values and constants by name.
 #[derive(Default)]
 pub struct SerializationCfg {
     pub tags: HashMap<String, u8>,
