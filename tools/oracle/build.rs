@@ -1,5 +1,5 @@
-//! Writes the line that takes in the Rust's serializer.rs from where it lies, so that no copy of it is
-//! kept here. Where it isn't given, src/absent.rs is taken in instead.
+//! Writes the line that takes in the Rust's serializer.rs from where it lies, so that no copy of it
+//! is kept here. Where it isn't given, src/absent.rs is taken in instead.
 
 #[path = "src/sha256.rs"]
 mod sha256;

@@ -1,5 +1,5 @@
-//! Stands in for the Rust's serializer.rs where that isn't given: the types through which its answers
-//! are read, with the same names, and a walk that only says what is wanted.
+//! Stands in for the Rust's serializer.rs where that isn't given: the types through which its
+//! answers are read, with the same names, and a walk that only says what is wanted.
 
 use crate::tables::VersionTable;
 

@@ -53,8 +53,9 @@ impl Heads<'_> {
         }
     }
 
-    /// Outside legacy the debug output takes eight bytes from kNewObject on for new objects and says
-    /// nothing when such a reference is read whole. Whether this hides one that may form a value.
+    /// Outside legacy the debug output takes eight bytes from kNewObject on for new objects and
+    /// says nothing when such a reference is read whole. Whether this hides one that may form a
+    /// value.
     pub fn hidden(&self) -> bool {
         let from = self.sheet.get("kBackref").unwrap_or(0);
         let to = self.sheet.get("kNewObject").unwrap_or(0) + 8;

@@ -1,6 +1,6 @@
 //! Runs the Rust that Dawichko is a port of, and gives its answer in the form of `graphlist`
-//! (docs/GRAPHLIST.md). Where the Rust's source isn't given (JSCD_SRC), `WANTED` says what is wanted,
-//! and sheets and real payloads can be read all the same.
+//! (docs/GRAPHLIST.md). Where the Rust's source isn't given (JSCD_SRC), `WANTED` says what is
+//! wanted, and sheets and real payloads can be read all the same.
 
 pub mod heads;
 pub mod listing;
@@ -11,7 +11,8 @@ pub mod sheet;
 pub mod tables;
 pub mod trace;
 
-// Takes in serializer.rs, unchanged, as the module `serializer`; and says whether it could (build.rs).
+// Takes in serializer.rs, unchanged, as the module `serializer`; and says whether it could
+// (build.rs).
 include!(concat!(env!("OUT_DIR"), "/taken_in.rs"));
 
 use serializer::Object;

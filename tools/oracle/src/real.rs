@@ -1,7 +1,8 @@
 //! Real payloads, by the sheets that they were written under.
 //!
-//! A folder of them has sheets/SHEET.txt, and in payloads/ a folder SHEET or an archive SHEET.tar.xz
-//! with NAME.payload and, for legacy sheets, NAME.reserve. The repository is such a folder.
+//! A folder of them has sheets/SHEET.txt, and in payloads/ a folder SHEET or an archive
+//! SHEET.tar.xz with NAME.payload and, for legacy sheets, NAME.reserve. The repository is such a
+//! folder.
 
 use crate::sheet::Sheet;
 use crate::{reservations, Input};

@@ -2,7 +2,8 @@
 
 /// The first 32 bits of the fractional part of a root of n, 2 or 3, by whole numbers alone.
 fn fraction_of_root(n: u128, degree: u32) -> u32 {
-    // The largest r with r^degree <= n * 2^(32 * degree) is the root's first 32 fractional bits and more.
+    // The largest r with r^degree <= n * 2^(32 * degree) is the root's first 32 fractional bits and
+    // more.
     let wanted = n << (32 * degree);
     let (mut low, mut high) = (0u128, 1u128 << 40);
     while high - low > 1 {

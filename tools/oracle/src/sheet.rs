@@ -88,8 +88,8 @@ impl Sheet {
         self.numbers[TAGS_AND_CONSTANTS]
     }
 
-    /// Whether the sheet is usable (docs/FORMAT.md, "The version sheet"). The Rust tests only that the
-    /// required names are there.
+    /// Whether the sheet is usable (docs/FORMAT.md, "The version sheet"). The Rust tests only that
+    /// the required names are there.
     pub fn usable(&self) -> bool {
         let within = |name, low, high| self.get(name).is_none_or(|n| (low..=high).contains(&n));
         matches!(self.tagged_size(), 4 | 8)

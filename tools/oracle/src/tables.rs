@@ -20,7 +20,8 @@ pub struct SerializationCfg {
 }
 
 impl VersionTable {
-    /// At or above a nonzero shift, the entry shifted down if it is a string's name; else the entry itself.
+    /// At or above a nonzero shift, the entry shifted down if it is a string's name; else the entry
+    /// itself.
     pub fn root_name(&self, index: usize) -> Option<&str> {
         let at = |i: usize| self.roots.get(i).map(String::as_str);
         let shifted = match self.roots_shift {
