@@ -24,8 +24,9 @@ pub const MOST_BYTES: usize = 16_777_216;
 pub const MOST_RESERVATIONS: usize = 65_536;
 
 /// What is wanted where `PRESENT` is false.
-pub const WANTED: &str = "not here: serializer.rs of the Rust, that is src/serializer.rs of the repository \
-                          ejfkdev/jscd at commit 40b0a43f7c; build with JSCD_SRC set to its folder";
+pub const WANTED: &str =
+    "the Rust is not built in: it is src/serializer.rs of the repository ejfkdev/jscd at \
+                          commit 40b0a43f7c; set JSCD_SRC to the folder of that file and build again";
 
 /// What a call reads.
 pub struct Input {
