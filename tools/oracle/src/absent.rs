@@ -3,6 +3,8 @@
 
 use crate::tables::VersionTable;
 
+/// What a reference stands for: an object by its number, a root by its index, a place in the
+/// read-only heap, an attached thing.
 #[derive(Debug, Clone, Copy)]
 pub enum Ref {
     Object(usize),
@@ -11,6 +13,7 @@ pub enum Ref {
     Attached(usize),
 }
 
+/// Bytes of the payload, and whether they fill as many of the object.
 #[derive(Debug, Clone, Copy)]
 pub struct Raw {
     pub off: usize,
@@ -18,6 +21,7 @@ pub struct Raw {
     pub advances: bool,
 }
 
+/// What a slot holds.
 #[derive(Debug, Clone)]
 pub enum SlotValue {
     Ref(Ref),
@@ -31,12 +35,14 @@ pub enum SlotValue {
     PendingRef(u32),
 }
 
+/// A value and its place in the object, in words.
 #[derive(Debug, Clone)]
 pub struct Slot {
     pub index: usize,
     pub value: SlotValue,
 }
 
+/// An object: its size, the place of its head byte, and its slots in the order of their indexes.
 #[derive(Debug, Clone)]
 pub struct Object {
     pub byte_size: usize,
@@ -45,10 +51,12 @@ pub struct Object {
     pub raw_len: bool,
 }
 
+/// The objects of an accepted payload.
 pub struct CodeCache {
     pub objects: Vec<Object>,
 }
 
+/// Says what is wanted.
 pub fn parse_with(_: &[u8], _: &VersionTable, _: &[u32]) -> Result<CodeCache, String> {
     Err(crate::WANTED.into())
 }

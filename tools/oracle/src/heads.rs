@@ -4,7 +4,9 @@ use crate::sheet::Sheet;
 
 /// The head bytes of a payload under a sheet.
 pub struct Heads<'a> {
+    /// The sheet.
     pub sheet: &'a Sheet,
+    /// The payload.
     pub payload: &'a [u8],
 }
 
@@ -12,7 +14,9 @@ pub struct Heads<'a> {
 pub enum Prefix {
     /// Chunk change, alignment, indirect and protected pointer: the value is the next one's.
     Through(usize),
+    /// A weak reference to what follows.
     Weak(usize),
+    /// A repeat of what follows.
     Repeat(usize),
     /// A repeat of a root whose index is the one byte there.
     RepeatRoot(usize),

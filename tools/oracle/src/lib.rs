@@ -19,8 +19,9 @@ use serializer::Object;
 use sheet::Sheet;
 use trace::Event;
 
-/// The longest payload and reservation list that are read.
+/// The longest payload that is read.
 pub const MOST_BYTES: usize = 16_777_216;
+/// The longest reservation list that is read.
 pub const MOST_RESERVATIONS: usize = 65_536;
 
 /// What is wanted where `PRESENT` is false.
@@ -30,9 +31,11 @@ pub const WANTED: &str =
 
 /// What a call reads.
 pub struct Input {
+    /// The numbers of the engine version.
     pub sheet: Sheet,
     /// A byte for each root index, nonzero for those that set `raw_len`.
     pub trusted: Vec<u8>,
+    /// The payload, without the header of its file.
     pub payload: Vec<u8>,
     /// The chunk reservations of a legacy file.
     pub reserve: Vec<u32>,

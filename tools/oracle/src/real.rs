@@ -14,7 +14,9 @@ use std::{env, fs};
 pub struct Payload {
     /// The sheet's name.
     pub sheet: String,
+    /// The file's name, without its ending.
     pub name: String,
+    /// Sheet, payload and reservations.
     pub input: Input,
 }
 

@@ -25,8 +25,11 @@ pub enum Event {
 /// Whether a reference forms a value record, and how often it stands for what that holds.
 #[derive(Clone, Copy, PartialEq)]
 pub enum Holds {
+    /// No record.
     Other,
+    /// That of a weak reference.
     Weak,
+    /// That of a repeat of so many words.
     Repeat(usize),
 }
 
