@@ -222,7 +222,7 @@ impl<'a> Graph<'a> {
     }
 
     /// The place in the payload at which reading ended: its length, unless the sheet is legacy
-    /// (docs/FORMAT.md, "The closing section").
+    /// (docs/FORMAT.md, "A whole call").
     pub fn end(&self) -> usize {
         self.end
     }
