@@ -1,9 +1,9 @@
 'use strict';
 // Makes real payloads: compiles generated scripts, and every *.js file of REALDIR, takes the code
 // cache that V8 writes for each, cuts its header off and writes OUTDIR/NAME.payload, and
-// OUTDIR/NAME.reserve where the cache carries reservations. OUTDIR/list.tsv gets a line for each: name,
-// V8's version, length of the source, bytes of the payload. Runs on Node 12 and later; the engine is
-// Node's own.
+// OUTDIR/NAME.reserve where the cache carries reservations. OUTDIR/list.tsv gets a line for each:
+// name, V8's version, length of the source, bytes of the payload. Runs on Node 12 and later; the
+// engine is Node's own.
 //
 //     node tools/payloads/make.js OUTDIR [REALDIR]
 //
@@ -169,7 +169,8 @@ if (real) for (const f of fs.readdirSync(real).sort()) {
   const wrapped = '(function (exports, require, module, __filename, __dirname) { ' + src.replace(/^#!.*/, '') + '\n})';
   const base = 'real-' + f.slice(0, -3);
   make(base + '.lazy', wrapped, { file: f });
-  make(base + '.eager', wrapped + ' // eager', { file: f, eager: 1 }); // other text, else the compilation cache answers
+  // The text differs, else the compilation cache answers.
+  make(base + '.eager', wrapped + ' // eager', { file: f, eager: 1 });
 }
 fs.writeFileSync(path.join(out, 'list.tsv'), list.join('\n') + '\n');
 console.log(process.versions.v8, list.length, 'payloads');
