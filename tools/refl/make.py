@@ -64,8 +64,8 @@ def accepted(rnd, lines):
 
 
 def part(lines):
-    """Where the oracle does not know a value that the closing section drops: the numbers without the
-    values, objects, addresses."""
+    """Where the oracle does not know a value that the closing section drops: the numbers without
+    the values, objects, addresses."""
     counts, end = [int(word) for word in lines[0][1:5]], int(lines[0][5])
     rows = {letter: [int(word) for line in lines[1:] if line[0] == letter for word in line[1:]] for letter in 'od'}
     tables = [rows[letter] + [0] * (LARGE[letter] - len(rows[letter])) for letter in 'od']
@@ -80,8 +80,8 @@ def answered(rnd, lines):
 
 
 def short_room(rnd, lines, marks):
-    """One table with room for fewer records than the payload has: 3 at the cursor where the first is
-    missing."""
+    """One table with room for fewer records than the payload has: 3 at the cursor where the first
+    is missing."""
     counts = [str(len(marks[letter])) for letter in 'osvd']
     if lines[0][0] != 'graph' or any('?' in line for line in lines) or lines[0][1:5] != counts:
         return None
@@ -257,8 +257,8 @@ UNUSED = ['Smi', 'Usable', 'Assigning', 'Cases', 'Generated']
 
 
 def unfolded(crates):
-    """The definitions that are unfolded only where it is asked for: the lines that take them in, and
-    their names."""
+    """The definitions that are unfolded only where it is asked for: the lines that take them in,
+    and their names."""
     uses, names = [], []
     for crate in CRATES:
         folder = os.path.join(crates, crate, 'specs')

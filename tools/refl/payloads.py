@@ -6,7 +6,8 @@ ONE_INTEGER = 'kAttachedReference kBuiltin kExternalReference kPartialSnapshotCa
 
 
 class Payload:
-    """Writes a payload. `out` holds its bytes and, between them, marks: 'o', 's', 'v', 'd' where a record is appended."""
+    """Writes a payload. `out` holds its bytes and, between them, marks: 'o', 's', 'v', 'd' where a
+    record is appended."""
 
     def __init__(self, rnd, sheet, spaces, budget):
         self.rnd, self.sheet, self.spaces, self.budget = rnd, sheet, spaces, budget

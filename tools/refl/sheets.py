@@ -120,8 +120,8 @@ kVariableRepeatRoot kNewMetaMap kNewContextlessMetaMap kNewContextfulMetaMap""".
 
 
 def on_one_byte():
-    """For each family and each name: a sheet that has this name and all later ones on byte 80, so that
-    the first one tested is obeyed. A name taken off that byte is absent, or elsewhere if the family
+    """For each family and each name: a sheet that has this name and all later ones on byte 80, so
+    that the first one tested is obeyed. A name taken off that byte is absent, or elsewhere if the family
     needs it. The payload has byte 80 as its second item; the byte 40 after it is a cleared weak
     reference as a head, and 16 as an integer."""
     needed = sheet("""kNewObject 00, kBackref 08, kSynchronize 16, kNop 17, kRootArray 20, kAttachedReference 21, kHotObject C0,
