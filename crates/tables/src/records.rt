@@ -1,4 +1,4 @@
-// The four tables of records: objects, slots, values and addresses. They stay flat numbers in memory that the caller lends, since C reads
+// .. The four tables of records: objects, slots, values and addresses. They stay flat numbers in memory that the caller lends, since C reads
 // them as they are. Where a field stands in its record is said here alone: other crates of the library go by `Slot`, `Address` and `Fields`.
 ghost use Rattle.std.specs.Prelude.{◌≡◌, ◌+◌, ◌*◌, ◌^◌, ◌<◌, ◌≤◌, length, ltb, replicate, set, is_some};
 ghost use Rattle.tables.specs.Values.{triple};
