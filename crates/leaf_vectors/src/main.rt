@@ -83,7 +83,7 @@ fn sheet_a() -> [u16; SHEET_LENGTH] {
     sheet
 }
 
-// What some head bytes mean under a sheet: the kind and the argument (crates/heads/specs/Kinds.antt).
+// What some head bytes mean under a sheet: the kind and the argument (crates/heads/src/kinds.rt).
 fn show_heads(rt: &impl Print, sheet: &[u16], bytes: &[u8]) -> io::Result<()> {
     if let Some(heads) = decode(sheet) {
         for &byte in bytes {

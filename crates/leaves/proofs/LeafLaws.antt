@@ -14,7 +14,8 @@ use Rattle.stream.specs.declared.putint.Int.{Int}
 use Rattle.stream.specs.PutInt.{int_at}
 use Rattle.sheet.specs.Sheet.{word_bytes}
 use Rattle.heads.specs.Heads.{head_at, Heads}
-use Rattle.heads.specs.Kinds.{kind_number}
+use Rattle.heads.specs.declared.kinds.Kind.{Kind}
+use Rattle.heads.specs.declared.kinds.Kind.TheVariants.{Backref as BackrefKind, LegacyBackref, Hot, RootArray, RootConstant, ReadOnly, FixedRaw}
 use Rattle.tables.specs.declared.values.Ref.{Ref}
 use Rattle.tables.specs.declared.values.Ref.TheVariants.{Object, Root, RoRef}
 use Rattle.tables.specs.declared.values.SlotValue.{SlotValue}
@@ -42,13 +43,13 @@ abbrev one_word : Ref → ℕ → ℕ → Bool → Leaf
 one_word r next ts enters = record { value = IsRef r; width = ts; next = next; enters = enters }
 
 -- what is right in every sheet is right in one
-pub found_in : (w : Walker) (s : State) (at kind a : ℕ) (r : Option Leaf) → Found w.payload.now w.hot s.objects (word_bytes w.sheet.now) at kind a r → FoundIn w s at kind a r
+pub found_in : (w : Walker) (s : State) (at : ℕ) (kind : Kind) (a : ℕ) (r : Option Leaf) → Found w.payload.now w.hot s.objects (word_bytes w.sheet.now) at kind a r → FoundIn w s at kind a r
 found_in w s at kind a (Some r) f = λ tag. f w.sheet.now w.trusted.now w.spaces tag (moved_to at s) (lent_of w) refl refl refl
 found_in w s at kind a None f = tt
 
 -- what holds at a kind holds of what is that kind
-pub found_kind : (p : List ℕ) (hot : HotRing) (objects ts at a : ℕ) (r : Option Leaf) {kind key : ℕ} → kind ≡ key → Found p hot objects ts at key a r → Found p hot objects ts at kind a r
-found_kind p hot objects ts at a r e f = subst (λ (k : ℕ). Found p hot objects ts at k a r) (sym e) f
+pub found_kind : (p : List ℕ) (hot : HotRing) (objects ts at a : ℕ) (r : Option Leaf) {kind key : Kind} → kind ≡ key → Found p hot objects ts at key a r → Found p hot objects ts at kind a r
+found_kind p hot objects ts at a r e f = subst (λ (k : Kind). Found p hot objects ts at k a r) (sym e) f
 
 -- a reference is a slot of one word
 module _ (x : Input) (r : Ref) where
@@ -62,7 +63,7 @@ unfolding int
 int_got x m e = rw e
 
 -- a reference that was read so, as a leaf
-ref_stands : (x : Input) (tag kind a : ℕ) (s : State) (l : Lent) (r : Ref) (next ts : ℕ) (enters : Bool) → word x ≡ ts
+ref_stands : (x : Input) (tag : ℕ) (kind : Kind) (a : ℕ) (s : State) (l : Lent) (r : Ref) (next ts : ℕ) (enters : Bool) → word x ≡ ts
     → ((inner : Reader SlotValue) → got (IsRef r) (mem (moved_to next s) (hot_is (ring_with enters (IsRef r) l.hot) l)) ≡ by_head x inner tag kind a (mem s l))
     → Stands x tag kind a s l (one_word r next ts enters)
 ref_stands x tag kind a s l r next ts enters ew read =
@@ -72,34 +73,34 @@ narrow_words : {n w : ℕ} → n < 65536 → w ≤ 8 → n * w < 2 ^ 20
 narrow_words h l = let z = mul-le-mul (le_of_lt h) l in omega (arith, z)
 
 module _ (p : List ℕ) (hots : HotRing) (objects ts at : ℕ) where
-  pub root_found : (i : ℕ) → Found p hots objects ts at 10 i (Some (one_word (Root i) at ts false))
+  pub root_found : (i : ℕ) → Found p hots objects ts at RootConstant i (Some (one_word (Root i) at ts false))
   unfolding by_head
   root_found i v tr sp tag s l ew ea eo =
-      ref_stands (input v p sp tr) tag 10 i s (hot_is hots l) (Root i) at ts false ew (λ inner. rw (← ea))
+      ref_stands (input v p sp tr) tag RootConstant i s (hot_is hots l) (Root i) at ts false ew (λ inner. rw (← ea))
 
-  pub hot_found : (place : ℕ) {h : Option Ref} → h ≡ hot_at hots place → (r : Ref) → h ≡ Some r → Found p hots objects ts at 7 place (Some (one_word r at ts false))
+  pub hot_found : (place : ℕ) {h : Option Ref} → h ≡ hot_at hots place → (r : Ref) → h ≡ Some r → Found p hots objects ts at Hot place (Some (one_word r at ts false))
   unfolding by_head
   hot_found place e r k v tr sp tag s l ew ea eo =
-      ref_stands (input v p sp tr) tag 7 place s (hot_is hots l) r at ts false ew (λ inner. rw (← ea) (hot_is_lem (mem s (hot_is hots l)) place e k))
+      ref_stands (input v p sp tr) tag Hot place s (hot_is hots l) r at ts false ew (λ inner. rw (← ea) (hot_is_lem (mem s (hot_is hots l)) place e k))
 
-  pub back_found : (i : Int) (a : ℕ) → int_at p at ≡ Some i → i.value < objects → Found p hots objects ts at 2 a (Some (one_word (Object i.value) (at + i.count) ts true))
+  pub back_found : (i : Int) (a : ℕ) → int_at p at ≡ Some i → i.value < objects → Found p hots objects ts at BackrefKind a (Some (one_word (Object i.value) (at + i.count) ts true))
   unfolding by_head
   back_found i a e b v tr sp tag s l ew ea eo =
       let x = input v p sp tr in
       let m : Mem = mem s (hot_is hots l) in
       let g : got i.value (moved (s.at + i.count) m) ≡ int x m = int_got x m (ap (int_at p) ea ∙ e) in
-      ref_stands x tag 2 a s (hot_is hots l) (Object i.value) (at + i.count) ts true ew
+      ref_stands x tag BackrefKind a s (hot_is hots l) (Object i.value) (at + i.count) ts true ew
       (λ inner. rw (← ea) (then_got backref_to g (backref_in (moved (s.at + i.count) m) i.value (rw eo b))))
 
-  pub root_array_found : (i : Int) (a : ℕ) → int_at p at ≡ Some i → Found p hots objects ts at 9 a (Some (one_word (Root i.value) (at + i.count) ts true))
+  pub root_array_found : (i : Int) (a : ℕ) → int_at p at ≡ Some i → Found p hots objects ts at RootArray a (Some (one_word (Root i.value) (at + i.count) ts true))
   unfolding by_head
   root_array_found i a e v tr sp tag s l ew ea eo =
       let x = input v p sp tr in
       let m : Mem = mem s (hot_is hots l) in
       let g : got i.value (moved (s.at + i.count) m) ≡ int x m = int_got x m (ap (int_at p) ea ∙ e) in
-      ref_stands x tag 9 a s (hot_is hots l) (Root i.value) (at + i.count) ts true ew (λ inner. rw (← ea) (then_got (λ i. refers_hot (Root i)) g refl))
+      ref_stands x tag RootArray a s (hot_is hots l) (Root i.value) (at + i.count) ts true ew (λ inner. rw (← ea) (then_got (λ i. refers_hot (Root i)) g refl))
 
-  pub read_only_found : (c o : Int) (a : ℕ) → int_at p at ≡ Some c → int_at p (at + c.count) ≡ Some o → Found p hots objects ts at 12 a (Some (one_word (RoRef c.value o.value) (at + c.count + o.count) ts false))
+  pub read_only_found : (c o : Int) (a : ℕ) → int_at p at ≡ Some c → int_at p (at + c.count) ≡ Some o → Found p hots objects ts at ReadOnly a (Some (one_word (RoRef c.value o.value) (at + c.count + o.count) ts false))
   unfolding by_head
   read_only_found c o a e g v tr sp tag s l ew ea eo =
       let x = input v p sp tr in
@@ -107,10 +108,10 @@ module _ (p : List ℕ) (hots : HotRing) (objects ts at : ℕ) where
       let m₁ : Mem = moved (s.at + c.count) m in
       let q : got c.value m₁ ≡ int x m = int_got x m (ap (int_at p) ea ∙ e) in
       let q₁ : got o.value (moved (s.at + c.count + o.count) m₁) ≡ int x m₁ = int_got x m₁ (ap (λ (at : ℕ). int_at p (at + c.count)) ea ∙ g) in
-      ref_stands x tag 12 a s (hot_is hots l) (RoRef c.value o.value) (at + c.count + o.count) ts false ew
+      ref_stands x tag ReadOnly a s (hot_is hots l) (RoRef c.value o.value) (at + c.count + o.count) ts false ew
       (λ inner. rw (← ea) (then_got (λ c. λ m. _) q (then_got (λ o. refers (RoRef c.value o)) q₁ refl)))
 
-  pub raw_found : (n end : ℕ) → n < 65536 → raw_at p at (n * ts) ≡ Some end → Found p hots objects ts at 28 n (Some (record { value = IsRaw (record { off = at; len = n * ts; advances = true }); width = n * ts; next = end; enters = false }))
+  pub raw_found : (n end : ℕ) → n < 65536 → raw_at p at (n * ts) ≡ Some end → Found p hots objects ts at FixedRaw n (Some (record { value = IsRaw (record { off = at; len = n * ts; advances = true }); width = n * ts; next = end; enters = false }))
   unfolding by_head place_item
   raw_found n end low e v tr sp tag s l ew ea eo =
       let x = input v p sp tr in
@@ -124,18 +125,18 @@ answer_ok (Err q) r e = absurd (let z : ◌≡◌ {A = ℕ} 0 1 = cc in omega ar
 
 -- a legacy back-reference
 pub legacy_found : (w : Walker) (s : State) (ts at space : ℕ) {b : Answer} → ts ≡ word_bytes w.sheet.now → b ≡ backref_of w.sheet.now w.payload.now w.addresses.now s.addresses s.alignment space at → (r : Backref) → b ≡ Ok r
-    → FoundIn w s at 3 space (Some (one_word r.target r.next ts true))
+    → FoundIn w s at LegacyBackref space (Some (one_word r.target r.next ts true))
 unfolding by_head
 legacy_found w s ts at space {b} ew e r k tag =
-    ref_stands (input_of w) tag 3 space (moved_to at s) (lent_of w) r.target r.next ts true (sym ew) (λ inner. legacy_to (input_of w) space (mem (moved_to at s) (lent_of w)) e k)
+    ref_stands (input_of w) tag LegacyBackref space (moved_to at s) (lent_of w) r.target r.next ts true (sym ew) (λ inner. legacy_to (input_of w) space (mem (moved_to at s) (lent_of w)) e k)
 
 -- ---- a leaf as a reference
 
 -- a head at the cursor, read as a reference
 head_read : (w : Walker) (s : State) (l : Lent) (inner : Reader SlotValue) → Heads w.sheet.now w.heads.now → s.at < length w.payload.now → get_or w.payload.now s.at 0 < 256
-    → by_head (input_of w) inner s.at (kind_number (head_at w.heads.now (get_or w.payload.now s.at 0)).kind) (head_at w.heads.now (get_or w.payload.now s.at 0)).argument (mem (moved_to (s.at + 1) s) l) ≡ reference (input_of w) inner (mem s l)
+    → by_head (input_of w) inner s.at (head_at w.heads.now (get_or w.payload.now s.at 0)).kind (head_at w.heads.now (get_or w.payload.now s.at 0)).argument (mem (moved_to (s.at + 1) s) l) ≡ reference (input_of w) inner (mem s l)
 unfolding reference byte
-head_read w s l inner h b c = rw (lt-ltb s.at (length w.payload.now) b, h.kind (get_or w.payload.now s.at 0) c, h.argument (get_or w.payload.now s.at 0) c)
+head_read w s l inner h b c = rw (lt-ltb s.at (length w.payload.now) b, h.each (get_or w.payload.now s.at 0) c)
 
 module _ (w : Walker) (at objects : ℕ) (r : Leaf) (decoded : Heads w.sheet.now w.heads.now) (found : LeafAt w at objects (Some r)) where
   pub leaf_read : (inner : Reader SlotValue) (s : State) (l : Lent) → s.at ≡ at → s.objects ≡ objects → l.hot ≡ w.hot → got r.value (mem (after r s) (hot_is (ring r l.hot) l)) ≡ reference (input_of w) inner (mem s l)
@@ -161,8 +162,8 @@ slot_kept x o done s l r ew eb ez b es eo =
 
 -- a leaf at the cursor as an item of object o
 module _ (w : Walker) (s : State) (r : Leaf) (decoded : Heads w.sheet.now w.heads.now) (in_payload : s.at < length w.payload.now) (small : get_or w.payload.now s.at 0 < 256)
-    (found : FoundIn w s (s.at + 1) (kind_number (head_at w.heads.now (get_or w.payload.now s.at 0)).kind) (head_at w.heads.now (get_or w.payload.now s.at 0)).argument (Some r)) where
-  abbrev is : Stands (input_of w) s.at (kind_number (head_at w.heads.now (get_or w.payload.now s.at 0)).kind) (head_at w.heads.now (get_or w.payload.now s.at 0)).argument (moved_to (s.at + 1) s) (lent_of w) r
+    (found : FoundIn w s (s.at + 1) (head_at w.heads.now (get_or w.payload.now s.at 0)).kind (head_at w.heads.now (get_or w.payload.now s.at 0)).argument (Some r)) where
+  abbrev is : Stands (input_of w) s.at (head_at w.heads.now (get_or w.payload.now s.at 0)).kind (head_at w.heads.now (get_or w.payload.now s.at 0)).argument (moved_to (s.at + 1) s) (lent_of w) r
   is = found s.at
 
   pub item_read : (o done : ℕ) (ot st : List ℕ) (hot : HotRing) → s.slots < room 6 w.slots.now → st ≡ written w.slots.now s.slots (slot_row o ((done + s.skip) / word_bytes w.sheet.now) (fields_of r.value) 0) → ot ≡ counted w.objects.now o → hot ≡ ring r w.hot → (inner : Reader SlotValue)

@@ -2,7 +2,7 @@
 use Rattle.std.specs.Prelude.{◌≡◌, Bool, true, List, ℕ, ◌+◌, ◌^◌, ◌<◌, ◌≤◌, length, get_or, Option, Some, None, IfSome}
 use Rattle.sheet.specs.Sheet.{word_bytes}
 use Rattle.heads.specs.Heads.{head_at, Heads}
-use Rattle.heads.specs.Kinds.{kind_number}
+use Rattle.heads.specs.declared.kinds.Kind.{Kind}
 use Rattle.tables.specs.declared.values.SlotValue.{SlotValue}
 use Rattle.tables.specs.declared.values.SlotValue.TheVariants.{Ref as IsRef}
 use Rattle.tables.specs.Values.{width_of}
@@ -34,7 +34,7 @@ after r s = moved_to r.next s
 
 -- a head of this kind, after which the cursor stands, is this leaf: it gives the leaf's value, whose width the leaf has, and which becomes a
 -- slot that does not wait
-pub record Stands (x : Input) (tag kind a : ℕ) (s : State) (l : Lent) (r : Leaf) : Type 0 where
+pub record Stands (x : Input) (tag : ℕ) (kind : Kind) (a : ℕ) (s : State) (l : Lent) (r : Leaf) : Type 0 where
   pub is : (inner : Reader SlotValue) → got r.value (mem (after r s) (hot_is (ring r l.hot) l)) ≡ by_head x inner tag kind a (mem s l)
   pub width : r.width ≡ width_of (word x) r.value
   pub narrow : word x ≤ 8 → r.width < 2 ^ 20
@@ -42,7 +42,7 @@ pub record Stands (x : Input) (tag kind a : ℕ) (s : State) (l : Lent) (r : Lea
   pub waits : 0 ≡ waits_of r.value
 
 -- where a leaf was found, it is right in every state with this cursor, ring and number of objects
-abbrev pub Found : List ℕ → HotRing → ℕ → ℕ → ℕ → ℕ → ℕ → Option Leaf → Type 0
+abbrev pub Found : List ℕ → HotRing → ℕ → ℕ → ℕ → Kind → ℕ → Option Leaf → Type 0
 Found p hot objects ts at kind a (Some r) =
     (v tr : List ℕ) (sp tag : ℕ) (s : State) (l : Lent) → word_bytes v ≡ ts → s.at ≡ at → s.objects ≡ objects → Stands (input v p sp tr) tag kind a s (hot_is hot l) r
 Found p hot objects ts at kind a None = Unit {0}
@@ -51,10 +51,10 @@ Found p hot objects ts at kind a None = Unit {0}
 abbrev pub LeafAt : Walker → ℕ → ℕ → Option Leaf → Type 0
 LeafAt w at objects r =
     IfSome r (λ _. (at < length w.payload.now) × (get_or w.payload.now at 0 < 256))
-    × Found w.payload.now w.hot objects (word_bytes w.sheet.now) (at + 1) (kind_number (head_at w.heads.now (get_or w.payload.now at 0)).kind) (head_at w.heads.now (get_or w.payload.now at 0)).argument r
+    × Found w.payload.now w.hot objects (word_bytes w.sheet.now) (at + 1) (head_at w.heads.now (get_or w.payload.now at 0)).kind (head_at w.heads.now (get_or w.payload.now at 0)).argument r
 
 -- the same of a leaf in one state: a legacy back-reference needs the address records
-abbrev pub FoundIn : Walker → State → ℕ → ℕ → ℕ → Option Leaf → Type 0
+abbrev pub FoundIn : Walker → State → ℕ → Kind → ℕ → Option Leaf → Type 0
 FoundIn w s at kind a (Some r) = (tag : ℕ) → Stands (input_of w) tag kind a (moved_to at s) (lent_of w) r
 FoundIn w s at kind a None = Unit {0}
 

@@ -7,7 +7,7 @@
 ghost use Rattle.std.specs.Prelude.{◌≡◌, List, ℕ, ◌+◌, ◌*◌, ◌^◌, ◌<◌, length, get_or, IfSome};
 ghost use Rattle.sheet.specs.Sheet.{word_bytes};
 ghost use Rattle.heads.specs.Heads.{head_at};
-ghost use Rattle.heads.specs.Kinds.{kind_number, backref, hot as hot_kind, root_array, read_only, fixed_raw, legacy_backref};
+ghost use Rattle.heads.specs.declared.kinds.Kind.TheVariants.{Backref, Hot, RootArray, ReadOnly, FixedRaw, LegacyBackref};
 ghost use Rattle.tables.specs.Records.{Countable};
 ghost use Rattle.tables.specs.declared.values.SlotValue.{SlotValue};
 ghost use Rattle.tables.specs.declared.values.SlotValue.TheVariants.{Ref as IsRef};
@@ -53,7 +53,7 @@ fn reference(r: Ref, next: usize, word: u64, enters: bool) -> Leaf
 // A reference at a place of the hot ring.
 #[inline(always)]
 fn hot_leaf(hot: &HotRing, place: usize, next: usize, word: u64) -> Option<Leaf>
-    ensures { (p : List ℕ) (objects : ℕ) → Found p hot.now objects word next hot_kind place result }
+    ensures { (p : List ℕ) (objects : ℕ) → Found p hot.now objects word next Hot place result }
 {
     if 8 <= place {
         return None;
@@ -66,7 +66,7 @@ fn hot_leaf(hot: &HotRing, place: usize, next: usize, word: u64) -> Option<Leaf>
 // do: a closure for the test would be no shorter.
 #[inline(always)]
 fn back_leaf(p: &[u8], at: usize, objects: usize, word: u64) -> Option<Leaf>
-    ensures { (hot : HotRing) (i : ℕ) → Found p.now hot objects word at backref i result }
+    ensures { (hot : HotRing) (i : ℕ) → Found p.now hot objects word at Backref i result }
 {
     let i = putint(p, at)?;
     if objects as u64 <= i.value as u64 {
@@ -78,7 +78,7 @@ fn back_leaf(p: &[u8], at: usize, objects: usize, word: u64) -> Option<Leaf>
 // A root by integer, which enters the ring.
 #[inline(always)]
 fn root_array_leaf(p: &[u8], at: usize, word: u64) -> Option<Leaf>
-    ensures { (hot : HotRing) (objects i : ℕ) → Found p.now hot objects word at root_array i result }
+    ensures { (hot : HotRing) (objects i : ℕ) → Found p.now hot objects word at RootArray i result }
 {
     let i = putint(p, at)?;
     Some(reference(Ref::Root(i.value as u64), at + i.count, word, true))
@@ -87,7 +87,7 @@ fn root_array_leaf(p: &[u8], at: usize, word: u64) -> Option<Leaf>
 // A read-only reference.
 #[inline(always)]
 fn read_only_leaf(p: &[u8], at: usize, word: u64) -> Option<Leaf>
-    ensures { (hot : HotRing) (objects i : ℕ) → Found p.now hot objects word at read_only i result }
+    ensures { (hot : HotRing) (objects i : ℕ) → Found p.now hot objects word at ReadOnly i result }
 {
     let chunk = putint(p, at)?;
     let next = at + chunk.count;
@@ -105,7 +105,7 @@ fn read_only_leaf(p: &[u8], at: usize, word: u64) -> Option<Leaf>
 #[inline(always)]
 fn raw_leaf(p: &[u8], at: usize, n: u64, word: u64) -> Option<Leaf>
     requires { n < 65536 }
-    ensures { (hot : HotRing) (objects : ℕ) → Found p.now hot objects word at fixed_raw n result }
+    ensures { (hot : HotRing) (objects : ℕ) → Found p.now hot objects word at FixedRaw n result }
 {
     let bytes = n.checked_mul(word)?;
     let next = raw(p, at, bytes as usize)?;
@@ -124,7 +124,7 @@ fn raw_leaf(p: &[u8], at: usize, n: u64, word: u64) -> Option<Leaf>
 // The leaf that a head begins, after which the cursor stands.
 #[inline(always)]
 fn leaf_of(w: &Walker, head: Head, at: usize, objects: usize) -> Option<Leaf>
-    ensures { Found w.now.payload.now w.now.hot objects (word_bytes w.now.sheet.now) at (kind_number head.kind) head.argument result }
+    ensures { Found w.now.payload.now w.now.hot objects (word_bytes w.now.sheet.now) at head.kind head.argument result }
 {
     let p = w.payload;
     let word = word_bytes(w.sheet);
@@ -152,7 +152,7 @@ pub fn leaf_at(w: &Walker, at: usize, objects: usize) -> Option<Leaf>
 #[inline(always)]
 fn legacy_leaf(w: &Walker, s: State, at: usize, space: u64) -> Option<Leaf>
     requires addressed { Addressed w.now s.addresses }
-    ensures { FoundIn w.now s at legacy_backref space result }
+    ensures { FoundIn w.now s at LegacyBackref space result }
 {
     let b = find_backref(w, s, space, at).ok()?;
     Some(reference(b.target, b.next, word_bytes(w.sheet), true))
@@ -162,7 +162,7 @@ fn legacy_leaf(w: &Walker, s: State, at: usize, space: u64) -> Option<Leaf>
 fn any_leaf(w: &Walker, s: State) -> Option<Leaf>
     requires addressed { Addressed w.now s.addresses }
     ensures there { IfSome result (λ _. (s.at < length w.now.payload.now) × (get_or w.now.payload.now s.at 0 < 256)) }
-    ensures found { FoundIn w.now s (s.at + 1) (kind_number (head_at w.now.heads.now (get_or w.now.payload.now s.at 0)).kind) (head_at w.now.heads.now (get_or w.now.payload.now s.at 0)).argument result }
+    ensures found { FoundIn w.now s (s.at + 1) (head_at w.now.heads.now (get_or w.now.payload.now s.at 0)).kind (head_at w.now.heads.now (get_or w.now.payload.now s.at 0)).argument result }
 {
     let head = w.head_at(s.at)?;
     match head.kind {

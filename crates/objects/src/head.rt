@@ -2,10 +2,10 @@
 
 ghost use Rattle.std.specs.Prelude.{true, false, ◌≡◌, ◌^◌, ◌<◌, IfSome, IsNone};
 ghost use Rattle.sheet.specs.Sheet.{usable};
-ghost use Rattle.heads.specs.Kinds.{kind_number, new_object};
+ghost use Rattle.heads.specs.declared.kinds.Kind.TheVariants.{NewObject as NewObjectKind};
 ghost use Rattle.readers.specs.Views.{mem, seen, Below};
 ghost use Rattle.readers.specs.Lent.{input_of, lent_of, Kept};
-ghost use Rattle.objects.specs.Head.{recording, opening, opens_at, NewAt};
+ghost use Rattle.objects.specs.Head.{recording, opening, OpensAt, NewAt};
 
 use heads::heads::Head;
 use heads::kinds::Kind;
@@ -27,8 +27,8 @@ pub struct NewObject {
 impl NewObject {
     // The new object that a head at a place begins.
     pub fn of(at: usize, head: Head) -> Option<NewObject>
-        ensures some { IfSome result (λ new. (kind_number head.kind ≡ new_object) × (new ≡ record { tag = at; space = head.argument })) }
-        ensures none { IsNone result → kind_number head.kind ≡ new_object → ⊥ }
+        ensures some { IfSome result (λ new. (head.kind ≡ NewObjectKind) × (new ≡ record { tag = at; space = head.argument })) }
+        ensures none { IsNone result → head.kind ≡ NewObjectKind → ⊥ }
     {
         if head.kind != Kind::NewObject {
             return None;
@@ -43,7 +43,7 @@ impl NewObject {
 // The new object whose head stands at a place.
 pub fn new_object_at(w: &Walker, at: usize) -> Option<NewObject>
     ensures some { IfSome result (NewAt w.now at) }
-    ensures none { IsNone result → opens_at w.now at ≡ false }
+    ensures none { IsNone result → OpensAt w.now at → ⊥ }
 {
     NewObject::of(at, w.head_at(at)?)
 }

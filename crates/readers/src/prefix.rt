@@ -1,6 +1,5 @@
 // What stands before another reference: chunk changes, alignment, weak and pointer prefixes, repeats.
 ghost use Rattle.std.specs.Prelude.{◌≡◌, List, ℕ, ◌-◌, ◌^◌, ◌<◌, get_or};
-ghost use Rattle.heads.specs.Kinds.{kind_number};
 ghost use Rattle.definition.specs.Slots.{add_value as addValue};
 ghost use Rattle.readers.specs.Views.{Lent, input, mem, seen};
 ghost use Rattle.readers.specs.Lent.{input_of, lent_of, Kept};
@@ -35,7 +34,7 @@ pub enum Prefix {
 #[tactic(auto, unfolding(definition::specs::Reference::by_head))]
 pub fn begin(w: &mut Walker, s: State, head: Head) -> Answer<Prefix>
     requires { (i : ℕ) → get_or w.old.alloc.cur i 0 < 2 ^ 32 - 1 }
-    ensures begins { (tag : ℕ) → Begins (input_of w.old) tag (kind_number head.kind) head.argument s (lent_of w.old) result (lent_of w.new) }
+    ensures begins { (tag : ℕ) → Begins (input_of w.old) tag head.kind head.argument s (lent_of w.old) result (lent_of w.new) }
     ensures kept { Kept w.old w.new }
 {
     let p = w.payload;

@@ -1,6 +1,6 @@
 // References that hold no other.
 ghost use Rattle.std.specs.Prelude.{◌≡◌, List, ℕ, ◌^◌, ◌<◌};
-ghost use Rattle.heads.specs.Kinds.{kind_number, hot_with_skip};
+ghost use Rattle.heads.specs.declared.kinds.Kind.TheVariants.{HotWithSkip};
 ghost use Rattle.definition.specs.Memory.{Reader};
 ghost use Rattle.backref.specs.Legacy.{backref_of};
 ghost use Rattle.definition.specs.Reference.{refers_hot, legacy_reference, raw_data, pending_reference, hot_place, by_head};
@@ -184,8 +184,8 @@ fn pending_ref(s: State) -> Answer<SlotValue>
 // shorter, and one `match` of these and the heads of `simple_ref` would ask the kind once more, for the amount.
 fn with_skip(w: &mut Walker, s: State, head: Head) -> Answer<SlotValue>
     requires addressed { Addressed w.old s.addresses × (s.skip < 2 ^ 63) }
-    requires place { kind_number head.kind ≡ hot_with_skip → head.argument < 8 }
-    ensures is { seen result (lent_of w.new) ≡ read_skipped (input_of w.old) (kind_number head.kind) head.argument (mem s (lent_of w.old)) }
+    requires place { head.kind ≡ HotWithSkip → head.argument < 8 }
+    ensures is { seen result (lent_of w.new) ≡ read_skipped (input_of w.old) head.kind head.argument (mem s (lent_of w.old)) }
     ensures kept { Kept w.old w.new }
 {
     let p = w.payload;
@@ -205,8 +205,8 @@ fn with_skip(w: &mut Walker, s: State, head: Head) -> Answer<SlotValue>
 #[tactic(auto, using(crate::proofs::SimpleLaws::target_grouped, crate::proofs::SimpleLaws::product_small), unfolding(definition::specs::Reference::by_head))]
 pub fn simple_ref(w: &mut Walker, s: State, tag: usize, head: Head) -> Answer<SlotValue>
     requires addressed { Addressed w.old s.addresses × (s.skip < 2 ^ 63) × (s.pending < 2 ^ 63) }
-    requires simple { Simple (kind_number head.kind) head.argument }
-    ensures is { (inner : Reader SlotValue) → seen result (lent_of w.new) ≡ by_head (input_of w.old) inner tag (kind_number head.kind) head.argument (mem s (lent_of w.old)) }
+    requires simple { Simple head.kind head.argument }
+    ensures is { (inner : Reader SlotValue) → seen result (lent_of w.new) ≡ by_head (input_of w.old) inner tag head.kind head.argument (mem s (lent_of w.old)) }
     ensures kept { Kept w.old w.new }
 {
     let p = w.payload;

@@ -1,9 +1,9 @@
 -- A weak reference to a leaf, as a reference within one, and its slot. Assumes nothing.
 use Rattle.std.specs.Prelude.{◌≡◌, refl, true, List, ℕ, ◌+◌, ◌/◌, ◌<◌, length, get_or}
-use Rattle.std.proofs.Common.{arith, sym, ◌∙◌, lt-ltb}
+use Rattle.std.proofs.Common.{arith, ◌∙◌, lt-ltb}
 use Rattle.sheet.specs.Sheet.{word_bytes}
-use Rattle.heads.specs.Heads.{head_at, Heads}
-use Rattle.heads.specs.Kinds.{kind_number, weak_prefix}
+use Rattle.heads.specs.Heads.{head_at, head_of, Heads}
+use Rattle.heads.specs.declared.kinds.Kind.TheVariants.{WeakPrefix}
 use Rattle.tables.specs.declared.values.Fields.{Fields}
 use Rattle.tables.specs.declared.values.SlotValue.{SlotValue}
 use Rattle.tables.specs.declared.values.SlotValue.TheVariants.{WeakRef}
@@ -24,11 +24,11 @@ use Rattle.leaves.proofs.LeafLaws.{leaf_read}
 use Rattle.weak_leaves.specs.Weak.{WeakAt}
 
 -- a weak prefix at the cursor, read as a reference
-weak_on : (w : Walker) (s : State) (l : Lent) (inner : Reader SlotValue) → Heads w.sheet.now w.heads.now → s.at < length w.payload.now → get_or w.payload.now s.at 0 < 256 → kind_number (head_at w.heads.now (get_or w.payload.now s.at 0)).kind ≡ weak_prefix
+weak_on : (w : Walker) (s : State) (l : Lent) (inner : Reader SlotValue) → Heads w.sheet.now w.heads.now → s.at < length w.payload.now → get_or w.payload.now s.at 0 < 256 → (head_at w.heads.now (get_or w.payload.now s.at 0)).kind ≡ WeakPrefix
     → and_then (inner (mem (moved_to (s.at + 1) s) l)) weak_of ≡ reference (input_of w) inner (mem s l)
 unfolding reference byte by_head
 weak_on w s l inner h b c k =
-    let e = sym (h.kind (get_or w.payload.now s.at 0) c) ∙ k in
+    let e : (head_of w.sheet.now (get_or w.payload.now s.at 0)).kind ≡ WeakPrefix = rw (h.each (get_or w.payload.now s.at 0) c) at k in
     rw (lt-ltb s.at (length w.payload.now) b, e)
 
 -- the state with one value record more
