@@ -184,7 +184,9 @@ fn views(rt: &impl Print) -> io::Result<()> {
     for k in 0..3 {
         match slots.raw_range(&payload, k) {
             Ok(view) => println!(rt; "view {} {}", view.offset, view.len)?,
-            Err(refusal) => println!(rt; "refused {} 0", refusal.number())?,
+            Err(refused) => {
+                println!(rt; "refused {} {}", refused.refusal.number(), refused.place)?
+            }
         }
     }
     Ok(())

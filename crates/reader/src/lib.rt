@@ -1,8 +1,8 @@
 // The reading half of a walk: the payload, borrowed, and a cursor in it.
 #![tactic(auto, using(std::proofs::lemmas::Bool::Decides::nat_tests), unfolding(stream::specs::Bytes::raw_at, stream::specs::PutInt::int_at))]
 
-ghost use Rattle.std.specs.Prelude.{◌≡◌, ◌+◌};
-ghost use Rattle.stream.specs.Bytes.{raw_at};
+ghost use Rattle.std.specs.Prelude.{◌≡◌, ◌+◌, OnSome};
+ghost use Rattle.stream.specs.Bytes.{raw_at, LiesAt};
 ghost use Rattle.stream.specs.PutInt.{int_at, Small};
 ghost use Rattle.reader.specs.Cursor.{byte_at, moved_to, past_byte, past_int, past_raw, bytes_of};
 
@@ -34,7 +34,10 @@ impl<'a> Reader<'a> {
 
     // The n bytes at the cursor, of the payload itself; none where they pass its end.
     pub fn view(self, n: usize) -> &'a [u8]
-        ensures { result.now ≡ bytes_of self.entry.payload.now self.entry.at n (raw_at self.entry.payload.now self.entry.at n) }
+        ensures bytes { let end = raw_at self.entry.payload.now self.entry.at n
+            in result.now ≡ bytes_of self.entry.payload.now self.entry.at n end }
+        ensures memory { let end = raw_at self.entry.payload.now self.entry.at n
+            in OnSome end (LiesAt result self.entry.payload self.entry.at) }
     {
         match raw(self.payload, self.at, n) {
             Some(end) => &self.payload[self.at..end],
