@@ -1,4 +1,5 @@
--- Bytes, little-endian numbers and raw ranges of a payload. Assumes nothing: these are definitions.
+-- Bytes, little-endian numbers and raw ranges of a payload. Assumes nothing: these are
+-- definitions.
 use denote.Ref.{Bor}
 use Rattle.std.specs.Prelude.{◌≡◌, Bool, true, false, List, ℕ, zero, suc, ◌+◌, ◌*◌, ◌^◌, length, get_or, ltb, Option, Some, None}
 
@@ -15,7 +16,8 @@ abbrev pub pick_range : Bool → Option ℕ → Option ℕ → Option ℕ
 pick_range true a b = a
 pick_range false a b = b
 
--- a raw range of n bytes at a cursor (`raw range` of document 01): where it ends; none where it passes the payload's end (refusal 7)
+-- where a raw range of n bytes at a cursor ends; none where it passes the payload's end
+-- (refusal 7)
 unfoldable pub raw_at : List ℕ → ℕ → ℕ → Option ℕ
 raw_at p at n = pick_range (ltb (length p) (at + n)) None (Some (at + n))
 
