@@ -4,7 +4,7 @@ ghost use Rattle.std.specs.Prelude.{◌≡◌, ℕ, ◌+◌, ◌*◌, ◌<◌, �
 ghost use Rattle.tables.specs.Records.{room};
 ghost use Rattle.address_index.specs.Layout.{capacity, Roomy};
 ghost use Rattle.address_index.specs.Links.{space_of, count_in, bucket_of, Lists, Chains, Linked};
-ghost use Rattle.address_index.specs.Entries.{EntryFits, IsEntry};
+ghost use Rattle.address_index.specs.Entries.{EntryFits, IsEntry, OffBucket, OffList, OffEntry};
 
 use crate::layout::{LISTED_SPACES, SEED, bucket, bucket_cell, capacity, link_cell, list_cell};
 use tables::records::address_at;
@@ -27,7 +27,8 @@ pub struct Entry {
 // How many records a space has, where it has a list.
 pub fn listed(index: &[u64], space: u64) -> usize
     requires { 8 ≤ length index.now }
-    ensures { space < 8 → result ≡ get_or index.now space 0 }
+    ensures is { space < 8 → result ≡ get_or index.now space 0 }
+    ensures none { 8 ≤ space → result ≡ 0 }
 {
     if space < LISTED_SPACES {
         index[space as usize] as usize
@@ -62,8 +63,7 @@ pub fn entry_of(table: &[u64], index: &[u64], n: usize) -> Entry
 fn add_to_list(index: &mut [u64], n: usize, space: u64, number: usize)
     requires { Roomy n index.old × (space < 8) × (number ≤ n) }
     ensures lists { (t : List ℕ) → space_of t n ≡ space → number ≡ count_in t space n → Lists t n (capacity (length index.old)) index.old → Lists t (n + 1) (capacity (length index.old)) index.new }
-    ensures chains { (t : List ℕ) (k seed : ℕ) → Chains t k (capacity (length index.old)) seed index.old → Chains t k (capacity (length index.old)) seed index.new }
-    ensures seed { get_or index.new 8 0 ≡ get_or index.old 8 0 }
+    ensures others { (x : ℕ) → OffList (capacity (length index.old)) space number x → get_or index.new x 0 ≡ get_or index.old x 0 }
 {
     let cell = list_cell(capacity(index.len()), space, number);
     index[cell] = n as u64;
@@ -74,8 +74,7 @@ fn add_to_list(index: &mut [u64], n: usize, space: u64, number: usize)
 fn add_to_bucket(index: &mut [u64], n: usize, bucket: usize)
     requires { Roomy n index.old × (bucket < capacity (length index.old) * 3) }
     ensures chains { (t : List ℕ) (seed : ℕ) → bucket ≡ bucket_of t (capacity (length index.old)) seed n → Chains t n (capacity (length index.old)) seed index.old → Chains t (n + 1) (capacity (length index.old)) seed index.new }
-    ensures lists { (t : List ℕ) (k : ℕ) → k ≤ capacity (length index.old) → Lists t k (capacity (length index.old)) index.old → Lists t k (capacity (length index.old)) index.new }
-    ensures seed { get_or index.new 8 0 ≡ get_or index.old 8 0 }
+    ensures others { (x : ℕ) → OffBucket (capacity (length index.old)) n bucket x → get_or index.new x 0 ≡ get_or index.old x 0 }
 {
     let r = capacity(index.len());
     let cell = bucket_cell(r, bucket);
@@ -86,7 +85,9 @@ fn add_to_bucket(index: &mut [u64], n: usize, bucket: usize)
 // Record n enters the index.
 pub fn add_entry(index: &mut [u64], n: usize, entry: Entry)
     requires { Roomy n index.old × EntryFits n index.old entry }
-    ensures { (t : List ℕ) → IsEntry t n index.old entry → Linked t n index.old → Linked t (n + 1) index.new }
+    ensures linked { (t : List ℕ) → IsEntry t n index.old entry → Linked t n index.old → Linked t (n + 1) index.new }
+    ensures seed { get_or index.new 8 0 ≡ get_or index.old 8 0 }
+    ensures others { (x : ℕ) → OffEntry n index.old entry x → get_or index.new x 0 ≡ get_or index.old x 0 }
 {
     add_to_bucket(index, n, entry.bucket);
     if entry.space < LISTED_SPACES {
