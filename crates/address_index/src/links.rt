@@ -1,5 +1,5 @@
-// A record enters the index of legacy addresses: at the end of its space's list, and as the newest of its bucket. In buckets and links records
-// are counted from 1. Table, index and n are separate arguments, since an `AddressIndex` asks for `Sorted` too.
+//! A record enters the index of legacy addresses: at the end of its space's list, and as the newest
+//! of its bucket. In buckets and links records are counted from 1. A `table` is the address table.
 ghost use Rattle.std.specs.Prelude.{◌≡◌, ℕ, ◌+◌, ◌*◌, ◌<◌, ◌≤◌, length, get_or, List, IsTrue, ◌↔◌};
 ghost use Rattle.tables.specs.Records.{room};
 ghost use Rattle.address_index.specs.Layout.{capacity, Roomy};
@@ -9,14 +9,15 @@ ghost use Rattle.address_index.specs.Entries.{EntryFits, IsEntry, OffBucket, Off
 use crate::layout::{LISTED_SPACES, SEED, bucket, bucket_cell, capacity, link_cell, list_cell};
 use tables::records::address_at;
 
-// The index has room for record n.
+/// Whether the index has room for record n.
 pub fn has_room(index: &[u64], n: usize) -> bool
     ensures { IsTrue result ↔ Roomy n index.now }
 {
     n < capacity(index.len())
 }
 
-// What the index is to keep of a record: its space, its number in it where the space has a list, and its bucket.
+/// What the index is to keep of a record: its space; its number in it, from 0, where the space has
+/// a list, else 0; and its bucket.
 #[derive(Clone, Copy)]
 pub struct Entry {
     pub space: u64,
@@ -24,7 +25,7 @@ pub struct Entry {
     pub bucket: usize,
 }
 
-// How many records a space has, where it has a list.
+/// How many records the list of a space holds: 0 for a space without one.
 pub fn listed(index: &[u64], space: u64) -> usize
     requires { 8 ≤ length index.now }
     ensures is { space < 8 → result ≡ get_or index.now space 0 }
@@ -37,7 +38,7 @@ pub fn listed(index: &[u64], space: u64) -> usize
     }
 }
 
-// The bucket of address record i.
+/// The bucket of address record i.
 pub fn bucket_of(table: &[u64], index: &[u64], i: usize) -> usize
     requires { (i < room 5 table.now) × (0 < capacity (length index.now)) }
     ensures { (result ≡ bucket_of table.now (capacity (length index.now)) (get_or index.now 8 0) i) × (result < capacity (length index.now) * 3) }
@@ -46,7 +47,7 @@ pub fn bucket_of(table: &[u64], index: &[u64], i: usize) -> usize
     bucket(capacity(index.len()), index[SEED], a.space, a.into())
 }
 
-// The entry of record n of the address table.
+/// The entry of record n of the address table, before which the index holds the first n.
 pub fn entry_of(table: &[u64], index: &[u64], n: usize) -> Entry
     requires { (n < room 5 table.now) × Roomy n index.now × Linked table.now n index.now }
     ensures { IsEntry table.now n index.now result }
@@ -82,7 +83,8 @@ fn add_to_bucket(index: &mut [u64], n: usize, bucket: usize)
     index[cell] = n as u64 + 1;
 }
 
-// Record n enters the index.
+/// Record n enters the index. It changes no more than the bucket and the link, and where the space
+/// has a list the place in it and the count; so the seed stays.
 pub fn add_entry(index: &mut [u64], n: usize, entry: Entry)
     requires { Roomy n index.old × EntryFits n index.old entry }
     ensures linked { (t : List ℕ) → IsEntry t n index.old entry → Linked t n index.old → Linked t (n + 1) index.new }

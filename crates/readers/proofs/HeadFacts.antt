@@ -1,5 +1,5 @@
--- What every head has: the bounds of its argument by its kind, by one computed test over the order of heads; and which heads are simple.
--- Assumes nothing.
+-- What every head has: the bounds of its argument by its kind, by one computed test over the order
+-- of heads; and which heads are simple. Assumes nothing.
 use mathlib.Core.Path.{◌≡◌, refl}
 use mathlib.Core.Bool.{Bool, true, false, not, ◌&&◌, ◌||◌}
 use mathlib.Core.Logic.{⊎_elim}

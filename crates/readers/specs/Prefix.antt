@@ -1,4 +1,5 @@
--- What stands before another reference, as data: how the value that follows is held. Assumes nothing: these are definitions.
+-- What stands before another reference, as data: how the value that follows is held. Assumes
+-- nothing: these are definitions.
 use Rattle.std.specs.Prelude.{◌≡◌, ℕ, Ok, Err}
 use Rattle.refusals.specs.Numbers.{number_of}
 use Rattle.heads.specs.Kinds.{next_chunk, alignment, weak_prefix, pointer_prefix, fixed_repeat, fixed_repeat_root, variable_repeat, variable_repeat_root}
@@ -31,7 +32,8 @@ pub record Holdless (kind : ℕ) : Type 0 where
   pub no_count : kind ≡ variable_repeat → ⊥
   pub no_counted : kind ≡ variable_repeat_root → ⊥
 
--- what a prefix asks, after the reading of which the state is t: that of the reference whose inner reference r reads; or the head is no prefix
+-- what a prefix asks, after the reading of which the state is t: that of the reference whose inner
+-- reference r reads; or the head is no prefix
 abbrev pub Asks : Input → ℕ → ℕ → ℕ → State → Lent → Prefix → State → Lent → Type 0
 Asks x tag kind a s l (Inner h) t l' = (r : Reader SlotValue) → (r >>= held h) (mem t l') ≡ by_head x r tag kind a (mem s l)
 Asks x tag kind a s l (RootHeld h i) t l' = (r : Reader SlotValue) → held h (IsRef (Root i)) (mem t l') ≡ by_head x r tag kind a (mem s l)

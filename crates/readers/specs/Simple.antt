@@ -1,5 +1,5 @@
 -- What single heads read, and which heads are simple. Assumes nothing: these are definitions.
-use Rattle.std.specs.Prelude.{◌≡◌, Bool, true, false, ℕ, ◌^◌, ◌-◌, ◌<◌, eqb}
+use Rattle.std.specs.Prelude.{◌≡◌, ℕ, ◌^◌, ◌-◌, ◌<◌, eqb}
 use Rattle.heads.specs.Kinds.{new_object, legacy_backref_with_skip, hot, hot_with_skip, root_constant_with_skip, api}
 use Rattle.tables.specs.declared.values.Ref.TheVariants.{Root, RoRef}
 use Rattle.tables.specs.declared.values.SlotValue.{SlotValue}
@@ -7,10 +7,6 @@ use Rattle.sheet.specs.Sheet.{raw_advances}
 use Rattle.definition.specs.Memory.{Input, Reader, ◌>>=◌, ◌>>◌, choose, give, int}
 use Rattle.definition.specs.Reference.{skip_amount, refers, outside, refers_hot, backref_to, hot_place, legacy_reference, raw_data, raw_bytes}
 use Rattle.readers.specs.Prefix.{Holdless}
-
-abbrev pub pick_value : Bool → SlotValue → SlotValue → SlotValue
-pick_value true a b = a
-pick_value false a b = b
 
 -- a call may give the value f of what it is called with, and no other
 abbrev pub Makes : (ℕ → SlotValue) → (ℕ → SlotValue → Type 0) → Type 0

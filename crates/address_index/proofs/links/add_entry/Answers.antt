@@ -41,7 +41,7 @@ returns-then-entry-lt-LISTED_SPACES-clause-linked c =
     let e : capacity (length c.add_to_bucket.new.index) ≡ capacity (length a.index.now) = rw c.add_to_bucket.auto.index in
     λ t is linked _.
     let w = linked (omega (arith, q)) in
-    let before = lists_before (omega (arith, q)) (λ x l. b.others x (off_before _ _ _ x l)) w.lists in
+    let before : Lists t a.n (capacity (length a.index.now)) c.add_to_bucket.new.index = lists_before (omega (arith, q)) (λ x l. b.others x (off_before _ _ _ x l)) w.lists in
     let seed = l.others 8 (off_behind a.index.now a.n _ a.entry.space a.entry.number low small (rw e q) 8 (inl refl)) ∙ b.others 8 (off_before _ _ _ _ (omega arith)) in
     links_of a.index.now (c.add_to_list.auto.index ∙ c.add_to_bucket.auto.index) seed
     (subst (λ (r : ℕ). Lists t (a.n + 1) r c.add_to_list.new.index) e (l.lists t (sym is.space) (is.number low) (subst (λ (r : ℕ). Lists t a.n r c.add_to_bucket.new.index) (sym e) before)))
