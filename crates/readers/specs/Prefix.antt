@@ -1,4 +1,5 @@
--- What stands before another reference, as data: how the value that follows is held. Assumes nothing: these are definitions.
+-- What stands before another reference, as data: how the value that follows is held. Assumes
+-- nothing: these are definitions.
 use Rattle.std.specs.Prelude.{◌≡◌, ℕ, Ok, Err}
 use Rattle.refusals.specs.Numbers.{number_of}
 use Rattle.heads.specs.declared.kinds.Kind.{Kind}
@@ -32,7 +33,8 @@ pub record Holdless (kind : Kind) : Type 0 where
   pub no_count : kind ≡ VariableRepeat → ⊥
   pub no_counted : kind ≡ VariableRepeatRoot → ⊥
 
--- what a prefix asks, after the reading of which the state is t: that of the reference whose inner reference r reads; or the head is no prefix
+-- what a prefix asks, after the reading of which the state is t: that of the reference whose inner
+-- reference r reads; or the head is no prefix
 abbrev pub Asks : Input → ℕ → Kind → ℕ → State → Lent → Prefix → State → Lent → Type 0
 Asks x tag kind a s l (Inner h) t l' = (r : Reader SlotValue) → (r >>= held h) (mem t l') ≡ by_head x r tag kind a (mem s l)
 Asks x tag kind a s l (RootHeld h i) t l' = (r : Reader SlotValue) → held h (IsRef (Root i)) (mem t l') ≡ by_head x r tag kind a (mem s l)

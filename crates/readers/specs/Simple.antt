@@ -1,5 +1,5 @@
 -- What single heads read, and which heads are simple. Assumes nothing: these are definitions.
-use Rattle.std.specs.Prelude.{◌≡◌, Bool, true, false, ℕ, ◌^◌, ◌-◌, ◌<◌}
+use Rattle.std.specs.Prelude.{◌≡◌, ℕ, ◌^◌, ◌-◌, ◌<◌}
 use Rattle.heads.specs.declared.kinds.Kind.{Kind}
 use Rattle.heads.specs.declared.kinds.Kind.TheVariants.{NewObject, LegacyBackrefWithSkip, Hot, HotWithSkip, RootConstantWithSkip, Api}
 use Rattle.tables.specs.declared.values.Ref.TheVariants.{Root, RoRef}
@@ -8,10 +8,6 @@ use Rattle.sheet.specs.Sheet.{raw_advances}
 use Rattle.definition.specs.Memory.{Input, Reader, ◌>>=◌, ◌>>◌, give, int}
 use Rattle.definition.specs.Reference.{skip_amount, refers, outside, refers_hot, backref_to, hot_place, legacy_reference, raw_data, raw_bytes}
 use Rattle.readers.specs.Prefix.{Holdless}
-
-abbrev pub pick_value : Bool → SlotValue → SlotValue → SlotValue
-pick_value true a b = a
-pick_value false a b = b
 
 -- a call may give the value f of what it is called with, and no other
 abbrev pub Makes : (ℕ → SlotValue) → (ℕ → SlotValue → Type 0) → Type 0
