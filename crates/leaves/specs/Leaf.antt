@@ -1,15 +1,15 @@
 -- A reference that holds no other, read without the readers of every reference. Assumes nothing: these are definitions.
-use Rattle.std.specs.Prelude.{◌≡◌, Bool, true, List, ℕ, ◌+◌, ◌^◌, ◌<◌, ◌≤◌, length, get_or, Option, Some, None, IfSome}
+use Rattle.std.specs.Prelude.{◌≡◌, Bool, true, ◌||◌, eqb, List, ℕ, ◌+◌, ◌^◌, ◌<◌, ◌≤◌, length, get_or, Option, Some, None, IfSome}
 use Rattle.sheet.specs.Sheet.{word_bytes}
 use Rattle.heads.specs.Heads.{head_at, Heads}
-use Rattle.heads.specs.Kinds.{kind_number}
+use Rattle.heads.specs.Kinds.{kind_number, backref, hot as hot_kind, root_array, root_constant, read_only, fixed_raw}
 use Rattle.tables.specs.declared.values.SlotValue.{SlotValue}
 use Rattle.tables.specs.declared.values.SlotValue.TheVariants.{Ref as IsRef}
 use Rattle.tables.specs.Values.{width_of}
 use Rattle.address_index.specs.Links.{Linked}
 use Rattle.backref.specs.declared.hot_ring.HotRing.{HotRing}
 use Rattle.backref.specs.HotRing.{entered}
-use Rattle.definition.specs.Memory.{Input, word, Mem, got, Reader, ◌>>=◌}
+use Rattle.definition.specs.Memory.{Input, word, Mem, Out, got, no, Reader, ◌>>=◌}
 use Rattle.definition.specs.Slots.{waits_of, keep_item, place_item}
 use Rattle.definition.specs.Reference.{by_head}
 use Rattle.readers.specs.declared.state.State.{State}
@@ -47,11 +47,43 @@ Found p hot objects ts at kind a (Some r) =
     (v tr : List ℕ) (sp tag : ℕ) (s : State) (l : Lent) → word_bytes v ≡ ts → s.at ≡ at → s.objects ≡ objects → Stands (input v p sp tr) tag kind a s (hot_is hot l) r
 Found p hot objects ts at kind a None = Unit {0}
 
+-- a reader of the definition refused
+abbrev pub Refused : {A : Type 0} → Out A → Type 0
+Refused (got a m) = ⊥
+Refused (no n q m) = Unit {0}
+
+-- where none was found, the definition refuses in every such state
+abbrev pub Missing : List ℕ → HotRing → ℕ → ℕ → ℕ → ℕ → ℕ → Type 0
+Missing p hot objects ts at kind a =
+    (v tr : List ℕ) (sp tag : ℕ) (s : State) (l : Lent) (inner : Reader SlotValue) → word_bytes v ≡ ts → s.at ≡ at
+    → s.objects ≡ objects → Refused (by_head (input v p sp tr) inner tag kind a (mem s (hot_is hot l)))
+
+-- heads of these kinds begin what may be a leaf
+abbrev pub begins_leaf : ℕ → Bool
+begins_leaf kind =
+    eqb kind backref || eqb kind hot_kind || eqb kind root_array || eqb kind root_constant || eqb kind read_only || eqb kind fixed_raw
+
+-- the kind and the argument of the head byte at a place
+abbrev pub kind_at : Walker → ℕ → ℕ
+kind_at w at = kind_number (head_at w.heads.now (get_or w.payload.now at 0)).kind
+
+abbrev pub argument_at : Walker → ℕ → ℕ
+argument_at w at = (head_at w.heads.now (get_or w.payload.now at 0)).argument
+
+-- such a head stands at a place
+abbrev pub LeafByte : Walker → ℕ → Type 0
+LeafByte w at = ((at < length w.payload.now) × (get_or w.payload.now at 0 < 256)) × (begins_leaf (kind_at w at) ≡ true)
+
+-- the definition refuses what stands there
+abbrev pub NoLeafAt : Walker → ℕ → ℕ → Type 0
+NoLeafAt w at objects =
+    Missing w.payload.now w.hot objects (word_bytes w.sheet.now) (at + 1) (kind_at w at) (argument_at w at)
+
 -- the leaf that stands at a place, where the head byte there begins one
 abbrev pub LeafAt : Walker → ℕ → ℕ → Option Leaf → Type 0
 LeafAt w at objects r =
     IfSome r (λ _. (at < length w.payload.now) × (get_or w.payload.now at 0 < 256))
-    × Found w.payload.now w.hot objects (word_bytes w.sheet.now) (at + 1) (kind_number (head_at w.heads.now (get_or w.payload.now at 0)).kind) (head_at w.heads.now (get_or w.payload.now at 0)).argument r
+    × Found w.payload.now w.hot objects (word_bytes w.sheet.now) (at + 1) (kind_at w at) (argument_at w at) r
 
 -- the same of a leaf in one state: a legacy back-reference needs the address records
 abbrev pub FoundIn : Walker → State → ℕ → ℕ → ℕ → Option Leaf → Type 0
@@ -73,3 +105,8 @@ StaysInOrder w s None w' = lent_of w' ≡ lent_of w
 -- where the heads are the sheet's, what was read is what this reader of the definition reads, whatever the reader of inner references is
 abbrev pub ReadAs : {A : Type 0} → Walker → State → Walker → (Reader SlotValue → Reader A) → A × State → Type 0
 ReadAs w s w' F r = Heads w.sheet.now w.heads.now → (inner : Reader SlotValue) → got r.0 (mem r.1 (lent_of w')) ≡ F inner (mem s (lent_of w))
+
+-- where the heads are the sheet's, this reader of the definition refuses, whatever the reader of inner references is
+abbrev pub RefusedAs : {A : Type 0} → Walker → State → (Reader SlotValue → Reader A) → Type 0
+RefusedAs w s F =
+    Heads w.sheet.now w.heads.now → (inner : Reader SlotValue) → Refused (F inner (mem s (lent_of w)))

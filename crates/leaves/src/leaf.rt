@@ -4,7 +4,7 @@
 // the cursor stands. So both read these kinds: a leaf is looked for before its slot has room, with nothing changed, and by places alone;
 // read with a state, as those readers do it, real payloads took several times as long (docs/BENCHMARKS.md).
 
-ghost use Rattle.std.specs.Prelude.{◌≡◌, List, ℕ, ◌+◌, ◌*◌, ◌^◌, ◌<◌, length, get_or, IfSome};
+ghost use Rattle.std.specs.Prelude.{◌≡◌, List, ℕ, ◌+◌, ◌*◌, ◌^◌, ◌<◌, length, get_or, true, IfSome, IsNone};
 ghost use Rattle.sheet.specs.Sheet.{word_bytes};
 ghost use Rattle.heads.specs.Heads.{head_at};
 ghost use Rattle.heads.specs.Kinds.{kind_number, backref, hot as hot_kind, root_array, read_only, fixed_raw, legacy_backref};
@@ -14,7 +14,7 @@ ghost use Rattle.tables.specs.declared.values.SlotValue.TheVariants.{Ref as IsRe
 ghost use Rattle.backref.specs.declared.hot_ring.HotRing.{HotRing};
 ghost use Rattle.definition.specs.Reference.{reference as referenceOf};
 ghost use Rattle.readers.specs.Lent.{input_of, Kept, Addressed};
-ghost use Rattle.leaves.specs.Leaf.{Found, LeafAt, FoundIn, StaysInOrder, ReadAs, slot_in, ring_with};
+ghost use Rattle.leaves.specs.Leaf.{Found, Missing, LeafAt, LeafByte, NoLeafAt, begins_leaf, RefusedAs, FoundIn, StaysInOrder, ReadAs, slot_in, ring_with};
 
 use backref::hot_ring::HotRing;
 use heads::heads::Head;
@@ -51,14 +51,13 @@ fn reference(r: Ref, next: usize, word: u64, enters: bool) -> Leaf
 }
 
 // A reference at a place of the hot ring.
+#[tactic(auto, unfolding(backref::specs::HotRing::hot_at))]
 #[inline(always)]
 fn hot_leaf(hot: &HotRing, place: usize, next: usize, word: u64) -> Option<Leaf>
-    ensures { (p : List ℕ) (objects : ℕ) → Found p hot.now objects word next hot_kind place result }
+    ensures some { (p : List ℕ) (objects : ℕ) → Found p hot.now objects word next hot_kind place result }
+    ensures none { IsNone result → (p : List ℕ) (objects : ℕ) → Missing p hot.now objects word next hot_kind place }
 {
-    if 8 <= place {
-        return None;
-    }
-    let r = hot.get(place)?;
+    let r = (*hot.places.get(place)?)?;
     Some(reference(r, next, word, false))
 }
 
@@ -66,7 +65,8 @@ fn hot_leaf(hot: &HotRing, place: usize, next: usize, word: u64) -> Option<Leaf>
 // do: a closure for the test would be no shorter.
 #[inline(always)]
 fn back_leaf(p: &[u8], at: usize, objects: usize, word: u64) -> Option<Leaf>
-    ensures { (hot : HotRing) (i : ℕ) → Found p.now hot objects word at backref i result }
+    ensures some { (hot : HotRing) (i : ℕ) → Found p.now hot objects word at backref i result }
+    ensures none { IsNone result → (hot : HotRing) (i : ℕ) → Missing p.now hot objects word at backref i }
 {
     let i = putint(p, at)?;
     if objects as u64 <= i.value as u64 {
@@ -78,7 +78,8 @@ fn back_leaf(p: &[u8], at: usize, objects: usize, word: u64) -> Option<Leaf>
 // A root by integer, which enters the ring.
 #[inline(always)]
 fn root_array_leaf(p: &[u8], at: usize, word: u64) -> Option<Leaf>
-    ensures { (hot : HotRing) (objects i : ℕ) → Found p.now hot objects word at root_array i result }
+    ensures some { (hot : HotRing) (objects i : ℕ) → Found p.now hot objects word at root_array i result }
+    ensures none { IsNone result → (hot : HotRing) (objects i : ℕ) → Missing p.now hot objects word at root_array i }
 {
     let i = putint(p, at)?;
     Some(reference(Ref::Root(i.value as u64), at + i.count, word, true))
@@ -87,7 +88,8 @@ fn root_array_leaf(p: &[u8], at: usize, word: u64) -> Option<Leaf>
 // A read-only reference.
 #[inline(always)]
 fn read_only_leaf(p: &[u8], at: usize, word: u64) -> Option<Leaf>
-    ensures { (hot : HotRing) (objects i : ℕ) → Found p.now hot objects word at read_only i result }
+    ensures some { (hot : HotRing) (objects i : ℕ) → Found p.now hot objects word at read_only i result }
+    ensures none { IsNone result → (hot : HotRing) (objects i : ℕ) → Missing p.now hot objects word at read_only i }
 {
     let chunk = putint(p, at)?;
     let next = at + chunk.count;
@@ -104,10 +106,11 @@ fn read_only_leaf(p: &[u8], at: usize, word: u64) -> Option<Leaf>
 // Fixed raw data of n words.
 #[inline(always)]
 fn raw_leaf(p: &[u8], at: usize, n: u64, word: u64) -> Option<Leaf>
-    requires { n < 65536 }
-    ensures { (hot : HotRing) (objects : ℕ) → Found p.now hot objects word at fixed_raw n result }
+    requires { (n < 65536) × (word < 65536) }
+    ensures some { (hot : HotRing) (objects : ℕ) → Found p.now hot objects word at fixed_raw n result }
+    ensures none { IsNone result → (hot : HotRing) (objects : ℕ) → Missing p.now hot objects word at fixed_raw n }
 {
-    let bytes = n.checked_mul(word)?;
+    let bytes = n * word;
     let next = raw(p, at, bytes as usize)?;
     Some(Leaf {
         value: SlotValue::Raw(Raw {
@@ -124,7 +127,8 @@ fn raw_leaf(p: &[u8], at: usize, n: u64, word: u64) -> Option<Leaf>
 // The leaf that a head begins, after which the cursor stands.
 #[inline(always)]
 fn leaf_of(w: &Walker, head: Head, at: usize, objects: usize) -> Option<Leaf>
-    ensures { Found w.now.payload.now w.now.hot objects (word_bytes w.now.sheet.now) at (kind_number head.kind) head.argument result }
+    ensures some { Found w.now.payload.now w.now.hot objects (word_bytes w.now.sheet.now) at (kind_number head.kind) head.argument result }
+    ensures none { IsNone result → begins_leaf (kind_number head.kind) ≡ true → Missing w.now.payload.now w.now.hot objects (word_bytes w.now.sheet.now) at (kind_number head.kind) head.argument }
 {
     let p = w.payload;
     let word = word_bytes(w.sheet);
@@ -143,7 +147,8 @@ fn leaf_of(w: &Walker, head: Head, at: usize, objects: usize) -> Option<Leaf>
 // What stands at a place, where there are so many objects.
 #[inline(always)]
 pub fn leaf_at(w: &Walker, at: usize, objects: usize) -> Option<Leaf>
-    ensures { LeafAt w.now at objects result }
+    ensures some { LeafAt w.now at objects result }
+    ensures none { IsNone result → LeafByte w.now at → NoLeafAt w.now at objects }
 {
     leaf_of(w, w.head_at(at)?, at + 1, objects)
 }
@@ -187,6 +192,7 @@ pub fn enter(hot: &mut HotRing, leaf: Leaf)
 // A leaf at the cursor as a reference that is read.
 pub fn take_leaf(w: &mut Walker, s: State) -> Option<(SlotValue, State)>
     ensures read { IfSome result (ReadAs w.old s w.new (referenceOf (input_of w.old))) }
+    ensures none { IsNone result → LeafByte w.old s.at → RefusedAs w.old s (referenceOf (input_of w.old)) }
     ensures order { StaysInOrder w.old s result w.new }
     ensures kept { Kept w.old w.new }
 {
