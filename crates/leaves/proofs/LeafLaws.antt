@@ -14,7 +14,10 @@ use Rattle.stream.specs.declared.putint.Int.{Int}
 use Rattle.stream.specs.PutInt.{int_at}
 use Rattle.sheet.specs.Sheet.{word_bytes}
 use Rattle.heads.specs.Heads.{head_at, Heads}
+use Rattle.heads.specs.declared.kinds.Kind.{Kind}
+use Rattle.heads.specs.declared.kinds.Kind.TheVariants.{LegacyBackref}
 use Rattle.heads.specs.Kinds.{kind_number}
+use Rattle.std.proofs.Common.{rules}
 use Rattle.tables.specs.declared.values.Ref.{Ref}
 use Rattle.tables.specs.declared.values.Ref.TheVariants.{Object, Root, RoRef}
 use Rattle.tables.specs.declared.values.SlotValue.{SlotValue}
@@ -24,10 +27,11 @@ use Rattle.tables.specs.Records.{room, slot_row, written, counted}
 use Rattle.backref.specs.declared.hot_ring.HotRing.{HotRing}
 use Rattle.backref.specs.HotRing.{hot_at}
 use Rattle.backref.specs.declared.legacy.Backref.{Backref}
+use Rattle.backref.specs.declared.legacy.BackrefError.TheVariants.{Cut, Unknown}
 use Rattle.backref.specs.Legacy.{Answer, backref_of}
-use Rattle.definition.specs.Memory.{Input, word, Mem, Out, got, no, moved, int, byte, Reader}
+use Rattle.definition.specs.Memory.{Input, word, Mem, Out, got, no, and_then, has_room, table, moved, int, byte, Reader}
 use Rattle.definition.specs.Slots.{add_slot, waits_of, keep_item, place_item}
-use Rattle.definition.specs.Reference.{backref_to, refers, raw_data, refers_hot, by_head, reference}
+use Rattle.definition.specs.Reference.{backref_to, refers, raw_data, of_backref, legacy_reference, refers_hot, by_head, reference}
 use Rattle.readers.specs.declared.state.State.{State}
 use Rattle.readers.specs.declared.walker.Walker.{Walker}
 use Rattle.readers.specs.Views.{Lent, input, mem, hot_is, slots_is, objects_is, moved_to}
@@ -35,7 +39,7 @@ use Rattle.readers.specs.Lent.{input_of, lent_of}
 use Rattle.readers.proofs.ViewLaws.{then_got, then_no}
 use Rattle.readers.proofs.SimpleLaws.{backref_in, backref_past, hot_is_lem, legacy_to, raw_to}
 use Rattle.leaves.specs.declared.leaf.Leaf.{Leaf}
-use Rattle.leaves.specs.Leaf.{ring_with, ring, after, Stands, Found, Missing, Refused, LeafAt, NoLeafAt, FoundIn, slot_in}
+use Rattle.leaves.specs.Leaf.{ring_with, ring, after, Stands, Found, Missing, Refused, LeafAt, NoLeafAt, MissingIn, begins_leaf, begins_item, kind_at, argument_at, FoundIn, slot_in}
 
 -- a reference that is one word wide
 abbrev one_word : Ref → ℕ → ℕ → Bool → Leaf
@@ -172,6 +176,24 @@ module _ (p : List ℕ) (hots : HotRing) (objects ts at : ℕ) where
   unfolding by_head raw_data
   raw_missing n e v tr sp tag s l inner ew ea eo = let z : raw_at p s.at (n * word_bytes v) ≡ None = rw (ea, ew) e in rw z tt
 
+-- a legacy back-reference
+back_refused : (x : Input) (b : Answer) (m : Mem) → result_ok b ≡ None → Refused (of_backref x b m)
+back_refused x (Ok q) m e = absurd (let z : ◌≡◌ {A = ℕ} 0 1 = cc in omega arith)
+back_refused x (Err Cut) m e = tt
+back_refused x (Err (Unknown next)) m e = tt
+
+pub legacy_missing : (w : Walker) (s : State) (at space : ℕ) {b : Answer} → b ≡ backref_of w.sheet.now w.payload.now w.addresses.now s.addresses s.alignment space at → result_ok b ≡ None → MissingIn w s at 3 space
+unfolding by_head legacy_reference
+legacy_missing w s at space {b} e k tag inner = rw (← e) (back_refused (input_of w) b (mem (moved_to at s) (lent_of w)) k)
+
+-- what is missing in every sheet is missing in one
+pub missing_in : (w : Walker) (s : State) (at kind a : ℕ) → Missing w.payload.now w.hot s.objects (word_bytes w.sheet.now) at kind a → MissingIn w s at kind a
+missing_in w s at kind a f tag inner = f w.sheet.now w.trusted.now w.spaces tag (moved_to at s) (lent_of w) inner refl refl refl
+
+-- what begins an item and is no legacy back-reference begins a leaf
+pub item_leaf : (k : Kind) → (k ≡ LegacyBackref → ⊥) → begins_item (kind_number k) ≡ true → begins_leaf (kind_number k) ≡ true
+item_leaf k e b = search rules
+
 -- what an answer has, where it has something
 pub answer_ok : (b : Answer) (r : Backref) → result_ok b ≡ Some r → b ≡ Ok r
 answer_ok (Ok q) r e = let z : q ≡ r = cc in rw z
@@ -203,6 +225,15 @@ pub leaf_refused : (w : Walker) (s : State) → Heads w.sheet.now w.heads.now �
 leaf_refused w s decoded b f inner =
     subst (λ (o : Out SlotValue). Refused o) (head_read w s (lent_of w) inner decoded b.0 b.1) (f w.sheet.now w.trusted.now w.spaces s.at (moved_to (s.at + 1) s) (lent_of w) inner refl refl refl)
 
+-- a reader after one that was refused
+refused_then : {A B : Type 0} (o : Out A) (f : A → Reader B) → Refused o → Refused (and_then o f)
+refused_then (no n q m) f e = tt
+refused_then (got a m) f e = absurd e
+
+pub item_refused : (w : Walker) (s : State) (o done : ℕ) → Heads w.sheet.now w.heads.now → (s.at < length w.payload.now) × (get_or w.payload.now s.at 0 < 256) → MissingIn w s (s.at + 1) (kind_at w s.at) (argument_at w s.at) → (inner : Reader SlotValue) → Refused (slot_in (input_of w) (reference (input_of w) inner) o done (mem s (lent_of w)))
+item_refused w s o done decoded b f inner =
+    refused_then _ (place_item (input_of w) o done) (subst (λ (o : Out SlotValue). Refused o) (head_read w s (lent_of w) inner decoded b.0 b.1) (f s.at inner))
+
 -- ---- its slot
 
 -- the state after a leaf's slot
@@ -219,6 +250,10 @@ slot_kept x o done s l r ew eb ez b es eo =
     let z : s.waiting + 0 ≡ s.waiting = omega arith in
     rw (ew, ← ez, lt-ltb s.slots (room 6 l.slots) b, es, eo, z, eb)
 
+slot_full : (x : Input) (o done : ℕ) (v : SlotValue) (m : Mem) → has_room 6 m.slots ≡ false → no 3 m.at m ≡ keep_item x o done v m
+unfolding keep_item add_slot
+slot_full x o done v m b = rw b
+
 -- a leaf at the cursor as an item of object o
 module _ (w : Walker) (s : State) (r : Leaf) (decoded : Heads w.sheet.now w.heads.now) (in_payload : s.at < length w.payload.now) (small : get_or w.payload.now s.at 0 < 256)
     (found : FoundIn w s (s.at + 1) (kind_number (head_at w.heads.now (get_or w.payload.now s.at 0)).kind) (head_at w.heads.now (get_or w.payload.now s.at 0)).argument (Some r)) where
@@ -233,3 +268,11 @@ module _ (w : Walker) (s : State) (r : Leaf) (decoded : Heads w.sheet.now w.head
       let k : got (done + s.skip + r.width) (mem (stepped r s) (objects_is ot (slots_is st (hot_is (ring r w.hot) (lent_of w))))) ≡ keep_item (input_of w) o done r.value m =
       slot_kept (input_of w) o done s (hot_is (ring r w.hot) (lent_of w)) r refl is.width is.waits b es eo in
       rw eh (then_got (place_item (input_of w) o done) read (k ∙ is.kept o done m))
+
+  -- where its slot has no room, the item is refused
+  pub item_full : (o done : ℕ) → has_room 6 (table w.slots.now s.slots) ≡ false → (inner : Reader SlotValue) → Refused (slot_in (input_of w) (reference (input_of w) inner) o done (mem s (lent_of w)))
+  item_full o done b inner =
+      let m : Mem = mem (after r s) (hot_is (ring r w.hot) (lent_of w)) in
+      let read : got r.value m ≡ reference (input_of w) inner (mem s (lent_of w)) = is.is inner ∙ head_read w s (lent_of w) inner decoded in_payload small in
+      let k : no 3 m.at m ≡ place_item (input_of w) o done r.value m = slot_full (input_of w) o done r.value m b ∙ is.kept o done m in
+      refused (then_got (place_item (input_of w) o done) read k)

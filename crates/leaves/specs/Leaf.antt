@@ -2,7 +2,7 @@
 use Rattle.std.specs.Prelude.{◌≡◌, Bool, true, ◌||◌, eqb, List, ℕ, ◌+◌, ◌^◌, ◌<◌, ◌≤◌, length, get_or, Option, Some, None, IfSome}
 use Rattle.sheet.specs.Sheet.{word_bytes}
 use Rattle.heads.specs.Heads.{head_at, Heads}
-use Rattle.heads.specs.Kinds.{kind_number, backref, hot as hot_kind, root_array, root_constant, read_only, fixed_raw}
+use Rattle.heads.specs.Kinds.{kind_number, backref, hot as hot_kind, root_array, root_constant, read_only, fixed_raw, legacy_backref}
 use Rattle.tables.specs.declared.values.SlotValue.{SlotValue}
 use Rattle.tables.specs.declared.values.SlotValue.TheVariants.{Ref as IsRef}
 use Rattle.tables.specs.Values.{width_of}
@@ -17,6 +17,7 @@ use Rattle.readers.specs.declared.walker.Walker.{Walker}
 use Rattle.readers.specs.Views.{Lent, input, mem, hot_is, moved_to}
 use Rattle.readers.specs.Lent.{input_of, lent_of}
 use Rattle.objects.specs.Index.{Indexed}
+use Rattle.objects.specs.declared.item.Level.{Level}
 use Rattle.leaves.specs.declared.leaf.Leaf.{Leaf}
 
 -- the ring after a value that enters it, or does not; none but a reference does
@@ -89,6 +90,22 @@ LeafAt w at objects r =
 abbrev pub FoundIn : Walker → State → ℕ → ℕ → ℕ → Option Leaf → Type 0
 FoundIn w s at kind a (Some r) = (tag : ℕ) → Stands (input_of w) tag kind a (moved_to at s) (lent_of w) r
 FoundIn w s at kind a None = Unit {0}
+
+abbrev pub MissingIn : Walker → State → ℕ → ℕ → ℕ → Type 0
+MissingIn w s at kind a =
+    (tag : ℕ) (inner : Reader SlotValue) → Refused (by_head (input_of w) inner tag kind a (mem (moved_to at s) (lent_of w)))
+
+-- heads of these kinds begin what may be a leaf that is an item
+abbrev pub begins_item : ℕ → Bool
+begins_item kind = begins_leaf kind || eqb kind legacy_backref
+
+-- such a head stands at a place
+abbrev pub ItemByte : Walker → ℕ → Type 0
+ItemByte w at = ((at < length w.payload.now) × (get_or w.payload.now at 0 < 256)) × (begins_item (kind_at w at) ≡ true)
+
+-- the bytes read of an object, with those of any leaf, stay below 2^64
+abbrev pub RoomyItem : Walker → State → Level → Type 0
+RoomyItem w s level = (level.done + s.skip + 2 ^ 20 ≤ 2 ^ 64) × (word_bytes w.sheet.now ≤ 8)
 
 -- a reference as an item of object o, `done` bytes of which have been read
 abbrev pub slot_in : Input → Reader SlotValue → ℕ → ℕ → Reader ℕ

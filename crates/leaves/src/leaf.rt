@@ -14,7 +14,7 @@ ghost use Rattle.tables.specs.declared.values.SlotValue.TheVariants.{Ref as IsRe
 ghost use Rattle.backref.specs.declared.hot_ring.HotRing.{HotRing};
 ghost use Rattle.definition.specs.Reference.{reference as referenceOf};
 ghost use Rattle.readers.specs.Lent.{input_of, Kept, Addressed};
-ghost use Rattle.leaves.specs.Leaf.{Found, Missing, LeafAt, LeafByte, NoLeafAt, begins_leaf, RefusedAs, FoundIn, StaysInOrder, ReadAs, slot_in, ring_with};
+ghost use Rattle.leaves.specs.Leaf.{Found, Missing, LeafAt, LeafByte, NoLeafAt, begins_leaf, RefusedAs, ItemByte, RoomyItem, kind_at, argument_at, FoundIn, MissingIn, StaysInOrder, ReadAs, slot_in, ring_with};
 
 use backref::hot_ring::HotRing;
 use heads::heads::Head;
@@ -157,7 +157,8 @@ pub fn leaf_at(w: &Walker, at: usize, objects: usize) -> Option<Leaf>
 #[inline(always)]
 fn legacy_leaf(w: &Walker, s: State, at: usize, space: u64) -> Option<Leaf>
     requires addressed { Addressed w.now s.addresses }
-    ensures { FoundIn w.now s at legacy_backref space result }
+    ensures some { FoundIn w.now s at legacy_backref space result }
+    ensures none { IsNone result → MissingIn w.now s at legacy_backref space }
 {
     let b = find_backref(w, s, space, at).ok()?;
     Some(reference(b.target, b.next, word_bytes(w.sheet), true))
@@ -167,7 +168,8 @@ fn legacy_leaf(w: &Walker, s: State, at: usize, space: u64) -> Option<Leaf>
 fn any_leaf(w: &Walker, s: State) -> Option<Leaf>
     requires addressed { Addressed w.now s.addresses }
     ensures there { IfSome result (λ _. (s.at < length w.now.payload.now) × (get_or w.now.payload.now s.at 0 < 256)) }
-    ensures found { FoundIn w.now s (s.at + 1) (kind_number (head_at w.now.heads.now (get_or w.now.payload.now s.at 0)).kind) (head_at w.now.heads.now (get_or w.now.payload.now s.at 0)).argument result }
+    ensures found { FoundIn w.now s (s.at + 1) (kind_at w.now s.at) (argument_at w.now s.at) result }
+    ensures none { IsNone result → ItemByte w.now s.at → MissingIn w.now s (s.at + 1) (kind_at w.now s.at) (argument_at w.now s.at) }
 {
     let head = w.head_at(s.at)?;
     match head.kind {
@@ -207,6 +209,7 @@ pub fn take_leaf(w: &mut Walker, s: State) -> Option<(SlotValue, State)>
 pub fn place_leaf(w: &mut Walker, s: State, d: usize, level: Level) -> Option<(u64, State)>
     requires { Countable w.old.objects.now level.object × Addressed w.old s.addresses }
     ensures read { IfSome result (λ r. (d < 64) × ReadAs w.old s w.new (λ inner. slot_in (input_of w.old) (referenceOf (input_of w.old) inner) level.object level.done) r) }
+    ensures none { IsNone result → d < 64 → ItemByte w.old s.at → RoomyItem w.old s level → RefusedAs w.old s (λ inner. slot_in (input_of w.old) (referenceOf (input_of w.old) inner) level.object level.done) }
     ensures order { StaysInOrder w.old s result w.new }
     ensures kept { Kept w.old w.new }
 {
