@@ -71,7 +71,7 @@ unfolding int
 int_no x m e = rw e
 
 -- what the definition refuses
-refused : {A : Type 0} {n q : ℕ} {m : Mem} {o : Out A} → no n q m ≡ o → Refused o
+pub refused : {A : Type 0} {n q : ℕ} {m : Mem} {o : Out A} → no n q m ≡ o → Refused o
 refused e = rw (← e) tt
 
 -- a reference that was read so, as a leaf
@@ -226,7 +226,7 @@ leaf_refused w s decoded b f inner =
     subst (λ (o : Out SlotValue). Refused o) (head_read w s (lent_of w) inner decoded b.0 b.1) (f w.sheet.now w.trusted.now w.spaces s.at (moved_to (s.at + 1) s) (lent_of w) inner refl refl refl)
 
 -- a reader after one that was refused
-refused_then : {A B : Type 0} (o : Out A) (f : A → Reader B) → Refused o → Refused (and_then o f)
+pub refused_then : {A B : Type 0} (o : Out A) (f : A → Reader B) → Refused o → Refused (and_then o f)
 refused_then (no n q m) f e = tt
 refused_then (got a m) f e = absurd e
 
