@@ -221,9 +221,11 @@ module _ (w : Walker) (at objects : ℕ) (r : Leaf) (decoded : Heads w.sheet.now
       stands.is inner ∙ rw (← ea) (head_read w s l inner decoded (rw ea found.0.0) (rw ea found.0.1))
 
 -- where none stands, the definition refuses the reference
-pub leaf_refused : (w : Walker) (s : State) → Heads w.sheet.now w.heads.now → (s.at < length w.payload.now) × (get_or w.payload.now s.at 0 < 256) → NoLeafAt w s.at s.objects → (inner : Reader SlotValue) → Refused (reference (input_of w) inner (mem s (lent_of w)))
-leaf_refused w s decoded b f inner =
-    subst (λ (o : Out SlotValue). Refused o) (head_read w s (lent_of w) inner decoded b.0 b.1) (f w.sheet.now w.trusted.now w.spaces s.at (moved_to (s.at + 1) s) (lent_of w) inner refl refl refl)
+pub leaf_refused : (w : Walker) (s : State) (l : Lent) → l.hot ≡ w.hot → Heads w.sheet.now w.heads.now → (s.at < length w.payload.now) × (get_or w.payload.now s.at 0 < 256) → NoLeafAt w s.at s.objects → (inner : Reader SlotValue)
+    → Refused (reference (input_of w) inner (mem s l))
+leaf_refused w s l eh decoded b f inner =
+    let r = rw (← eh) at (f w.sheet.now w.trusted.now w.spaces s.at (moved_to (s.at + 1) s) l inner refl refl refl) in
+    subst (λ (o : Out SlotValue). Refused o) (head_read w s l inner decoded b.0 b.1) r
 
 -- a reader after one that was refused
 pub refused_then : {A B : Type 0} (o : Out A) (f : A → Reader B) → Refused o → Refused (and_then o f)

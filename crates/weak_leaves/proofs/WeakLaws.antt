@@ -35,7 +35,7 @@ weak_on w s l inner h b c k =
 pub weak_refused : (w : Walker) (s : State) (o done : ℕ) → Heads w.sheet.now w.heads.now → WeakByte w s.at → NoLeafAt w (s.at + 1) s.objects → (inner : Reader SlotValue)
     → Refused (slot_in (input_of w) (reference (input_of w) (reference (input_of w) inner)) o done (mem s (lent_of w)))
 weak_refused w s o done decoded b missing inner =
-    let r = leaf_refused w (moved_to (s.at + 1) s) decoded b.leaf.0 missing inner in
+    let r = leaf_refused w (moved_to (s.at + 1) s) (lent_of w) refl decoded b.leaf.0 missing inner in
     refused_then _ (place_item (input_of w) o done) (subst (λ (o : Out SlotValue). Refused o) (weak_on w s (lent_of w) (reference (input_of w) inner) decoded (omega (arith, b.leaf.0.0)) b.low b.weak) (refused_then _ weak_of r))
 
 -- the state with one value record more

@@ -9,4 +9,4 @@ returns-clause-read c =
     λ h inner. rw c.enter.ensures (leaf_read a.w.now a.s.at a.s.objects c.in_ok-leaf.leaf h c.in_ok-leaf.ensures.some inner a.s (lent_of a.w.now) refl refl refl)
 
 pub returns-in_err-leaf-clause-none : goal.returns-in_err-leaf-clause-none
-returns-in_err-leaf-clause-none c = λ none b h inner. leaf_refused c.args.w.now c.args.s h b.0 (c.in_err-leaf.ensures.none refl b) inner
+returns-in_err-leaf-clause-none c = λ none b h inner. leaf_refused c.args.w.now c.args.s (lent_of c.args.w.now) refl h b.0 (c.in_err-leaf.ensures.none refl b) inner
