@@ -1,4 +1,5 @@
--- A reference that holds no other, read without the readers of every reference. Assumes nothing: these are definitions.
+-- A reference that holds no other, read without the readers of every reference. Assumes nothing:
+-- these are definitions.
 use Rattle.std.specs.Prelude.{◌≡◌, Bool, true, ◌||◌, eqb, List, ℕ, ◌+◌, ◌^◌, ◌<◌, ◌≤◌, length, get_or, Option, Some, None, IfSome}
 use Rattle.sheet.specs.Sheet.{word_bytes}
 use Rattle.heads.specs.Heads.{head_at, Heads}
@@ -33,8 +34,8 @@ ring r hot = ring_with r.enters r.value hot
 abbrev pub after : Leaf → State → State
 after r s = moved_to r.next s
 
--- a head of this kind, after which the cursor stands, is this leaf: it gives the leaf's value, whose width the leaf has, and which becomes a
--- slot that does not wait
+-- a head of this kind, after which the cursor stands, is this leaf: it gives the leaf's value,
+-- whose width the leaf has, and which becomes a slot that does not wait
 pub record Stands (x : Input) (tag kind a : ℕ) (s : State) (l : Lent) (r : Leaf) : Type 0 where
   pub is : (inner : Reader SlotValue) → got r.value (mem (after r s) (hot_is (ring r l.hot) l)) ≡ by_head x inner tag kind a (mem s l)
   pub width : r.width ≡ width_of (word x) r.value
@@ -111,19 +112,21 @@ RoomyItem w s level = (level.done + s.skip + 2 ^ 20 ≤ 2 ^ 64) × (word_bytes w
 abbrev pub slot_in : Input → Reader SlotValue → ℕ → ℕ → Reader ℕ
 slot_in x r o done = r >>= place_item x o done
 
--- scratch that is in order stays so: the places of pending numbers, and the index of legacy addresses; where nothing is read, nothing is
--- changed
+-- scratch that is in order stays so: the places of pending numbers, and the index of legacy
+-- addresses; where nothing is read, nothing is changed
 abbrev pub StaysInOrder : {A : Type 0} → Walker → State → Option (A × State) → Walker → Type 0
 StaysInOrder w s (Some r) w' =
     (Indexed w.slots.now s.slots w.pending.now → Indexed w'.slots.now r.1.slots w'.pending.now)
     × (Linked w.addresses.now s.addresses w.index.now → Linked w'.addresses.now r.1.addresses w'.index.now)
 StaysInOrder w s None w' = lent_of w' ≡ lent_of w
 
--- where the heads are the sheet's, what was read is what this reader of the definition reads, whatever the reader of inner references is
+-- where the heads are the sheet's, what was read is what this reader of the definition reads,
+-- whatever the reader of inner references is
 abbrev pub ReadAs : {A : Type 0} → Walker → State → Walker → (Reader SlotValue → Reader A) → A × State → Type 0
 ReadAs w s w' F r = Heads w.sheet.now w.heads.now → (inner : Reader SlotValue) → got r.0 (mem r.1 (lent_of w')) ≡ F inner (mem s (lent_of w))
 
--- where the heads are the sheet's, this reader of the definition refuses, whatever the reader of inner references is
+-- where the heads are the sheet's, this reader of the definition refuses, whatever the reader of
+-- inner references is
 abbrev pub RefusedAs : {A : Type 0} → Walker → State → (Reader SlotValue → Reader A) → Type 0
 RefusedAs w s F =
     Heads w.sheet.now w.heads.now → (inner : Reader SlotValue) → Refused (F inner (mem s (lent_of w)))

@@ -1,5 +1,4 @@
 //! Objects within objects as levels of one loop, so that reading them takes no call for each.
 #![tactic(auto)]
 
-/// The levels around the object that is read.
 pub mod level;

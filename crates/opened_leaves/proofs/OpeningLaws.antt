@@ -39,7 +39,8 @@ by_outcome : (b : Bool) (t : Table) (a : ℕ) (c : LegacyAlloc) (k : ℕ) (m : M
 by_outcome true t a c k m e = (refl, (cc))
 by_outcome false t a c k m e = absurd (let z : ◌≡◌ {A = ℕ} 0 1 = cc in omega arith)
 
--- where an address was given, it is also given in every other memory with these addresses, this alignment and these counters
+-- where an address was given, it is also given in every other memory with these addresses, this
+-- alignment and these counters
 module _ (x : Input) (space bytes o : ℕ) (m : Mem) {m' : Mem} where
   carried : (b : Bool) → got tt m' ≡ choose b (allocate x space bytes o) (give tt) m
       → (m' ≡ allocated m' m) × ((n : Mem) → n.addresses ≡ m.addresses → n.alignment ≡ m.alignment → n.alloc ≡ m.alloc → got tt (allocated m' n) ≡ choose b (allocate x space bytes o) (give tt) n)

@@ -1,4 +1,5 @@
--- An object whose map is a leaf, opened without the readers of every reference. Assumes nothing: these are definitions.
+-- An object whose map is a leaf, opened without the readers of every reference. Assumes nothing:
+-- these are definitions.
 use Rattle.std.specs.Prelude.{◌≡◌, true, false, List, ℕ, ◌+◌, ◌*◌, ◌^◌, ◌<◌, Option, Some, None}
 use Rattle.stream.specs.PutInt.{int_at}
 use Rattle.sheet.specs.Sheet.{is_six_x, is_map_first, is_legacy}
@@ -21,8 +22,8 @@ opened x r space tag o =
     opening x space tag
     >>= (λ words. read_map x r space (words * word x) o >>= keep_map x o >> give (words * word x))
 
--- the size stands at the cursor and the map after it, a leaf that sets no flag; no byte of a large object stands between them, and nothing
--- but an allocation follows the map, no resolve either
+-- the size stands at the cursor and the map after it, a leaf that sets no flag; no byte of a large
+-- object stands between them, and nothing but an allocation follows the map, no resolve either
 pub record MapAt (w : Walker) (s : State) (words : ℕ) (map : Leaf) : Type 0 where
   pub no_large_byte : is_six_x w.sheet.now ≡ false
   pub not_first : is_map_first w.sheet.now ≡ false
@@ -32,7 +33,8 @@ pub record MapAt (w : Walker) (s : State) (words : ℕ) (map : Leaf) : Type 0 wh
   pub leaf : LeafAt w (s.at + count) (s.objects + 1) (Some map)
   pub unflagged : (sh q : List ℕ) (sp : ℕ) → flags (input sh q sp w.trusted.now) map.value ≡ false
 
--- the size stands at the cursor, and after it the head of what may be a leaf; nothing but the map follows, and no root is flagged
+-- the size stands at the cursor, and after it the head of what may be a leaf; nothing but the map
+-- follows, and no root is flagged
 pub record MapByte (w : Walker) (s : State) (count : ℕ) : Type 0 where
   pub no_large_byte : is_six_x w.sheet.now ≡ false
   pub not_first : is_map_first w.sheet.now ≡ false
@@ -42,7 +44,8 @@ pub record MapByte (w : Walker) (s : State) (count : ℕ) : Type 0 where
   pub leaf : LeafByte w (s.at + count)
   pub unflagged : (v : SlotValue) (sh q : List ℕ) (sp : ℕ) → flags (input sh q sp w.trusted.now) v ≡ false
 
--- in a legacy sheet an address record of object o, which is in the index then; in others nothing changes, and where it is refused neither
+-- in a legacy sheet an address record of object o, which is in the index then; in others nothing
+-- changes, and where it is refused neither
 pub record Given (w : Walker) (s : State) (space bytes o : ℕ) (t : State) (w' : Walker) : Type 0 where
   pub alone : AddressAlone w w'
   pub given : got tt (mem t (lent_of w')) ≡ choose (is_legacy w.sheet.now) (allocate (input_of w) space bytes o) (give tt) (mem s (lent_of w))

@@ -1,4 +1,4 @@
-// Objects whose map is a leaf, opened without the readers of every reference.
+//! Objects whose map is a leaf, with their head, their map and their address.
 
 ghost use Rattle.std.specs.Prelude.{true, false, ℕ, ◌≡◌, ◌+◌, ◌*◌, ◌^◌, ◌<◌, ◌≤◌, IfSome, IsNone};
 ghost use Rattle.sheet.specs.Sheet.{usable};
@@ -20,9 +20,9 @@ use stream::putint::putint;
 use tables::records::{OBJECT_FIELDS, SLOT_FIELDS, Slot, add_object, append_slot, has_room};
 use tables::values::Fields;
 
-// The size in words and the map of an object after whose head the cursor stands, where the map is a leaf that is not flagged. Where a large
-// object has a byte after its size, and where its map comes first, it is left to others. The address is `open_leaf`'s, and the resolves are
-// the caller's.
+// The size in words and the map of an object after whose head the cursor stands, where the map is a
+// leaf that the trusted list does not flag. Sheets in which a large object has a byte after its
+// size or the map comes before the address are left to the readers of every object.
 #[inline(always)]
 fn map_at(w: &Walker, s: State) -> Option<(u64, Leaf)>
     requires { s.objects < 2 ^ 63 }
@@ -40,8 +40,8 @@ fn map_at(w: &Walker, s: State) -> Option<(u64, Leaf)>
     Some((size.value as u64, map))
 }
 
-// In a legacy sheet an address record of object o of so many bytes; in others an object has none. Where it is refused, nothing is changed,
-// and the object is read again by the readers of every object, which say what is refused.
+// In a legacy sheet an address record of object o of so many bytes; in others an object has none.
+// Where it is refused, nothing is changed, and the readers of every object say which refusal it is.
 fn give_address(w: &mut Walker, s: State, space: u64, bytes: u64, o: u64) -> Option<State>
     requires { (usable w.old.sheet.now ≡ true) × (space < 256) × (bytes < 2 ^ 33) × Linked w.old.addresses.now s.addresses w.old.index.now }
     ensures { AddressGiven w.old s space bytes o result w.new }
@@ -53,8 +53,8 @@ fn give_address(w: &mut Walker, s: State, space: u64, bytes: u64, o: u64) -> Opt
     Some(t)
 }
 
-// There is room for one more object and one more slot. A function of the walker, since of a table that is lent by itself only the length is
-// known afterwards.
+// There is room for one more object and one more slot. The walker is only read here: of a table
+// that a call was lent, the proof knows the length alone.
 #[inline(always)]
 fn records_fit(w: &Walker, s: State) -> bool
     ensures fit { result ≡ true → (s.objects < room 4 w.now.objects.now) × (s.slots < room 6 w.now.slots.now) }
@@ -63,8 +63,14 @@ fn records_fit(w: &Walker, s: State) -> bool
     has_room(w.objects, OBJECT_FIELDS, s.objects) && has_room(w.slots, SLOT_FIELDS, s.slots)
 }
 
-// The object after whose head the cursor stands, with its map in slot 0 and its address: its bytes. None where `map_at` finds none, where a
-// record has no room or the address is refused, and at the last level, where a map is refused; then nothing is changed.
+/// Opens the object after whose head the cursor stands, at depth `d`, where its map is a leaf: its
+/// record, its map in slot 0 and its address. Gives its declared bytes, and the state after its
+/// map; resolves that follow are the caller's.
+///
+/// `None` only at depth 64, where no size with a leaf's head after it stands there, where a root is
+/// flagged, where a record has no room, where the definition refuses, and in legacy sheets; then
+/// nothing is changed. What the function finds in a legacy sheet is left free: there an address is
+/// given too, and the walk's answer is the same either way.
 #[inline(always)]
 pub fn open_leaf(w: &mut Walker, s: State, d: usize, new: NewObject) -> Option<(u64, State)>
     requires usable { (usable w.old.sheet.now ≡ true) × (new.space < 256) × (s.objects < 2 ^ 63) }

@@ -1,5 +1,5 @@
--- Objects within objects, as the loop of `parse_items` reads them: what is left to read at each level, and what holds at the head of the
--- loop. Assumes nothing.
+-- Objects within objects, as the loop of `parse_items` reads them: what is left to read at each
+-- level, and what holds at the head of the loop. Assumes nothing.
 use mathlib.Core.Path.{◌≡◌, refl, sym, ap, subst, ◌∙◌}
 use mathlib.Core.Bool.{true, false}
 use mathlib.Core.List.{List, [], ◌∷◌, ◌++◌}
@@ -46,7 +46,8 @@ use Rattle.walker.proofs.ReferenceLaws.{ref_object, space_low}
 
 -- ---- what is left to read
 
--- of the objects ls, the outermost of which stands at depth d, where a reference in the innermost gave this
+-- of the objects ls, the outermost of which stands at depth d, where a reference in the innermost
+-- gave this
 unfoldable pub resumed : Input → ℕ → List Level → Out SlotValue → Out SlotValue
 resumed x d [] u = u
 resumed x d (l ∷ ls) u = filled x (ref_at x (64 - d)) l (and_then (resumed x (suc d) ls u) (place_item x l.object l.done))
@@ -105,7 +106,8 @@ module _ (w₀ : Walker) (s₀ : State) (d : ℕ) (first : Level) where
   abbrev inner : Input → List Level → Reader SlotValue
   inner x ls = ref_at x (64 - (d + length ls))
 
-  -- the objects ls, the outermost first, around what gives this then: what is left to read gives what the whole gives
+  -- the objects ls, the outermost first, around what gives this then: what is left to read gives
+  -- what the whole gives
   pub record Inside (ls : List Level) (u : Input → Out SlotValue) (w : Walker) (t : State) : Type 0 where
     pub fixed : Fixed w₀ w
     pub ready : Ready w t

@@ -1,4 +1,5 @@
--- A weak reference to a leaf, read without the readers of every reference. Assumes nothing: these are definitions.
+-- A weak reference to a leaf, read without the readers of every reference. Assumes nothing: these
+-- are definitions.
 use Rattle.std.specs.Prelude.{◌≡◌, ℕ, ◌+◌, ◌<◌, length, get_or, Some}
 use Rattle.heads.specs.Heads.{head_at}
 use Rattle.heads.specs.Kinds.{kind_number, weak_prefix}
@@ -7,7 +8,8 @@ use Rattle.readers.specs.declared.walker.Walker.{Walker}
 use Rattle.leaves.specs.declared.leaf.Leaf.{Leaf}
 use Rattle.leaves.specs.Leaf.{LeafAt, LeafByte, kind_at}
 
--- a weak prefix stands at the cursor and the leaf after it; two levels below depth d a reference is not refused
+-- a weak prefix stands at the cursor and the leaf after it; two levels below depth d a reference is
+-- not refused
 pub record WeakAt (w : Walker) (s : State) (d : ℕ) (r : Leaf) : Type 0 where
   pub deep : d < 63
   pub there : (s.at < length w.payload.now) × (get_or w.payload.now s.at 0 < 256)
