@@ -78,7 +78,8 @@ pub record Loop (w₀ : Walker) (s₀ : State) (w : Walker) (s : State) : Type 0
   pub same : entries_left (input_of w) (mem s (lent_of w)) ≡ entries_left (input_of w₀) (mem s₀ (lent_of w₀))
   pub fixed : Fixed w₀ w
 
--- what is known of the answer to an entry that holds references: how the section goes on, and what stays in order
+-- what is known of the answer to an entry that holds references: how the section goes on, and what
+-- stays in order
 pub record Answered (w₀ : Walker) (s₀ : State) (w : Walker) (s : State) (r : Answer (Unit {0})) (w₁ : Walker) : Type 1 where
   pub same : after_entry (input_of w) (entries (input_of w) (length w.payload.now - s.at)) (seen r (lent_of w₁)) ≡ entries_left (input_of w₀) (mem s₀ (lent_of w₀))
   pub law : Law (input_of w) Reads (mem s (lent_of w)) (seen r (lent_of w₁))

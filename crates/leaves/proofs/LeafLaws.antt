@@ -16,27 +16,29 @@ use Rattle.sheet.specs.Sheet.{word_bytes}
 use Rattle.heads.specs.Heads.{head_at, Heads}
 use Rattle.heads.specs.declared.kinds.Kind.{Kind}
 use Rattle.heads.specs.declared.kinds.Kind.TheVariants.{Backref as BackrefKind, LegacyBackref, Hot, RootArray, RootConstant, ReadOnly, FixedRaw}
+use Rattle.std.proofs.Common.{rules}
 use Rattle.tables.specs.declared.values.Ref.{Ref}
 use Rattle.tables.specs.declared.values.Ref.TheVariants.{Object, Root, RoRef}
 use Rattle.tables.specs.declared.values.SlotValue.{SlotValue}
 use Rattle.tables.specs.declared.values.SlotValue.TheVariants.{Ref as IsRef, Raw as IsRaw}
 use Rattle.tables.specs.Values.{fields_of, width_of}
-use Rattle.tables.specs.Records.{room, slot_row, written, pick_table, counted, Put}
+use Rattle.tables.specs.Records.{room, slot_row, written, counted}
 use Rattle.backref.specs.declared.hot_ring.HotRing.{HotRing}
 use Rattle.backref.specs.HotRing.{hot_at}
 use Rattle.backref.specs.declared.legacy.Backref.{Backref}
+use Rattle.backref.specs.declared.legacy.BackrefError.TheVariants.{Cut, Unknown}
 use Rattle.backref.specs.Legacy.{Answer, backref_of}
-use Rattle.definition.specs.Memory.{Input, word, Mem, got, moved, int, byte, Reader}
+use Rattle.definition.specs.Memory.{Input, word, Mem, Out, got, no, and_then, has_room, table, moved, int, byte, Reader}
 use Rattle.definition.specs.Slots.{add_slot, waits_of, keep_item, place_item}
-use Rattle.definition.specs.Reference.{backref_to, refers, refers_hot, by_head, reference}
+use Rattle.definition.specs.Reference.{backref_to, refers, raw_data, of_backref, legacy_reference, refers_hot, by_head, reference}
 use Rattle.readers.specs.declared.state.State.{State}
 use Rattle.readers.specs.declared.walker.Walker.{Walker}
 use Rattle.readers.specs.Views.{Lent, input, mem, hot_is, slots_is, objects_is, moved_to}
 use Rattle.readers.specs.Lent.{input_of, lent_of}
-use Rattle.readers.proofs.ViewLaws.{then_got}
-use Rattle.readers.proofs.SimpleLaws.{backref_in, hot_is_lem, legacy_to, raw_to}
+use Rattle.readers.proofs.ViewLaws.{then_got, then_no}
+use Rattle.readers.proofs.SimpleLaws.{backref_in, backref_past, hot_is_lem, legacy_to, raw_to}
 use Rattle.leaves.specs.declared.leaf.Leaf.{Leaf}
-use Rattle.leaves.specs.Leaf.{ring_with, ring, after, Stands, Found, LeafAt, FoundIn, slot_in}
+use Rattle.leaves.specs.Leaf.{ring_with, ring, after, Stands, Found, Missing, Refused, LeafAt, NoLeafAt, MissingIn, begins_leaf, begins_item, kind_at, argument_at, FoundIn, slot_in}
 
 -- a reference that is one word wide
 abbrev one_word : Ref → ℕ → ℕ → Bool → Leaf
@@ -61,6 +63,15 @@ module _ (x : Input) (r : Ref) where
 int_got : (x : Input) (m : Mem) {i : Int} → int_at x.payload m.at ≡ Some i → got i.value (moved (m.at + i.count) m) ≡ int x m
 unfolding int
 int_got x m e = rw e
+
+-- an integer that is cut off
+int_no : (x : Input) (m : Mem) → int_at x.payload m.at ≡ None → no 4 (length x.payload) (moved (length x.payload) m) ≡ int x m
+unfolding int
+int_no x m e = rw e
+
+-- what the definition refuses
+pub refused : {A : Type 0} {n q : ℕ} {m : Mem} {o : Out A} → no n q m ≡ o → Refused o
+refused e = rw (← e) tt
 
 -- a reference that was read so, as a leaf
 ref_stands : (x : Input) (tag : ℕ) (kind : Kind) (a : ℕ) (s : State) (l : Lent) (r : Ref) (next ts : ℕ) (enters : Bool) → word x ≡ ts
@@ -118,6 +129,70 @@ module _ (p : List ℕ) (hots : HotRing) (objects ts at : ℕ) where
       let m : Mem = mem s (hot_is hots l) in
       record { is = λ inner. rw (← ea, ← ew) (raw_to x (n * word_bytes v) true m refl (rw (ea, ew) e)); width = refl; narrow = λ few. narrow_words low (rw ew at few); kept = λ o done m. refl; waits = refl }
 
+-- ---- where none is found
+
+missing_kind : (p : List ℕ) (hot : HotRing) (objects ts at a : ℕ) {kind key : Kind} → kind ≡ key → Missing p hot objects ts at key a → Missing p hot objects ts at kind a
+missing_kind p hot objects ts at a e f = subst (λ (k : Kind). Missing p hot objects ts at k a) (sym e) f
+
+module _ (p : List ℕ) (hots : HotRing) (objects ts at : ℕ) where
+  pub hot_missing : (place : ℕ) → hot_at hots place ≡ None → Missing p hots objects ts at Hot place
+  unfolding by_head
+  hot_missing place e v tr sp tag s l inner ew ea eo = rw e tt
+
+  pub back_cut : (a : ℕ) → int_at p at ≡ None → Missing p hots objects ts at BackrefKind a
+  unfolding by_head
+  back_cut a e v tr sp tag s l inner ew ea eo =
+      refused (then_no backref_to (int_no (input v p sp tr) (mem s (hot_is hots l)) (ap (int_at p) ea ∙ e)))
+
+  pub back_past : (i : Int) (a : ℕ) → int_at p at ≡ Some i → objects ≤ i.value → Missing p hots objects ts at BackrefKind a
+  unfolding by_head
+  back_past i a e b v tr sp tag s l inner ew ea eo =
+      let x = input v p sp tr in
+      let m : Mem = mem s (hot_is hots l) in
+      let g : got i.value (moved (s.at + i.count) m) ≡ int x m = int_got x m (ap (int_at p) ea ∙ e) in
+      refused (then_got backref_to g (backref_past (moved (s.at + i.count) m) i.value (rw eo b)))
+
+  pub root_array_cut : (a : ℕ) → int_at p at ≡ None → Missing p hots objects ts at RootArray a
+  unfolding by_head
+  root_array_cut a e v tr sp tag s l inner ew ea eo =
+      refused (then_no (λ i. refers_hot (Root i)) (int_no (input v p sp tr) (mem s (hot_is hots l)) (ap (int_at p) ea ∙ e)))
+
+  pub chunk_cut : (a : ℕ) → int_at p at ≡ None → Missing p hots objects ts at ReadOnly a
+  unfolding by_head
+  chunk_cut a e v tr sp tag s l inner ew ea eo =
+      refused (then_no (λ c. λ m. _) (int_no (input v p sp tr) (mem s (hot_is hots l)) (ap (int_at p) ea ∙ e)))
+
+  pub offset_cut : (c : Int) (a : ℕ) → int_at p at ≡ Some c → int_at p (at + c.count) ≡ None → Missing p hots objects ts at ReadOnly a
+  unfolding by_head
+  offset_cut c a e g v tr sp tag s l inner ew ea eo =
+      let x = input v p sp tr in
+      let m : Mem = mem s (hot_is hots l) in
+      let m₁ : Mem = moved (s.at + c.count) m in
+      let q : got c.value m₁ ≡ int x m = int_got x m (ap (int_at p) ea ∙ e) in
+      refused (then_got (λ c. λ m. _) q (then_no (λ o. refers (RoRef c.value o)) (int_no x m₁ (ap (λ (at : ℕ). int_at p (at + c.count)) ea ∙ g))))
+
+  pub raw_missing : (n : ℕ) → raw_at p at (n * ts) ≡ None → Missing p hots objects ts at FixedRaw n
+  unfolding by_head raw_data
+  raw_missing n e v tr sp tag s l inner ew ea eo = let z : raw_at p s.at (n * word_bytes v) ≡ None = rw (ea, ew) e in rw z tt
+
+-- a legacy back-reference
+back_refused : (x : Input) (b : Answer) (m : Mem) → result_ok b ≡ None → Refused (of_backref x b m)
+back_refused x (Ok q) m e = absurd (let z : ◌≡◌ {A = ℕ} 0 1 = cc in omega arith)
+back_refused x (Err Cut) m e = tt
+back_refused x (Err (Unknown next)) m e = tt
+
+pub legacy_missing : (w : Walker) (s : State) (at space : ℕ) {b : Answer} → b ≡ backref_of w.sheet.now w.payload.now w.addresses.now s.addresses s.alignment space at → result_ok b ≡ None → MissingIn w s at LegacyBackref space
+unfolding by_head legacy_reference
+legacy_missing w s at space {b} e k tag inner = rw (← e) (back_refused (input_of w) b (mem (moved_to at s) (lent_of w)) k)
+
+-- what is missing in every sheet is missing in one
+pub missing_in : (w : Walker) (s : State) (at : ℕ) (kind : Kind) (a : ℕ) → Missing w.payload.now w.hot s.objects (word_bytes w.sheet.now) at kind a → MissingIn w s at kind a
+missing_in w s at kind a f tag inner = f w.sheet.now w.trusted.now w.spaces tag (moved_to at s) (lent_of w) inner refl refl refl
+
+-- what begins an item and is no legacy back-reference begins a leaf
+pub item_leaf : (k : Kind) → (k ≡ LegacyBackref → ⊥) → begins_item k ≡ true → begins_leaf k ≡ true
+item_leaf k e b = search rules
+
 -- what an answer has, where it has something
 pub answer_ok : (b : Answer) (r : Backref) → result_ok b ≡ Some r → b ≡ Ok r
 answer_ok (Ok q) r e = let z : q ≡ r = cc in rw z
@@ -144,6 +219,22 @@ module _ (w : Walker) (at objects : ℕ) (r : Leaf) (decoded : Heads w.sheet.now
       let stands = rw (← eh) at (found.1 w.sheet.now w.trusted.now w.spaces s.at (moved_to (s.at + 1) s) l refl (ap (λ (i : ℕ). i + 1) ea) eo) in
       stands.is inner ∙ rw (← ea) (head_read w s l inner decoded (rw ea found.0.0) (rw ea found.0.1))
 
+-- where none stands, the definition refuses the reference
+pub leaf_refused : (w : Walker) (s : State) (l : Lent) → l.hot ≡ w.hot → Heads w.sheet.now w.heads.now → (s.at < length w.payload.now) × (get_or w.payload.now s.at 0 < 256) → NoLeafAt w s.at s.objects → (inner : Reader SlotValue)
+    → Refused (reference (input_of w) inner (mem s l))
+leaf_refused w s l eh decoded b f inner =
+    let r = rw (← eh) at (f w.sheet.now w.trusted.now w.spaces s.at (moved_to (s.at + 1) s) l inner refl refl refl) in
+    subst (λ (o : Out SlotValue). Refused o) (head_read w s l inner decoded b.0 b.1) r
+
+-- a reader after one that was refused
+pub refused_then : {A B : Type 0} (o : Out A) (f : A → Reader B) → Refused o → Refused (and_then o f)
+refused_then (no n q m) f e = tt
+refused_then (got a m) f e = absurd e
+
+pub item_refused : (w : Walker) (s : State) (o done : ℕ) → Heads w.sheet.now w.heads.now → (s.at < length w.payload.now) × (get_or w.payload.now s.at 0 < 256) → MissingIn w s (s.at + 1) (kind_at w s.at) (argument_at w s.at) → (inner : Reader SlotValue) → Refused (slot_in (input_of w) (reference (input_of w) inner) o done (mem s (lent_of w)))
+item_refused w s o done decoded b f inner =
+    refused_then _ (place_item (input_of w) o done) (subst (λ (o : Out SlotValue). Refused o) (head_read w s (lent_of w) inner decoded b.0 b.1) (f s.at inner))
+
 -- ---- its slot
 
 -- the state after a leaf's slot
@@ -160,6 +251,10 @@ slot_kept x o done s l r ew eb ez b es eo =
     let z : s.waiting + 0 ≡ s.waiting = omega arith in
     rw (ew, ← ez, lt-ltb s.slots (room 6 l.slots) b, es, eo, z, eb)
 
+slot_full : (x : Input) (o done : ℕ) (v : SlotValue) (m : Mem) → has_room 6 m.slots ≡ false → no 3 m.at m ≡ keep_item x o done v m
+unfolding keep_item add_slot
+slot_full x o done v m b = rw b
+
 -- a leaf at the cursor as an item of object o
 module _ (w : Walker) (s : State) (r : Leaf) (decoded : Heads w.sheet.now w.heads.now) (in_payload : s.at < length w.payload.now) (small : get_or w.payload.now s.at 0 < 256)
     (found : FoundIn w s (s.at + 1) (head_at w.heads.now (get_or w.payload.now s.at 0)).kind (head_at w.heads.now (get_or w.payload.now s.at 0)).argument (Some r)) where
@@ -175,6 +270,10 @@ module _ (w : Walker) (s : State) (r : Leaf) (decoded : Heads w.sheet.now w.head
       slot_kept (input_of w) o done s (hot_is (ring r w.hot) (lent_of w)) r refl is.width is.waits b es eo in
       rw eh (then_got (place_item (input_of w) o done) read (k ∙ is.kept o done m))
 
--- a record for which there is room is put
-pub room_put : {t : List ℕ} {n : ℕ} {row : List ℕ} {r : Bool} {after : List ℕ} → Put t n row r after → n < room (length row) t → after ≡ written t n row
-room_put {t} {n} {row} p b = p.table ∙ ap (λ b. pick_table b (written t n row) t) (lt-ltb n (room (length row) t) b)
+  -- where its slot has no room, the item is refused
+  pub item_full : (o done : ℕ) → has_room 6 (table w.slots.now s.slots) ≡ false → (inner : Reader SlotValue) → Refused (slot_in (input_of w) (reference (input_of w) inner) o done (mem s (lent_of w)))
+  item_full o done b inner =
+      let m : Mem = mem (after r s) (hot_is (ring r w.hot) (lent_of w)) in
+      let read : got r.value m ≡ reference (input_of w) inner (mem s (lent_of w)) = is.is inner ∙ head_read w s (lent_of w) inner decoded in_payload small in
+      let k : no 3 m.at m ≡ place_item (input_of w) o done r.value m = slot_full (input_of w) o done r.value m b ∙ is.kept o done m in
+      refused (then_got (place_item (input_of w) o done) read k)

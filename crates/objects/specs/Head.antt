@@ -1,5 +1,5 @@
--- An object's head, as the code reads it: the size in words is given back, and the object's number is the object count before. Assumes
--- nothing: these are definitions.
+-- An object's head, as the code reads it: the size in words is given back, and the object's number
+-- is the object count before. Assumes nothing: these are definitions.
 use Rattle.std.specs.Prelude.{◌≡◌, ℕ, ◌<◌, length, get_or}
 use Rattle.heads.specs.Heads.{head_at}
 use Rattle.heads.specs.declared.kinds.Kind.TheVariants.{NewObject as NewObjectKind}

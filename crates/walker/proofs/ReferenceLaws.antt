@@ -1,5 +1,5 @@
--- A reference at each of its ways out: what its head byte gives, what holds where an inner reference starts, and that heads that open no
--- object change no slot. Assumes nothing.
+-- A reference at each of its ways out: what its head byte gives, what holds where an inner
+-- reference starts, and that heads that open no object change no slot. Assumes nothing.
 use mathlib.Core.Path.{◌≡◌, refl, sym, ap, subst, ◌∙◌}
 use mathlib.Core.Bool.{Bool}
 use Prim.Native.Nat.{ℕ, suc, ◌+◌, ◌-◌, ◌^◌, ◌<◌, ◌≤◌}
@@ -248,7 +248,8 @@ module _ {w : Walker} {s : State} (g : Ready w s) {head : CodeHead} (r : HeadAt 
     head_indexed : {o : Out SlotValue} → o ≡ by_head (input_of w) (ref_at (input_of w) 0) s.at head.kind head.argument m → OutIndex o (scratch_of w)
     head_indexed q = idle_index m (scratch_of w) (order_moved (order_of g) r.inside).index q head-idle
 
-    -- an inner reference may start where a prefix has been read: with no levels left it is refused there
+    -- an inner reference may start where a prefix has been read: with no levels left it is refused
+    -- there
     inner_ready : (k : Held) (m' : Mem) → ((inner : Reader SlotValue) → (inner >>= held k) m' ≡ by_head (input_of w) inner s.at head.kind head.argument m) → InOrder (input_of w) w.heads.now m' (scratch_of w)
     unfolding ref_at
     inner_ready k m' q =
