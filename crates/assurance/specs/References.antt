@@ -1,13 +1,15 @@
 -- What the rules keep is kept by every reader, under a plain sheet: references. Assumes nothing.
-use Rattle.std.specs.Prelude.{◌≡◌, Bool, List, ltb, Option, Some, None}
+use Rattle.std.specs.Prelude.{◌≡◌, ◌≢◌, Bool, List, ltb, eqb, Option, Some, None}
 use Rattle.std.proofs.Math.Path.{refl}
-use Rattle.std.proofs.Math.Bool.{true}
+use Rattle.std.proofs.Math.Bool.{true, false}
 use Prim.Native.Nat.{ℕ, zero, suc, ◌+◌, ◌*◌, ◌-◌, ◌^◌, ◌<◌, ◌≤◌}
-use Rattle.std.proofs.Common.{arith, ltb-true}
+use Rattle.std.proofs.Common.{arith, ltb-true, eqb-true}
+use Rattle.std.proofs.lemmas.Bool.{eqb-false}
 use Rattle.std.proofs.Math.ListN.{length}
 use Rattle.stream.specs.Bytes.{raw_at}
 use Rattle.stream.proofs.ByteLaws.{Bytes}
 use Rattle.sheet.specs.Sheet.{raw_advances}
+use Rattle.heads.specs.Kinds.{new_object}
 use Rattle.heads.specs.Heads.{head, head_of}
 use Rattle.sheet.specs.Tests.{opens}
 use Rattle.tables.specs.declared.values.Ref.{Ref}
@@ -18,6 +20,7 @@ use Rattle.tables.specs.Values.{fields_of}
 use Rattle.backref.specs.HotRing.{hot_at}
 use Rattle.definition.specs.Memory.{◌>>=◌, Input, word, Mem, Reader, byte, int, moved, has_room}
 use Rattle.definition.specs.Slots.{add_value}
+use Rattle.definition.specs.Object.{object}
 use Rattle.definition.specs.Reference.{refers_hot, backref_to, of_hot, hot_place, outside, pending_reference, after_raw, raw_data, raw_bytes, weak_of, repeat_of, repeat_root, by_head, reference, ref_at}
 use Rattle.laws.specs.Leaves.{RawEnds, raw_ends}
 use Rattle.assurance.specs.PlainSheet.{PlainSheet, words_pos}
@@ -108,11 +111,11 @@ module _ (x : Input) (bytes : Bytes x.payload) (plainly : PlainSheet x.sheet) (I
     with_reference : (f : SlotValue → Reader SlotValue) → ((v : SlotValue) (m : Mem) → G S m → W m v → Gives (H S) (f v m)) → Reads (r >>= f)
     with_reference f k m g = gives_then (H S) (H S) (r m) f (has S m g) (λ v m h. k v m h.0 h.1)
 
-    head_has : (b tag kind a : ℕ) → PlainHead x.sheet b (head kind a) → (opens x.sheet b ≡ true → OpensAt x tag) → Reads (by_head x r tag kind a)
-    head_has b tag kind a p o =
+    other_has : (b tag kind a : ℕ) → PlainHead x.sheet b (head kind a) → kind ≢ new_object → Reads (by_head x r tag kind a)
+    other_has b tag kind a p n =
         by_kind x r tag kind a Reads p.kind
         (record {
-          new_object_lem = (λ e m g. object_has x bytes plainly I W rules r has S a tag m (o (p.new_object_lem e)) g);
+          new_object_lem = (λ e. absurd (n e));
           back_reference = with_number _ (back_has S);
           hot_place_lem = (λ e m g. hot_has S a m (p.place e) g);
           root_array_lem = with_number _ (λ i m h. enter_has S (Root i) tt m h (rules.on_root S m i h.1));
@@ -134,12 +137,26 @@ module _ (x : Input) (bytes : Bytes x.payload) (plainly : PlainSheet x.sheet) (I
           refusal = (λ n m g. refused (H S) _ _ _);
         })
 
+    open_head : (tag kind a : ℕ) (m : Mem) → kind ≡ new_object → by_head x r tag kind a m ≡ object x r a tag m
+    unfolding by_head
+    open_head tag kind a m e = rw e
+
+    -- a new object's head stands right before the cursor
+    head_has : (b tag kind a : ℕ) → PlainHead x.sheet b (head kind a) → (opens x.sheet b ≡ true → OpensAt x tag) → (m : Mem) → m.at ≡ tag + 1 → G S m → Gives (H S) (by_head x r tag kind a m)
+    head_has b tag kind a p o m at g = go (eqb kind new_object) refl
+      where
+        go : (t : Bool) → eqb kind new_object ≡ t → Gives (H S) (by_head x r tag kind a m)
+        go true e =
+            let k : kind ≡ new_object = eqb-true kind new_object e in
+            rw (open_head tag kind a m k) (object_has x bytes plainly I W rules r has S a tag m at (o (p.new_object_lem k)) g)
+        go false e = other_has b tag kind a p (eqb-false kind new_object e) m g
+
     pub reference_has : (m : Mem) → (m.at < length x.payload → G S (moved (m.at + 1) m)) → Gives (H S) (reference x r m)
     unfolding reference
     reference_has m g =
-        let Q : ℕ → Mem → Type 0 = λ b m'. (G S m') × (opens x.sheet b ≡ true → OpensAt x m.at) in
-        gives_then Q (H S) (byte x m) _ (byte_gives x Q m (λ l. (g l, λ e. (l, e))))
-        (λ b m' h. head_has b m.at (head_of x.sheet b).kind (head_of x.sheet b).argument (head_plain x.sheet plainly b) h.1 m' h.0)
+        let Q : ℕ → Mem → Type 0 = λ b m'. (G S m') × (m'.at ≡ m.at + 1) × (opens x.sheet b ≡ true → OpensAt x m.at) in
+        gives_then Q (H S) (byte x m) _ (byte_gives x Q m (λ l. (g l, refl, λ e. (l, e))))
+        (λ b m' h. head_has b m.at (head_of x.sheet b).kind (head_of x.sheet b).argument (head_plain x.sheet plainly b) h.2 m' h.1 h.0)
 
   -- THE THEOREM
   pub ref_has : (k : ℕ) (S : List Frame) (m : Mem) → G S m → Gives (H S) (ref_at x k m)
