@@ -28,7 +28,7 @@ use Rattle.alloc.specs.Allocation.{Outcome, outcome, pick_outcome, advance_of, p
 use Rattle.backref.specs.HotRing.{hot_at}
 use Rattle.backref.specs.declared.legacy.BackrefError.TheVariants.{Cut, Unknown}
 use Rattle.backref.specs.Legacy.{Answer, backref_of}
-use Rattle.definition.specs.Memory.{Input, word, Kept, in_map, in_slot, item, Mem, Out, got, no, Reader, and_then, ◌>>=◌, ◌>>◌, choose, give, change, refuse_at, moved, with_skip, aligned, tell, after_int, byte, int, has_room}
+use Rattle.definition.specs.Memory.{Input, word, Kept, in_map, in_slot, item, begins, Mem, Out, got, no, Reader, and_then, ◌>>=◌, ◌>>◌, choose, give, change, refuse_at, moved, with_skip, aligned, noted, tell, after_int, byte, int, has_room}
 use Rattle.definition.specs.Slots.{add_value, add_slot, resolved, waits_of, keep_item, previous, place_item}
 use Rattle.definition.specs.Object.{peek, add_object, large_byte, change_chunk, allocate, alignment_byte, chunk_changes, map_first, read_map, flags, flag_object, keep_map, resolves, items, body, object}
 use Rattle.definition.specs.Reference.{skip_amount, backref_to, of_hot, hot_place, of_backref, legacy_reference, pending_reference, after_raw, raw_data, repeat_of, repeat_root, by_head, reference, ref_at}
@@ -318,7 +318,7 @@ module _ (x : Input) where
   entries_known zero m = tt
   entries_known (suc n) m =
       pick (leb (length x.payload) m.at) _ _ m (λ _. pick (is_legacy x.sheet) _ _ m (λ _. tt) (λ _. omega arith))
-      (λ _. one_known (entries x n) (entries_known n) m (closing_of x.sheet (peek x m)) refl)
+      (λ _. one_known (entries x n) (entries_known n) (noted (begins m.at) m) (closing_of x.sheet (peek x m)) refl)
 
   padding_known : (n : ℕ) → R (padding x n)
   unfolding padding

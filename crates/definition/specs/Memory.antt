@@ -35,13 +35,15 @@ pub data Kept : Type 0 where
 
 -- what happens in a reading, for the words of demand 3: an object is opened (the place of its head, its declared words); raw data is
 -- passed (offset, length); an item of an object is read (the object, its first byte there, its width, its slot record); a value was read
--- (kind, a, b) and is kept; a resolve of a number stands after an object's map; kSynchronize ends the closing section (its place)
+-- (kind, a, b) and is kept; a resolve of a number stands after an object's map; an entry of the closing section begins (its place);
+-- kSynchronize ends that section (its place)
 pub data Event : Type 0 where
   opened : ℕ → ℕ → Event
   passed : ℕ → ℕ → Event
   item : ℕ → ℕ → ℕ → ℕ → Event
   value : Fields → Kept → Event
   resolve : ℕ → ℕ → Event
+  begins : ℕ → Event
   synchronize : ℕ → Event
 
 -- events are not recorded, or they are: these so far, the latest first

@@ -14,7 +14,7 @@ use Rattle.sheet.specs.declared.tests.Closing.TheVariants.{Synchronize, Alignmen
 use Rattle.sheet.specs.Tests.{closing_of}
 use Rattle.tables.specs.declared.values.SlotValue.{SlotValue}
 use Rattle.tables.specs.Values.{fields_of}
-use Rattle.definition.specs.Memory.{Input, dropped, value, Mem, Out, got, no, Reader, choose, give, refuse_at, tell, byte}
+use Rattle.definition.specs.Memory.{Input, dropped, value, begins, Mem, Out, got, no, Reader, choose, give, refuse_at, noted, tell, byte}
 use Rattle.definition.specs.Object.{peek}
 use Rattle.definition.specs.Reference.{ref_at}
 use Rattle.definition.specs.Closing.{entry, drop_reference, ends_legacy, after_entry, by_entry, entries, closing}
@@ -62,7 +62,7 @@ module _ (x : Input) (m : Mem) where
     left_cut y = rw (one_more, le-leb (length x.payload) m.at h, y)
 
   module _ (h : m.at < length x.payload) (e : Closing) (c : closing_of x.sheet (peek x m) ≡ e) where
-    left_by : by_entry x (entries x (length x.payload - m.at)) e m ≡ entries_left x m
+    left_by : by_entry x (entries x (length x.payload - m.at)) e (noted (begins m.at) m) ≡ entries_left x m
     unfolding entries
     left_by = rw (one_more, lt-leb (length x.payload) m.at h, c)
 

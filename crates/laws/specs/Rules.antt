@@ -19,7 +19,7 @@ use Rattle.alloc.specs.Allocation.{Outcome, allocate_of}
 use Rattle.backref.specs.HotRing.{entered, hot_at}
 use Rattle.backref.specs.declared.legacy.Backref.{Backref}
 use Rattle.backref.specs.Legacy.{backref_of}
-use Rattle.definition.specs.Memory.{Input, word, Kept as Place, in_map, in_slot, in_value, dropped, opened, passed, item, value, synchronize, Table, table, Mem, moved, with_objects, with_slots, with_values, with_hot, with_pending, with_skip, with_alloc, aligned, noted, added}
+use Rattle.definition.specs.Memory.{Input, word, Kept as Place, in_map, in_slot, in_value, dropped, opened, passed, item, value, begins, synchronize, Table, table, Mem, moved, with_objects, with_slots, with_values, with_hot, with_pending, with_skip, with_alloc, aligned, noted, added}
 use Rattle.definition.specs.Slots.{counted, resolved, waits_of, previous}
 use Rattle.definition.specs.Object.{peek, change_chunk, flags, flagged}
 use Rattle.laws.specs.Sound.{Sound}
@@ -175,6 +175,7 @@ pub record Rules (x : Input) (I : List Frame → Mem → Type 0) (W : Mem → Sl
       I (frame o size done ∷ S) (with_alloc (table r.table (m.addresses.count + 1)) r.alignment r.alloc m)
   -- the closing section; a fault may end it in legacy, with objects left open
   pub on_drop : (m : Mem) (v : SlotValue) → I [] m → W m v → I [] (noted (value (fields_of v) dropped) m)
+  pub on_begins : (m : Mem) → I [] m → I [] (noted (begins m.at) m)
   pub on_synchronize : (m : Mem) → I [] m → m.at < length x.payload → closing_of x.sheet (peek x m) ≡ Synchronize → I [] (noted (synchronize m.at) m)
   pub on_entry : (m : Mem) (o index : ℕ) (f : Fields) → Sound x m → is_legacy x.sheet ≡ true → I [] m → m.slots.count < room 6 m.slots.rows → I [] (with_slot o index f 0 in_slot m)
   pub on_fault : (S : List Frame) (m : Mem) → is_legacy x.sheet ≡ true → I S m → I [] m
