@@ -207,7 +207,8 @@ module _ {t : List ℕ} {n : ℕ} (s : Sorted t n) (space chunk offset : ℕ) wh
 
 -- ---- along the links of a bucket
 
--- the search may go on below a record, with what a number of the index names: no record from there on is at the address
+-- the search may go on below a record, with what a number of the index names: no record from there
+-- on is at the address
 pub record Walk (t : List ℕ) (n r seed space chunk offset below link : ℕ) : Type 0 where
   pub low : below ≤ n
   pub names : Names (bucket_of t r seed) (bucket r seed space chunk offset) below link

@@ -18,7 +18,8 @@ list_low r space k low l = go (eqb (space % 2) 0)
     go true = let z = mul-add-lt (space / 2) r k 4 half l in (omega arith, omega (arith, z))
     go false = let z = mul-add-lt (space / 2) r (r - 1 - k) 4 half (omega (arith, l)) in (omega arith, omega (arith, z))
 
--- two places of lists: of one space with two numbers, or of two spaces that together have no more records than there is room for
+-- two places of lists: of one space with two numbers, or of two spaces that together have no more
+-- records than there is room for
 pub list_apart : (r s k s' k' : ℕ) → k < r → k' < r → (s ≡ s' → k ≢ k') → (s ≢ s' → k + k' + 1 < r) → list_cell r s k ≢ list_cell r s' k'
 list_apart r s k s' k' l l' same other e = go (eqb (s % 2) 0) (eqb (s' % 2) 0) refl refl e
   where

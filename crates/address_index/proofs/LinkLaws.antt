@@ -6,6 +6,7 @@ use borrow.Author.Tests.{eq-eqb, ne_eqb}
 use Rattle.tables.specs.Records.{field}
 use Rattle.address_index.specs.Layout.{capacity, list_cell, bucket_cell, link_cell}
 use Rattle.address_index.specs.Links.{space_of, count_in, bucket_of, newest, Names, Lists, Chains, Links, Linked}
+use Rattle.address_index.specs.Entries.{OffBucket, OffList}
 use Rattle.address_index.specs.Numbered.{Numbered}
 use Rattle.address_index.proofs.CountLaws.{space_field, count_on, count_off, count_low, count_after, count_two, numbered_there}
 use Rattle.address_index.proofs.LayoutLaws.{list_low, list_apart}
@@ -91,12 +92,8 @@ module _ (ix : List ℕ) (n r b : ℕ) (low : b < r * 3) where
   abbrev pub chained : List ℕ
   chained = set linked_to (bucket_cell r b) (n + 1)
 
-  chained_else : (x : ℕ) → x ≢ link_cell r n → x ≢ bucket_cell r b → get_or chained x 0 ≡ get_or ix x 0
+  pub chained_else : (x : ℕ) → x ≢ link_cell r n → x ≢ bucket_cell r b → get_or chained x 0 ≡ get_or ix x 0
   chained_else x p q = get_or-set_other linked_to (bucket_cell r b) x (n + 1) 0 q ∙ get_or-set_other ix (link_cell r n) x _ 0 p
-
-  -- lists and seed lie before
-  pub chained_before : (x : ℕ) → x < 9 + r * 4 → get_or chained x 0 ≡ get_or ix x 0
-  chained_before x l = chained_else x (λ u. omega (arith, u, l)) (λ u. omega (arith, u, l))
 
   module _ (roomy : n < r) (fits : 9 + r * 8 ≤ length ix) where
     bucket_is : get_or chained (bucket_cell r b) 0 ≡ n + 1
@@ -123,6 +120,10 @@ module _ (ix : List ℕ) (n r b : ℕ) (low : b < r * 3) where
       pub chain_enters : Chains t (n + 1) r seed chained
       chain_enters = record { buckets = bucket_right; links = link_right }
 
+-- lists and seed lie before buckets and links
+pub off_before : (r n b x : ℕ) → x < 9 + r * 4 → OffBucket r n b x
+off_before r n b x l = record { off_bucket = λ u. omega (arith, u, l); off_link = λ u. omega (arith, u, l) }
+
 pub lists_before : {t ix ix' : List ℕ} {k r : ℕ} → k ≤ r → ((x : ℕ) → x < 9 + r * 4 → get_or ix' x 0 ≡ get_or ix x 0) → Lists t k r ix → Lists t k r ix'
 lists_before {t} {ix} {ix'} {k} {r} fits same w =
     record {
@@ -142,12 +143,17 @@ module _ (ix : List ℕ) (n r space k : ℕ) (low : space < 8) (small : k ≤ n)
   cell_lies : (9 ≤ list_cell r space k) × (list_cell r space k < 9 + r * 4)
   cell_lies = list_low r space k low (omega (arith, small, roomy))
 
-  listed_else : (x : ℕ) → x ≢ list_cell r space k → x ≢ space → get_or listed x 0 ≡ get_or ix x 0
+  pub listed_else : (x : ℕ) → x ≢ list_cell r space k → x ≢ space → get_or listed x 0 ≡ get_or ix x 0
   listed_else x p q = get_or-set_other placed space x (k + 1) 0 q ∙ get_or-set_other ix (list_cell r space k) x n 0 p
 
   -- buckets and links lie behind, and the seed between
-  pub listed_behind : (x : ℕ) → (x ≡ 8) ⊎ (9 + r * 4 ≤ x) → get_or listed x 0 ≡ get_or ix x 0
-  listed_behind x h = let z = cell_lies in listed_else x (λ u. ⊎_elim (λ a. omega (arith, a, u, z.0)) (λ a. omega (arith, a, u, z.1)) h) (λ u. ⊎_elim (λ a. omega (arith, a, u, low)) (λ a. omega (arith, a, u, low)) h)
+  pub off_behind : (x : ℕ) → (x ≡ 8) ⊎ (9 + r * 4 ≤ x) → OffList r space k x
+  off_behind x h =
+      let z = cell_lies in
+      record {
+        off_count = λ u. ⊎_elim (λ a. omega (arith, a, u, low)) (λ a. omega (arith, a, u, low)) h;
+        off_list = λ u. ⊎_elim (λ a. omega (arith, a, u, z.0)) (λ a. omega (arith, a, u, z.1)) h;
+      }
 
   module _ (fits : 9 + r * 8 ≤ length ix) where
     count_is : get_or listed space 0 ≡ k + 1

@@ -1,6 +1,6 @@
 -- What the index is to keep of a new record. Assumes nothing: these are definitions.
-use Rattle.std.specs.Prelude.{◌≡◌, List, ℕ, ◌*◌, ◌≤◌, ◌<◌, length, get_or}
-use Rattle.address_index.specs.Layout.{capacity}
+use Rattle.std.specs.Prelude.{◌≡◌, ◌≢◌, List, ℕ, ◌*◌, ◌≤◌, ◌<◌, length, get_or}
+use Rattle.address_index.specs.Layout.{capacity, list_cell, bucket_cell, link_cell}
 use Rattle.address_index.specs.Links.{space_of, count_in, bucket_of}
 use Rattle.address_index.specs.declared.links.Entry.{Entry}
 
@@ -14,4 +14,20 @@ pub record IsEntry (t : List ℕ) (n : ℕ) (index : List ℕ) (e : Entry) : Typ
   pub fits : EntryFits n index e
   pub space : e.space ≡ space_of t n
   pub number : e.space < 8 → e.number ≡ count_in t e.space n
+  pub unlisted : 8 ≤ e.space → e.number ≡ 0
   pub bucket : e.bucket ≡ bucket_of t (capacity (length index)) (get_or index 8 0) n
+
+-- place x is neither that of a bucket nor that of the link of record n
+pub record OffBucket (r n bucket x : ℕ) : Type 0 where
+  pub off_bucket : x ≢ bucket_cell r bucket
+  pub off_link : x ≢ link_cell r n
+
+-- it is neither that of the count of a space nor that of number k in its list
+pub record OffList (r space k x : ℕ) : Type 0 where
+  pub off_count : x ≢ space
+  pub off_list : x ≢ list_cell r space k
+
+-- it is none of those that record n with its entry takes: at most four numbers of the index
+pub record OffEntry (n : ℕ) (index : List ℕ) (e : Entry) (x : ℕ) : Type 0 where
+  pub off_bucket : OffBucket (capacity (length index)) n e.bucket x
+  pub off_list : e.space < 8 → OffList (capacity (length index)) e.space e.number x

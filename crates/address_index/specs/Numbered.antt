@@ -1,4 +1,5 @@
--- Records of a space by their numbers in it, and which of them lie after an address. Assumes nothing: these are definitions.
+-- Records of a space by their numbers in it, and which of them lie after an address. Assumes
+-- nothing: these are definitions.
 use Rattle.std.specs.Prelude.{◌≡◌, true, false, List, ℕ, ◌<◌, ◌≤◌}
 use Rattle.address_index.specs.Links.{space_of, count_in}
 use Rattle.address_index.specs.Sorted.{is_after}

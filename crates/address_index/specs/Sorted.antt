@@ -17,7 +17,8 @@ AtMost-prop chunk offset chunk' offset' (inl a) (inr b) = absurd (omega (arith, 
 AtMost-prop chunk offset chunk' offset' (inr a) (inl b) = absurd (omega (arith, a.0, b))
 AtMost-prop chunk offset chunk' offset' (inr a) (inr b) = ap inr (×_prop (ℕ_set chunk chunk') le_prop a b)
 
--- the addresses of the first n records do not fall within a space, and a space has counters for all of them or for none
+-- the addresses of the first n records do not fall within a space, and a space has counters for all
+-- of them or for none
 pub record Sorted (t : List ℕ) (n : ℕ) : Type 0 where
   pub rising : (i j : ℕ) → i < j → j < n → space_of t i ≡ space_of t j → AtMost (field 5 t i 1) (field 5 t i 2) (field 5 t j 1) (field 5 t j 2)
   pub alike : (i j : ℕ) → i < j → j < n → space_of t i ≡ space_of t j → field 5 t i 4 ≡ field 5 t j 4

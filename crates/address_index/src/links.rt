@@ -1,22 +1,23 @@
-// A record enters the index of legacy addresses: at the end of its space's list, and as the newest of its bucket. In buckets and links records
-// are counted from 1. Table, index and n are separate arguments, since an `AddressIndex` asks for `Sorted` too.
+//! A record enters the index of legacy addresses: at the end of its space's list, and as the newest
+//! of its bucket. In buckets and links records are counted from 1. A `table` is the address table.
 ghost use Rattle.std.specs.Prelude.{◌≡◌, ℕ, ◌+◌, ◌*◌, ◌<◌, ◌≤◌, length, get_or, List, IsTrue, ◌↔◌};
 ghost use Rattle.tables.specs.Records.{room};
 ghost use Rattle.address_index.specs.Layout.{capacity, Roomy};
 ghost use Rattle.address_index.specs.Links.{space_of, count_in, bucket_of, Lists, Chains, Linked};
-ghost use Rattle.address_index.specs.Entries.{EntryFits, IsEntry};
+ghost use Rattle.address_index.specs.Entries.{EntryFits, IsEntry, OffBucket, OffList, OffEntry};
 
 use crate::layout::{LISTED_SPACES, SEED, bucket, bucket_cell, capacity, link_cell, list_cell};
 use tables::records::address_at;
 
-// The index has room for record n.
+/// Whether the index has room for record n.
 pub fn has_room(index: &[u64], n: usize) -> bool
     ensures { IsTrue result ↔ Roomy n index.now }
 {
     n < capacity(index.len())
 }
 
-// What the index is to keep of a record: its space, its number in it where the space has a list, and its bucket.
+/// What the index is to keep of a record: its space; its number in it, from 0, where the space has
+/// a list, else 0; and its bucket.
 #[derive(Clone, Copy)]
 pub struct Entry {
     pub space: u64,
@@ -24,10 +25,11 @@ pub struct Entry {
     pub bucket: usize,
 }
 
-// How many records a space has, where it has a list.
+/// How many records the list of a space holds: 0 for a space without one.
 pub fn listed(index: &[u64], space: u64) -> usize
     requires { 8 ≤ length index.now }
-    ensures { space < 8 → result ≡ get_or index.now space 0 }
+    ensures is { space < 8 → result ≡ get_or index.now space 0 }
+    ensures none { 8 ≤ space → result ≡ 0 }
 {
     if space < LISTED_SPACES {
         index[space as usize] as usize
@@ -36,7 +38,7 @@ pub fn listed(index: &[u64], space: u64) -> usize
     }
 }
 
-// The bucket of address record i.
+/// The bucket of address record i.
 pub fn bucket_of(table: &[u64], index: &[u64], i: usize) -> usize
     requires { (i < room 5 table.now) × (0 < capacity (length index.now)) }
     ensures { (result ≡ bucket_of table.now (capacity (length index.now)) (get_or index.now 8 0) i) × (result < capacity (length index.now) * 3) }
@@ -45,7 +47,7 @@ pub fn bucket_of(table: &[u64], index: &[u64], i: usize) -> usize
     bucket(capacity(index.len()), index[SEED], a.space, a.into())
 }
 
-// The entry of record n of the address table.
+/// The entry of record n of the address table, before which the index holds the first n.
 pub fn entry_of(table: &[u64], index: &[u64], n: usize) -> Entry
     requires { (n < room 5 table.now) × Roomy n index.now × Linked table.now n index.now }
     ensures { IsEntry table.now n index.now result }
@@ -62,8 +64,7 @@ pub fn entry_of(table: &[u64], index: &[u64], n: usize) -> Entry
 fn add_to_list(index: &mut [u64], n: usize, space: u64, number: usize)
     requires { Roomy n index.old × (space < 8) × (number ≤ n) }
     ensures lists { (t : List ℕ) → space_of t n ≡ space → number ≡ count_in t space n → Lists t n (capacity (length index.old)) index.old → Lists t (n + 1) (capacity (length index.old)) index.new }
-    ensures chains { (t : List ℕ) (k seed : ℕ) → Chains t k (capacity (length index.old)) seed index.old → Chains t k (capacity (length index.old)) seed index.new }
-    ensures seed { get_or index.new 8 0 ≡ get_or index.old 8 0 }
+    ensures others { (x : ℕ) → OffList (capacity (length index.old)) space number x → get_or index.new x 0 ≡ get_or index.old x 0 }
 {
     let cell = list_cell(capacity(index.len()), space, number);
     index[cell] = n as u64;
@@ -74,8 +75,7 @@ fn add_to_list(index: &mut [u64], n: usize, space: u64, number: usize)
 fn add_to_bucket(index: &mut [u64], n: usize, bucket: usize)
     requires { Roomy n index.old × (bucket < capacity (length index.old) * 3) }
     ensures chains { (t : List ℕ) (seed : ℕ) → bucket ≡ bucket_of t (capacity (length index.old)) seed n → Chains t n (capacity (length index.old)) seed index.old → Chains t (n + 1) (capacity (length index.old)) seed index.new }
-    ensures lists { (t : List ℕ) (k : ℕ) → k ≤ capacity (length index.old) → Lists t k (capacity (length index.old)) index.old → Lists t k (capacity (length index.old)) index.new }
-    ensures seed { get_or index.new 8 0 ≡ get_or index.old 8 0 }
+    ensures others { (x : ℕ) → OffBucket (capacity (length index.old)) n bucket x → get_or index.new x 0 ≡ get_or index.old x 0 }
 {
     let r = capacity(index.len());
     let cell = bucket_cell(r, bucket);
@@ -83,10 +83,13 @@ fn add_to_bucket(index: &mut [u64], n: usize, bucket: usize)
     index[cell] = n as u64 + 1;
 }
 
-// Record n enters the index.
+/// Record n enters the index. It changes no more than the bucket and the link, and where the space
+/// has a list the place in it and the count; so the seed stays.
 pub fn add_entry(index: &mut [u64], n: usize, entry: Entry)
     requires { Roomy n index.old × EntryFits n index.old entry }
-    ensures { (t : List ℕ) → IsEntry t n index.old entry → Linked t n index.old → Linked t (n + 1) index.new }
+    ensures linked { (t : List ℕ) → IsEntry t n index.old entry → Linked t n index.old → Linked t (n + 1) index.new }
+    ensures seed { get_or index.new 8 0 ≡ get_or index.old 8 0 }
+    ensures others { (x : ℕ) → OffEntry n index.old entry x → get_or index.new x 0 ≡ get_or index.old x 0 }
 {
     add_to_bucket(index, n, entry.bucket);
     if entry.space < LISTED_SPACES {

@@ -1,4 +1,5 @@
-// Which object a legacy back-reference stands for: through the index, or by the plain search where the index lacks the room.
+//! Which object a legacy back-reference stands for: through the index, or by the plain search where
+//! the index lacks the room.
 ghost use Rattle.std.specs.Prelude.{◌≡◌, ℕ, ◌^◌, ◌<◌, ◌≤◌, IfSome};
 ghost use Rattle.tables.specs.Records.{room};
 ghost use Rattle.alloc.specs.Resolve.{resolve_of, ordinal_from};
@@ -9,7 +10,8 @@ use crate::layout::{LISTED_SPACES, capacity};
 use crate::search::Search;
 use alloc::resolve::{Place, resolve_by};
 
-// The first `count` address records and their index.
+/// The first `count` records of the address table and their index, in the order of their addresses
+/// in each space.
 #[derive(Clone, Copy)]
 pub struct AddressIndex<'a> {
     pub table: &'a [u64],
@@ -23,8 +25,7 @@ pub struct AddressIndex<'a> {
 impl<'a> AddressIndex<'a> {
     ghost use Rattle.address_index.specs.Searches.{Searches};
 
-    // The search, where the index has room for all records. No `then`: tried, and the borrow checker does not cover its closure, which would
-    // lend table and index at two lifetimes; `Search` needs what is tested, so no `then_some`.
+    // The search, where the index has room for all records.
     fn search(self) -> Option<Search<'a>>
         ensures { IfSome result (Searches self.entry.table.now self.entry.count) }
     {
@@ -41,7 +42,8 @@ impl<'a> AddressIndex<'a> {
         }
     }
 
-    // The object at an address; where there is none and an alignment is pending, the one after the filler.
+    /// The object at an address; where there is none and an alignment is pending, the one after the
+    /// filler, under words of `word` bytes (the Rust's `resolve`).
     #[inline(always)]
     pub fn resolve(self, space: u64, place: Place, alignment: u64, word: u64) -> Option<u64>
         requires { (place.offset < 2 ^ 32) × (word ≤ 8) }
@@ -53,7 +55,8 @@ impl<'a> AddressIndex<'a> {
         }
     }
 
-    // The object whose number among the records of a space is `number`.
+    /// The object whose number, from 0, among the records of a space is `number` (the Rust's
+    /// `resolve_ordinal`).
     pub fn resolve_ordinal(self, space: u64, number: u64) -> Option<u64>
         ensures { result ≡ ordinal_from self.entry.table.now space number 0 self.entry.count }
     {

@@ -1,5 +1,5 @@
-// Search in the index of legacy addresses: along the links of an address's bucket, or by binary search in the list of its space; and a
-// number in that list.
+//! Search in the index of legacy addresses: along the links of an address's bucket, or by binary
+//! search in the list of its space; and a number in that list.
 ghost use Rattle.std.specs.Prelude.{◌≡◌, ◌+◌, ◌*◌, ◌^◌, ◌<◌, ◌≤◌, length, get_or};
 ghost use Rattle.tables.specs.Records.{room};
 ghost use Rattle.alloc.specs.Resolve.{addressed, ordinal_from};
@@ -16,7 +16,8 @@ use tables::records::address_at;
 // After so many records of a bucket the list is searched, whose binary search bounds the time.
 const LOOKS: usize = 8;
 
-// The first `count` address records, and their index, which has room for `most` records and so for all of them.
+/// The first `count` records of the address table, and their index, which has room for `most`
+/// records and so for all of them.
 #[derive(Clone, Copy)]
 pub struct Search<'a> {
     pub table: &'a [u64],
@@ -49,8 +50,8 @@ impl<'a> Search<'a> {
         self.index[link_cell(self.most, i)]
     }
 
-    // The object of the newest record at an address. A number that was left in scratch can name a record of another bucket: then there is
-    // none at the address.
+    /// The object of the newest record at an address; none where there is no record. A number that
+    /// was left in scratch can name a record of another bucket: then there is none at the address.
     #[inline(never)]
     pub fn find(self, space: u64, place: Place) -> Option<u64>
         ensures { result ≡ addressed self.entry.table.now space place.chunk place.offset self.entry.count }
@@ -92,7 +93,8 @@ impl<'a> Search<'a> {
         self.index[list_cell(self.most, space, k)] as usize
     }
 
-    // The object of the record that has a number in a space.
+    /// The object of the record that has a number, from 0, in a space below 8; none where there are
+    /// no more.
     pub fn numbered(self, space: u64, number: u64) -> Option<u64>
         requires { space < 8 }
         ensures { result ≡ ordinal_from self.entry.table.now space number 0 self.entry.count }
@@ -130,7 +132,8 @@ impl<'a> Search<'a> {
         low
     }
 
-    // The object of the newest record at an address by the list of the space; where it has none by the plain search.
+    // The object of the newest record at an address by the list of the space; where it has no list
+    // by the plain search.
     fn find_listed(self, space: u64, place: Place) -> Option<u64>
         ensures { result ≡ addressed self.entry.table.now space place.chunk place.offset self.entry.count }
     {

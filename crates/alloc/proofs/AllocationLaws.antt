@@ -1,4 +1,5 @@
--- What a chunk change and an allocation keep: laws of the definitions alone, for the crates above. Assumes nothing.
+-- What a chunk change and an allocation keep: laws of the definitions alone, for the crates above.
+-- Assumes nothing.
 use mathlib.Core.Path.{◌≡◌, refl}
 use mathlib.Core.Bool.{Bool, true, false, ◌||◌}
 use mathlib.Core.List.{List, [], ◌∷◌}

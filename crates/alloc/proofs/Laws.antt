@@ -1,4 +1,5 @@
--- Laws of the definitions that the proofs of the code, here and in `address_index`, are given. Assumes nothing.
+-- Laws of the definitions that the proofs of the code, here and in `address_index`, are given.
+-- Assumes nothing.
 use mathlib.Core.Path.{◌≡◌, refl}
 use mathlib.Core.Bool.{Bool, true, false}
 use mathlib.Core.List.{List, [], ◌∷◌}

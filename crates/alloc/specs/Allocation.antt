@@ -1,6 +1,7 @@
--- Allocation in legacy spaces (`LegacyAlloc`; V8's `DeserializerAllocator` up to 8.7). Assumes nothing: these are definitions.
--- Here the Rust leaves V8: map and large-object spaces run through the counters too (D28), a space without counters leaves the
--- alignment pending (D30), and chunk ends are not checked (D32); docs/DIFFERENCES.md.
+-- Allocation in legacy spaces (`LegacyAlloc`; V8's `DeserializerAllocator` up to 8.7). Assumes
+-- nothing: these are definitions. Here the Rust leaves V8: map and large-object spaces run through
+-- the counters too (D28), a space without counters leaves the alignment pending (D30), and chunk
+-- ends are not checked (D32); docs/DIFFERENCES.md.
 use Rattle.std.specs.Prelude.{◌≡◌, Bool, true, false, ◌||◌, List, [], ◌∷◌, ℕ, ◌+◌, ◌^◌, ltb, leb, eqb, get_or, set, replicate, Result, Ok, Err}
 use Rattle.refusals.specs.declared.refusal.Refusal.{Refusal}
 use Rattle.refusals.specs.Numbers.{number_of}
@@ -33,7 +34,8 @@ next_chunk c spaces space =
     pick_alloc (leb spaces space) c
     (record { cur = set c.cur space (get_or c.cur space 0 + 1); used = set c.used space 0 })
 
--- what an allocation gives: a refusal's number or 0, the pending alignment, the counters and the address table
+-- what an allocation gives: a refusal's number or 0, the pending alignment, the counters and the
+-- address table
 pub record Outcome : Type 0 where
   pub number : ℕ
   pub alignment : ℕ
@@ -51,7 +53,8 @@ pick_outcome false a b = b
 unfoldable pub advance_of : ℕ → ℕ → ℕ → ℕ
 advance_of size alignment word = pick_ℕ (eqb alignment 0) size (size + max_fill_to_align word)
 
--- an object in a space with counters: its address is the next free offset after the filler; the alignment is used up
+-- an object in a space with counters: its address is the next free offset after the filler; the
+-- alignment is used up
 abbrev pub placed : List ℕ → ℕ → Request → LegacyAlloc → ℕ → Outcome
 placed t n want c used =
     pick_outcome
@@ -72,7 +75,8 @@ allocate_of t n spaces want c =
     (outcome 0 want.alignment c (written t n (address_row want.space 0 0 want.object 0)))
     (placed t n want c (get_or c.used want.space 0))))
 
--- what the code returns, with the counters and the table that it leaves; refused, the alignment `a` that was pending stays so
+-- what the code returns, with the counters and the table that it leaves; refused, the alignment `a`
+-- that was pending stays so
 abbrev pub seen : ℕ → Result ℕ Refusal → LegacyAlloc → List ℕ → Outcome
 seen a (Ok b) c t = outcome 0 b c t
 seen a (Err r) c t = outcome (number_of r) a c t
@@ -82,8 +86,8 @@ abbrev pub stored : Request → Result Placed Refusal → LegacyAlloc → List �
 stored want (Ok p) c t = outcome 0 p.alignment (record { cur = c.cur; used = set c.used want.space p.free }) t
 stored want (Err r) c t = outcome (number_of r) want.alignment c t
 
--- `place` sees of the counters only the space's chunk and its next free offset: in all counters that have these, storing the offset that
--- it answers is the allocation
+-- `place` sees of the counters only the space's chunk and its next free offset: in all counters
+-- that have these, storing the offset that it answers is the allocation
 abbrev pub Places : List ℕ → ℕ → ℕ → Request → ℕ → ℕ → Result Placed Refusal → List ℕ → Type 0
 Places t n spaces want used chunk r after =
     (c : LegacyAlloc) → get_or c.used want.space 0 ≡ used → get_or c.cur want.space 0 ≡ chunk

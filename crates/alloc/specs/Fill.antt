@@ -1,4 +1,5 @@
--- Fillers of V8's `Heap::GetMaximumFillToAlign` and `Heap::GetFillToAlign`. Assumes nothing: these are definitions.
+-- Fillers of V8's `Heap::GetMaximumFillToAlign` and `Heap::GetFillToAlign`. Assumes nothing: these
+-- are definitions.
 use Rattle.std.specs.Prelude.{Bool, true, false, not, ◌&&◌, ℕ, ◌-◌, ◌%◌, eqb}
 
 abbrev pub pick_ℕ : Bool → ℕ → ℕ → ℕ
@@ -9,8 +10,8 @@ pick_ℕ false a b = b
 unfoldable pub max_fill_to_align : ℕ → ℕ
 max_fill_to_align word = 8 - word
 
--- the filler before an object: double-aligned (1) fills one word where the address is not a multiple of 8, double-unaligned (2) fills
--- a double less a word where it is
+-- the filler before an object: double-aligned (1) fills one word where the address is not a
+-- multiple of 8, double-unaligned (2) fills a double less a word where it is
 unfoldable pub fill_to_align : ℕ → ℕ → ℕ → ℕ
 fill_to_align address alignment word =
     pick_ℕ (eqb alignment 1 && not (eqb (address % 8) 0)) word

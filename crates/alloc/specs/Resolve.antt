@@ -1,4 +1,5 @@
--- What a legacy back-reference stands for (`LegacyAlloc::resolve` and `resolve_ordinal`). Assumes nothing: these are definitions.
+-- What a legacy back-reference stands for (`LegacyAlloc::resolve` and `resolve_ordinal`). Assumes
+-- nothing: these are definitions.
 use Rattle.std.specs.Prelude.{◌≡◌, Bool, true, false, ◌&&◌, List, ℕ, zero, suc, ◌+◌, ◌-◌, ◌^◌, ◌<◌, eqb, Option, Some, None}
 use Rattle.tables.specs.Records.{field}
 use Rattle.alloc.specs.Fill.{fill_to_align}
@@ -23,8 +24,8 @@ addressed t space chunk offset zero = None
 addressed t space chunk offset (suc n) =
     pick_found (is_address t space chunk offset n) (Some (field 5 t n 3)) (addressed t space chunk offset n)
 
--- what is at a chunk and an offset is given: the exact address is tried first, then the one after the filler of the pending alignment
--- (difference D29: V8 takes the latter alone)
+-- what is at a chunk and an offset is given: the exact address is tried first, then the one after
+-- the filler of the pending alignment (difference D29: V8 takes the latter alone)
 abbrev pub resolve_by : (ℕ → ℕ → Option ℕ) → ℕ → ℕ → ℕ → ℕ → Option ℕ
 resolve_by at chunk offset alignment word =
     or_else (at chunk offset)
@@ -38,7 +39,8 @@ resolve_of t n space chunk offset alignment word = resolve_by (λ c o. addressed
 abbrev pub Finds : (ℕ → ℕ → Option ℕ) → (Place → Option ℕ → Type 0) → Type 0
 Finds at R = (p : Place) (r : Option ℕ) → p.chunk < 2 ^ 64 → p.offset < 2 ^ 64 → R p r → r ≡ at p.chunk p.offset
 
--- of the n records from record k on, the object of the one that is number `index` among those of a space
+-- of the n records from record k on, the object of the one that is number `index` among those of a
+-- space
 unfoldable pub ordinal_from : List ℕ → ℕ → ℕ → ℕ → ℕ → Option ℕ
 ordinal_from t space index k zero = None
 ordinal_from t space index k (suc n) =

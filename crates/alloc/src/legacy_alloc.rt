@@ -1,4 +1,4 @@
-// The chunk counters of legacy spaces, and allocation.
+//! The chunk counters of legacy spaces, and allocation.
 ghost use Rattle.std.specs.Prelude.{◌≡◌, ◌-◌, ◌^◌, ◌<◌, ◌≤◌, length, get_or, OnErr, IfErr, MatchResult};
 ghost use Rattle.refusals.specs.declared.refusal.Refusal.TheVariants.{AddressTooLarge};
 ghost use Rattle.refusals.specs.Numbers.{number_of};
@@ -8,16 +8,16 @@ use crate::fill::{fill_to_align, max_fill_to_align};
 use refusals::refusal::Refusal;
 use tables::records::{ADDRESS_FIELDS, Address, add_address, has_room};
 
-// Two counters for each of 256 spaces: the current chunk, and the next free offset in it. The order fixes these two arrays: two counters
-// for each space, held by value.
+/// The counters of 256 spaces (the Rust's `LegacyAlloc`): in `cur` the current chunk of each, and
+/// in `used` the next free offset in it, in bytes.
 #[derive(Drop)]
 pub struct LegacyAlloc {
     pub cur: [u32; 256],
     pub used: [u32; 256],
 }
 
-// What is to be allocated: an object of so many bytes in a space, with the alignment that is pending, under words of so many bytes. Bounds
-// stand in clauses: `place` takes any size, and a `Place` any offset, so that a type of spaces or ghost fields would ask more of callers.
+/// What is to be allocated: object number `object` of `size` bytes in a space, with the alignment
+/// that is pending (`fill`), under words of `word` bytes.
 #[derive(Clone, Copy)]
 pub struct Request {
     pub space: u64,
@@ -28,7 +28,7 @@ pub struct Request {
 }
 
 impl Request {
-    // The address that its object gets.
+    // The record of its object's address.
     fn address(self, chunk: u64, offset: u64, placed: u64) -> Address
         ensures { result ≡ record { space = self.space; chunk = chunk; offset = offset; object = self.object; placed = placed } }
     {
@@ -42,21 +42,23 @@ impl Request {
     }
 }
 
-// The alignment that is pending now or a refusal, and the counters.
+/// What `allocate` answers: the alignment that is pending now or a refusal, and the counters.
 #[derive(Drop)]
 pub struct Allocated {
     pub alignment: Result<u64, Refusal>,
     pub alloc: LegacyAlloc,
 }
 
-// What an allocation does in its space: the alignment that is pending now, and the next free offset.
+/// What an allocation does in its space: the alignment that is pending now, and the next free
+/// offset.
 #[derive(Clone, Copy)]
 pub struct Placed {
     pub alignment: u64,
     pub free: u32,
 }
 
-// How many spaces a reservation list gives counters: its top bits plus 1.
+/// How many spaces a reservation list gives counters: as many as its numbers have top bits, and one
+/// more (the Rust's `from_reservations`; chunk sizes are not used).
 #[tactic(auto, using(crate::proofs::Laws::spaces_counted))]
 pub fn spaces(reservations: &[u32]) -> u64
     ensures { result ≡ spaces_of reservations.now }
@@ -65,7 +67,7 @@ pub fn spaces(reservations: &[u32]) -> u64
 }
 
 impl LegacyAlloc {
-    // Every space begins at offset 0 of chunk 0.
+    /// Every space begins at offset 0 of chunk 0.
     pub fn new() -> LegacyAlloc
         ensures { result ≡ zero_counters }
     {
@@ -75,9 +77,11 @@ impl LegacyAlloc {
         }
     }
 
-    // Address record n of an object: the alignment that is pending then. Refused (no room for the record; the size, the address or the next
-    // free offset passes 2^32 - 1), nothing changes. A space without counters gets a record that is not placed, and the alignment stays
-    // pending.
+    /// Address record n of an object: the alignment that is pending then (the Rust's `allocate`).
+    ///
+    /// A space without counters gets a record that is not placed, and the alignment stays pending.
+    /// Refused, nothing changes: with `NoRoom` where the table has no room for record n, and with
+    /// `AddressTooLarge` where the size, the address or the next free offset passes 2^32 - 1.
     pub fn allocate(mut self, table: &mut [u64], n: usize, spaces: u64, want: Request) -> Allocated
         requires { (want.space < 256) × (want.word ≤ 8) }
         ensures is { seen want.alignment result.alignment result.alloc table.new ≡ allocate_of table.old n spaces want self }
@@ -94,7 +98,8 @@ impl LegacyAlloc {
         }
     }
 
-    // A chunk change: the space goes on at offset 0 of its next chunk. A space without counters stays.
+    /// A chunk change: the space goes on at offset 0 of its next chunk (the Rust's `next_chunk`). A
+    /// space without counters stays.
     #[tactic(auto, unfolding(crate::specs::Allocation::next_chunk))]
     pub fn next_chunk(&mut self, spaces: u64, space: u64)
         requires { (space < 256) × (get_or self.old.cur space 0 < 2 ^ 32 - 1) }
@@ -109,8 +114,9 @@ impl LegacyAlloc {
     }
 }
 
-// The tests of an allocation and its record, in a space with this next free offset and this chunk. Refused, nothing changes. That there is
-// no room is told before that the size is too large, so the room is asked first; `add_address` then has it.
+/// The tests of an allocation and its record, in a space whose next free offset is `used` and whose
+/// chunk is `chunk`. Refused, nothing changes; the refusals are those of `allocate`. A missing room
+/// is told before a size that is too large, so the room is asked first; `add_address` then has it.
 #[tactic(auto, using(crate::proofs::Laws::fill_bound, crate::proofs::Laws::advance_bound), unfolding(crate::specs::Allocation::allocate_of))]
 pub fn place(
     table: &mut [u64],
@@ -150,7 +156,8 @@ fn narrow(offset: u64) -> Result<u32, Refusal>
     u32::try_from(offset).map_err(|_| Refusal::AddressTooLarge)
 }
 
-// How far the next free offset moves: by the size, and with an alignment pending by the most that a filler can take as well.
+// How far the next free offset moves: by the size, and with an alignment pending by the most that a
+// filler can take as well.
 #[tactic(auto, unfolding(crate::specs::Allocation::advance_of, crate::specs::Fill::max_fill_to_align))]
 fn advance(size: u64, alignment: u64, word: u64) -> u64
     requires { size < 2 ^ 33 }

@@ -1,6 +1,5 @@
-// Which object a legacy back-reference stands for: by address, or by its number among the objects of a space. Table and count go apart:
-// with the index they are an `AddressIndex`, `resolve_by` takes neither, and for the plain search another struct of the two would be no
-// plainer than both. Place, alignment and word go apart: each is another thing's, the back-reference's, the state's and the sheet's.
+//! Which object a legacy back-reference stands for: by address, or by its number among the objects
+//! of a space. A `table` is the address table, of which the first `n` records count.
 ghost use Rattle.std.specs.Prelude.{◌≡◌, ℕ, ◌+◌, ◌^◌, ◌<◌, ◌≤◌, length, Option};
 ghost use Rattle.tables.specs.Records.{room};
 ghost use Rattle.alloc.specs.Resolve.{is_address, addressed, resolve_by, resolve_of, Finds, ordinal_from};
@@ -8,13 +7,15 @@ ghost use Rattle.alloc.specs.Resolve.{is_address, addressed, resolve_by, resolve
 use crate::fill::fill_to_align;
 use tables::records::{Address, address_at};
 
-// The space of the address records whose objects are the maps that back-references give by number, whatever kMapSpace is in a version.
+/// The space of the address records whose objects are the maps that back-references give by number,
+/// whatever kMapSpace is in a version.
 pub const MAP_SPACE: u64 = 4;
 
-// The same for large objects and kLoSpace.
+/// The same for large objects and kLoSpace.
 pub const LARGE_OBJECT_SPACE: u64 = 5;
 
-// A place in a space.
+/// A place in a space: a chunk, and an offset in it in bytes. Places are ordered by chunk, then
+/// offset.
 #[derive(Clone, Copy, PartialEq, Eq, PartialOrd, Ord)]
 pub struct Place {
     pub chunk: u64,
@@ -22,7 +23,7 @@ pub struct Place {
 }
 
 impl Place {
-    // The place so many bytes further on in the chunk.
+    /// The place so many bytes further on in the chunk.
     pub fn after(self, bytes: u64) -> Place
         requires { self.offset + bytes < 2 ^ 64 }
         ensures { result ≡ record { chunk = self.chunk; offset = self.offset + bytes } }
@@ -46,7 +47,7 @@ impl From<Address> for Place {
     }
 }
 
-// Record i is placed at this address.
+/// Whether record i is placed at this address.
 pub fn is_address(table: &[u64], i: usize, space: u64, place: Place) -> bool
     requires { i < room 5 table.now }
     ensures { result ≡ is_address table.now space place.chunk place.offset i }
@@ -55,7 +56,8 @@ pub fn is_address(table: &[u64], i: usize, space: u64, place: Place) -> bool
     a.space == space && Place::from(a) == place && a.placed == 1
 }
 
-// The object of the newest of n records that is placed at this address.
+/// The object of the newest of n records that is placed at this address, by a plain search; none
+/// where no record is.
 pub fn find_address(table: &[u64], n: usize, space: u64, place: Place) -> Option<u64>
     requires { n ≤ room 5 table.now }
     ensures { result ≡ addressed table.now space place.chunk place.offset n }
@@ -64,8 +66,9 @@ pub fn find_address(table: &[u64], n: usize, space: u64, place: Place) -> Option
     Some(address_at(table, newest).object)
 }
 
-// The object at an address, as `find` finds it; where there is none and an alignment is pending, the one after the filler. The plain search
-// and the one through an index (`address_index`) both go by these steps.
+/// The object at an address, as `find` finds it; where there is none and an alignment is pending,
+/// the one after the filler (the Rust's `resolve`). The plain search and the one through an index
+/// (`address_index`) both go by these steps.
 #[tactic(auto, using(crate::proofs::Laws::fill_bound))]
 pub fn resolve_by<F: Fn(Place) -> Option<u64>>(
     find: F,
@@ -88,7 +91,7 @@ pub fn resolve_by<F: Fn(Place) -> Option<u64>>(
     find(place.after(pad))
 }
 
-// The same, by the plain search.
+/// The same among n records, by the plain search.
 pub fn resolve(
     table: &[u64],
     n: usize,
@@ -103,7 +106,8 @@ pub fn resolve(
     resolve_by(|p| find_address(table, n, space, p), place, alignment, word)
 }
 
-// The object whose number among the n records of a space is `index`.
+/// The object whose number, from 0, among those of the n records that are of a space is `index`
+/// (the Rust's `resolve_ordinal`); none where there are no more.
 pub fn resolve_ordinal(table: &[u64], n: usize, space: u64, index: u64) -> Option<u64>
     requires { n ≤ room 5 table.now }
     ensures { result ≡ ordinal_from table.now space index 0 n }

@@ -3,8 +3,8 @@ use Rattle.std.specs.Prelude.{◌≡◌}
 use Rattle.std.proofs.Common.{ap, arith}
 use Rattle.tables.specs.declared.values.Fields.{Fields}
 use Rattle.tables.specs.Values.{triple}
-use Rattle.definition.specs.Memory.{in_map, in_slot, in_value, Event, value, Mem}
-use Rattle.definition.specs.Call.{Rooms, Call, events_of, told_of}
+use Rattle.definition.specs.Memory.{word, in_map, in_slot, in_value, Event, value, Mem}
+use Rattle.definition.specs.Call.{Rooms, Call, input_of, events_of, told_of}
 use Rattle.assurance.specs.Words.{Accepted, events, Told}
 use Rattle.assurance.specs.On.{all_told}
 use Rattle.assurance.proofs.Listed.{listed}
@@ -12,8 +12,10 @@ use Rattle.assurance.proofs.Standing.{Right}
 use Rattle.assurance.proofs.Referred.{referred}
 use Rattle.assurance.proofs.Pending.{either}
 use Rattle.assurance.proofs.Ranges.{ranges}
+use Rattle.assurance.proofs.Begins.{entries_begin}
 use Rattle.assurance.specs.Raws.{raw_ranged}
 use Rattle.assurance.proofs.Filled.{items_fill}
+use Rattle.assurance.proofs.Mapped.{map_items}
 use Rattle.assurance.proofs.Placed.{slots_placed}
 use Rattle.assurance.proofs.Widths.{item_of}
 use Rattle.assurance.proofs.Kept.{kept_once, slot_value, value_value}
@@ -32,6 +34,7 @@ assured c rooms m a =
     let s = referred c rooms m a in
     let right : (x : Event) → Told (told_of m.log) x → Right m.objects.count m.slots m.values x = λ x t. all_told (Right m.objects.count m.slots m.values) (told_of m.log) x s.right t in
     let r = ranges c rooms m a in
+    let b = entries_begin c rooms m a r.final r.told_last in
     let f = items_fill c rooms m a in
     let p = slots_placed c rooms m a in
     let k = kept_once c rooms m a in
@@ -41,6 +44,8 @@ assured c rooms m a =
       listed_as_opened = rw e l.counted;
       listed_place = rw e l.places;
       listed_size = rw e l.sizes;
+      declared_words = rw e l.opened_words;
+      listed_declared = rw e l.declared;
       referred_is_listed = rw e (λ v t i. (right (value v t) i).0.object);
       repeat_holds_value = rw e (λ v t i. (right (value v t) i).0.repeat);
       weak_holds_value = rw e (λ v t i. (right (value v t) i).0.weak);
@@ -54,6 +59,9 @@ assured c rooms m a =
       final_inside = r.inside;
       final_byte = r.is_final;
       final_ends_closing = rw e r.told_last;
+      final_begins = rw e b.last_begins;
+      none_begins_later = rw e b.none_later;
+      none_before_is_final = rw e b.none_before;
       end_after_final = r.before_end;
       end_inside = r.end_inside;
       raw_is_range = rw e (raw_ranged c rooms m a);
@@ -62,6 +70,8 @@ assured c rooms m a =
       items_fill_object = rw e f.full;
       index_below_words = rw e f.index;
       item_of_value = rw e (item_of c rooms m a);
+      one_map_item = rw e (map_items c rooms m a);
+      some_words = rw e (λ o n. omega (arith, (f.index o 0 (word (input_of c)) (map_items c rooms m a o n).slot (map_items c rooms m a o n).read).1));
       item_has_record = rw e p.seat;
       record_has_item = rw e p.one_item;
       slot_counts = p.slot_counts;

@@ -30,16 +30,17 @@ rules : (x : Input) → EventRules x (λ S ot st vt es. (Rest 4 ot) × (Rest 6 s
 rules x =
     record {
       on_passed = (λ S ot st vt es a n h. h);
+      on_begins = (λ S ot st vt es q h. h);
       on_synchronize = (λ S ot st vt es q h. h);
       on_dropped = (λ S ot st vt es v h. h);
       on_value = (λ S ot st vt es v l h. (h.0, h.1, more vt (value_row v) h.2));
-      on_open = (λ S ot st vt es q w p l h. (more ot (object_row (w * word x) q) h.0, h.1, h.2));
+      on_open = (λ S ot st vt es q w p i l h. (more ot (object_row (w * word x) q) h.0, h.1, h.2));
       on_flag = (λ S ot st vt es o l h. (set_rest ot o 2 1 (omega arith) l h.0, h.1, h.2));
       on_map = (λ S ot st vt es o size v p h. (set_rest ot o 3 _ (omega arith) p.listed h.0, more st (slot_row o 0 v 0) h.1, h.2));
       on_item = (λ S ot st vt es o size done w v k p e q l h. (set_rest ot o 3 _ (omega arith) p.listed h.0, more st (slot_row o (done / word x) v k) h.1, h.2));
       on_unknown = (λ S ot st vt es n o h. h);
       on_fill = (λ S ot st vt es n o k w h. (h.0, fill_rest st k o w.0 h.1, h.2));
-      on_close = (λ S ot st vt es o size l h. h);
+      on_close = (λ S ot st vt es o size l p h. h);
     }
 
 at_start : (w n : ℕ) → Rest w (empty n)
@@ -65,5 +66,5 @@ clean c rooms m a =
       objects_rest = by_index 4 m.objects (omega arith) h.0;
       slots_rest = by_index 6 m.slots (omega arith) h.1;
       values_rest = by_index 3 m.values (omega arith) h.2;
-      no_addresses = (graph_has c rooms m a _ Any (steady (input_of c) 0 (empty rooms.addresses)) (omega arith, refl)).1;
+      no_addresses = (graph_has c rooms m a _ Any (steady (input_of c) 0 (empty rooms.addresses)) (omega arith, refl) (λ m h. h)).1;
     }

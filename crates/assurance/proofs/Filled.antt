@@ -4,7 +4,7 @@ use Rattle.std.proofs.Common.{sym, subst, ◌∙◌, ap, ⊎_elim, inl, inr, zer
 use Rattle.std.proofs.lemmas.Bool.{eqb-false}
 use Rattle.tables.specs.declared.values.Fields.{Fields}
 use Rattle.tables.specs.Values.{pick_ℕ}
-use Rattle.definition.specs.Memory.{Input, word, Kept, in_map, in_slot, in_value, dropped, Event, opened, passed, item, value, resolve, synchronize, Mem}
+use Rattle.definition.specs.Memory.{Input, word, Kept, in_map, in_slot, in_value, dropped, Event, opened, passed, item, value, resolve, begins, synchronize, Mem}
 use Rattle.definition.specs.Call.{Rooms, Call, input_of, told_of}
 use Rattle.assurance.specs.Steps.{Frame, frame}
 use Rattle.assurance.specs.PlainSheet.{word_pos}
@@ -14,12 +14,12 @@ use Rattle.assurance.proofs.EventRules.{EventRules, tables_have}
 use Rattle.assurance.specs.Words.{Accepted, Told, openings, words_of, filled_of, items_of, EndToEnd}
 
 -- the objects that are being read are below a bound, the outer below the inner; each has its size, and so many bytes of it were read
-unfoldable Stacked : ℕ → List Frame → ℕ → List Event → Type 0
+unfoldable pub Stacked : ℕ → List Frame → ℕ → List Event → Type 0
 Stacked ts [] bound es = Unit {0}
 Stacked ts (frame o size done ∷ S) bound es = (o < bound) × (words_of es o * ts ≡ size) × (filled_of es o ≡ done) × (Stacked ts S o es)
 
 -- object o is not being read
-unfoldable Free : List Frame → ℕ → Type 0
+unfoldable pub Free : List Frame → ℕ → Type 0
 Free [] o = Unit {0}
 Free (frame x size done ∷ S) o = (o ≢ x) × (Free S o)
 
@@ -29,21 +29,22 @@ pub record Inside (word : ℕ) (objects : ℕ) (words filled : ℕ → ℕ) (o s
   pub within : s + w ≤ filled o
   pub low : (s < words o * word) ⊎ (1 ≤ w)
 
-abbrev Fits : ℕ → ℕ → List Event → Event → Type 0
+abbrev pub Fits : ℕ → ℕ → List Event → Event → Type 0
 Fits ts objects es (item o s w k) = Inside ts objects (words_of es) (filled_of es) o s w
 Fits ts objects es (opened q w) = Unit {0}
 Fits ts objects es (passed a n) = Unit {0}
 Fits ts objects es (value v t) = Unit {0}
 Fits ts objects es (resolve n o) = Unit {0}
+Fits ts objects es (begins q) = Unit {0}
 Fits ts objects es (synchronize q) = Unit {0}
 
-record Filling (ts : ℕ) (S : List Frame) (objects : ℕ) (es : List Event) : Type 0 where
-  counted : openings es ≡ objects
-  laid : EndToEnd ts es
-  unopened : (o : ℕ) → objects ≤ o → filled_of es o ≡ 0
-  stacked : Stacked ts S objects es
-  full : (o : ℕ) → o < objects → Free S o → filled_of es o ≡ words_of es o * ts
-  inside : All (Fits ts objects es) es
+pub record Filling (ts : ℕ) (S : List Frame) (objects : ℕ) (es : List Event) : Type 0 where
+  pub counted : openings es ≡ objects
+  pub laid : EndToEnd ts es
+  pub unopened : (o : ℕ) → objects ≤ o → filled_of es o ≡ 0
+  pub stacked : Stacked ts S objects es
+  pub full : (o : ℕ) → o < objects → Free S o → filled_of es o ≡ words_of es o * ts
+  pub inside : All (Fits ts objects es) es
 
 stacked_map : (ts : ℕ) (S : List Frame) (n k : ℕ) (es fs : List Event) → n ≤ k → ((o : ℕ) → o < n → words_of fs o ≡ words_of es o) → ((o : ℕ) → o < n → filled_of fs o ≡ filled_of es o) → Stacked ts S n es → Stacked ts S k fs
 unfolding Stacked
@@ -58,6 +59,7 @@ fits_up ts n k es fs l hw hf (opened q w) h = tt
 fits_up ts n k es fs l hw hf (passed a b) h = tt
 fits_up ts n k es fs l hw hf (value v t) h = tt
 fits_up ts n k es fs l hw hf (resolve a o) h = tt
+fits_up ts n k es fs l hw hf (begins q) h = tt
 fits_up ts n k es fs l hw hf (synchronize q) h = tt
 
 open_filling : (ts : ℕ) (S : List Frame) (n q w : ℕ) (es : List Event) → Filling ts S n es → Filling ts (frame n (w * ts) 0 ∷ S) (n + 1) (opened q w ∷ es)
@@ -73,7 +75,7 @@ open_filling ts S n q w es h =
       inside = (tt, all_map (Fits ts n es) (Fits ts (n + 1) (opened q w ∷ es)) (fits_up ts n (n + 1) es (opened q w ∷ es) (omega arith) (λ o l. other o (λ e. omega arith)) (λ o. omega arith)) es h.inside);
     }
 
-pick_up : (t : Bool) (a b : ℕ) → b ≤ pick_ℕ t (b + a) b
+pub pick_up : (t : Bool) (a b : ℕ) → b ≤ pick_ℕ t (b + a) b
 pick_up true a b = omega arith
 pick_up false a b = omega arith
 
@@ -90,6 +92,7 @@ no_items (item x s w k ∷ es) o e = at (eqb o x) (no_items es o) e
     at false f z = f z
 no_items (value v t ∷ es) o e = no_items es o e
 no_items (resolve n x ∷ es) o e = no_items es o e
+no_items (begins q ∷ es) o e = no_items es o e
 no_items (synchronize q ∷ es) o e = no_items es o e
 
 -- an item that starts where its object was read to
@@ -140,21 +143,22 @@ other ts S n es e c l w f i h =
       inside = (i, all_map (Fits ts n es) (Fits ts n (e ∷ es)) (fits_up ts n n es (e ∷ es) (omega arith) (λ o g. rw w) (λ o. rw f (omega arith))) es h.inside);
     }
 
-rules : (x : Input) → 1 ≤ word x → EventRules x (λ S ot st vt. Filling (word x) S ot.count)
+pub rules : (x : Input) → 1 ≤ word x → EventRules x (λ S ot st vt. Filling (word x) S ot.count)
 unfolding openings words_of filled_of EndToEnd Stacked
 rules x pos =
     record {
       on_passed = (λ S ot st vt es a n. other (word x) S ot.count es (passed a n) refl (λ l. l) refl refl tt);
+      on_begins = (λ S ot st vt es q. other (word x) S ot.count es (begins q) refl (λ l. l) refl refl tt);
       on_synchronize = (λ S ot st vt es q. other (word x) S ot.count es (synchronize q) refl (λ l. l) refl refl tt);
       on_dropped = (λ S ot st vt es v. other (word x) S ot.count es (value v dropped) refl (λ l. l) refl refl tt);
       on_value = (λ S ot st vt es v l. other (word x) S ot.count es (value v (in_value vt.count)) refl (λ l. l) refl refl tt);
-      on_open = (λ S ot st vt es q w p l. open_filling (word x) S ot.count q w es);
+      on_open = (λ S ot st vt es q w p i l. open_filling (word x) S ot.count q w es);
       on_flag = (λ S ot st vt es o l h. h);
       on_map = (λ S ot st vt es o size v p h. subst (λ (d : ℕ). Filling (word x) (frame o size d ∷ S) ot.count (item o 0 (word x) st.count ∷ value v (in_map st.count) ∷ es)) (zero-add (word x)) (item_filling (word x) S ot.count o size 0 (word x) st.count v (in_map st.count) es p.listed (λ e. refl) (inr pos) h));
       on_item = (λ S ot st vt es o size done w v k p e q l h. item_filling (word x) S ot.count o size done w st.count v (in_slot st.count) es p.listed (λ e. absurd (omega (arith, no_items es o e, h.stacked.2))) (inl l) h);
       on_unknown = (λ S ot st vt es n o. other (word x) S ot.count es (resolve n o) refl (λ l. l) refl refl tt);
       on_fill = (λ S ot st vt es n o k w. other (word x) S ot.count es (resolve n o) refl (λ l. l) refl refl tt);
-      on_close = (λ S ot st vt es o size l h. close_filling (word x) S ot.count o size es l h);
+      on_close = (λ S ot st vt es o size l p h. close_filling (word x) S ot.count o size es l h);
     }
 
 pub record Filled (word objects : ℕ) (es : List Event) : Type 0 where

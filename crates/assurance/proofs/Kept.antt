@@ -3,7 +3,7 @@ use Rattle.std.specs.Prelude.{◌≡◌, refl, Bool, true, false, List, [], ◌�
 use Rattle.std.proofs.Common.{ap, inl, inr, ⊎_elim, arith, eq-eqb, ne_eqb, eqb-true}
 use mathlib.Core.List.Memᴰ
 use Rattle.tables.specs.Values.{pick_ℕ}
-use Rattle.definition.specs.Memory.{Input, in_map, in_slot, in_value, dropped, Event, opened, passed, item, value, resolve, synchronize, Mem}
+use Rattle.definition.specs.Memory.{Input, in_map, in_slot, in_value, dropped, Event, opened, passed, item, value, resolve, begins, synchronize, Mem}
 use Rattle.definition.specs.Call.{Rooms, Call, input_of, told_of}
 use Rattle.assurance.proofs.EventRules.{EventRules, tables_have}
 use Rattle.assurance.proofs.Listed.{below}
@@ -33,16 +33,17 @@ unfolding in_slots in_values
 rules x =
     record {
       on_passed = (λ S ot st vt es a n h. h);
+      on_begins = (λ S ot st vt es q h. h);
       on_synchronize = (λ S ot st vt es q h. h);
       on_dropped = (λ S ot st vt es v h. h);
       on_value = (λ S ot st vt es v l h. (h.0, once_more (in_values es) vt.count h.1));
-      on_open = (λ S ot st vt es q w p l h. h);
+      on_open = (λ S ot st vt es q w p i l h. h);
       on_flag = (λ S ot st vt es o l h. h);
       on_map = (λ S ot st vt es o size v p h. (once_more (in_slots es) st.count h.0, h.1));
       on_item = (λ S ot st vt es o size done w v k p e q l h. (once_more (in_slots es) st.count h.0, h.1));
       on_unknown = (λ S ot st vt es n o h. h);
       on_fill = (λ S ot st vt es n o k w h. h);
-      on_close = (λ S ot st vt es o size l h. h);
+      on_close = (λ S ot st vt es o size l p h. h);
     }
 
 -- THE THEOREM
@@ -74,6 +75,7 @@ slot_value (value v (in_slot j) ∷ es) k l = found (KeptInSlot (value v (in_slo
 slot_value (value v (in_value j) ∷ es) k l = slot_later es _ k (slot_value es k l)
 slot_value (value v dropped ∷ es) k l = slot_later es _ k (slot_value es k l)
 slot_value (resolve n o ∷ es) k l = slot_later es _ k (slot_value es k l)
+slot_value (begins q ∷ es) k l = slot_later es _ k (slot_value es k l)
 slot_value (synchronize q ∷ es) k l = slot_later es _ k (slot_value es k l)
 
 pub value_value : (es : List Event) (k : ℕ) → 1 ≤ in_values es k → KeptInValue es k
@@ -87,4 +89,5 @@ value_value (value v (in_slot j) ∷ es) k l = value_later es _ k (value_value e
 value_value (value v (in_value j) ∷ es) k l = found (KeptInValue (value v (in_value j) ∷ es) k) (eqb k j) (in_values es k) (λ t. (v, Memᴰ.head (ap (λ (i : ℕ). value v (in_value i)) (eqb-true k j t)))) (λ g. value_later es _ k (value_value es k g)) l
 value_value (value v dropped ∷ es) k l = value_later es _ k (value_value es k l)
 value_value (resolve n o ∷ es) k l = value_later es _ k (value_value es k l)
+value_value (begins q ∷ es) k l = value_later es _ k (value_value es k l)
 value_value (synchronize q ∷ es) k l = value_later es _ k (value_value es k l)

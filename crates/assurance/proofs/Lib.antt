@@ -1,7 +1,9 @@
 pub mod EventRules
 pub mod Listed
 pub mod Ranges
+pub mod Begins
 pub mod Filled
+pub mod Mapped
 pub mod Placed
 pub mod Clean
 pub mod Widths

@@ -5,7 +5,7 @@ use mathlib.Core.List.Memᴰ
 use Rattle.std.proofs.lemmas.Bool.{eqb-false}
 use Rattle.tables.specs.declared.values.Fields.{Fields}
 use Rattle.tables.specs.Values.{triple}
-use Rattle.definition.specs.Memory.{in_map, in_slot, in_value, dropped, Event, opened, passed, item, value, resolve, synchronize}
+use Rattle.definition.specs.Memory.{in_map, in_slot, in_value, dropped, Event, opened, passed, item, value, resolve, begins, synchronize}
 use Rattle.assurance.specs.Words.{Told, LeftPending, FilledBy}
 
 abbrev Either : List Event → ℕ → ℕ → Type 0
@@ -46,4 +46,5 @@ either (value v (in_slot j) ∷ es) k n t = ⊎_elim (λ (e : pending k n ≡ va
 either (value v (in_value j) ∷ es) k n t = skip es _ k n (Either es k n) (λ e. let z : ◌≡◌ {A = ℕ} 0 1 = cc in omega arith) (either es k n) t
 either (value v dropped ∷ es) k n t = skip es _ k n (Either es k n) (λ e. let z : ◌≡◌ {A = ℕ} 0 1 = cc in omega arith) (either es k n) t
 either (resolve j x ∷ es) k n t = skip es _ k n (Either (resolve j x ∷ es) k n) (λ e. let z : ◌≡◌ {A = ℕ} 0 1 = cc in omega arith) (λ u. resolve_either es j x k n (either es k n u)) t
+either (begins q ∷ es) k n t = skip es _ k n (Either es k n) (λ e. let z : ◌≡◌ {A = ℕ} 0 1 = cc in omega arith) (either es k n) t
 either (synchronize q ∷ es) k n t = skip es _ k n (Either es k n) (λ e. let z : ◌≡◌ {A = ℕ} 0 1 = cc in omega arith) (either es k n) t

@@ -8,7 +8,7 @@ use Rattle.tables.specs.declared.values.Fields.{Fields}
 use Rattle.tables.specs.Values.{pick_ℕ}
 use Rattle.tables.specs.Records.{room, field, object_row, slot_row, written, filled}
 use Rattle.tables.proofs.RecordLaws.{written_same, written_else, filled_else, set_same, set_else}
-use Rattle.definition.specs.Memory.{Input, word, Kept, in_map, in_slot, in_value, dropped, Event, opened, passed, item, value, resolve, synchronize, Table, table, Mem, added}
+use Rattle.definition.specs.Memory.{Input, word, Kept, in_map, in_slot, in_value, dropped, Event, opened, passed, item, value, resolve, begins, synchronize, Table, table, Mem, added}
 use Rattle.definition.specs.Slots.{counted}
 use Rattle.definition.specs.Call.{Rooms, Call, input_of, told_of}
 use Rattle.assurance.specs.On.{All, all_map, all_told}
@@ -23,6 +23,7 @@ Sits ts t (opened q w) = Unit {0}
 Sits ts t (passed a n) = Unit {0}
 Sits ts t (value v k) = Unit {0}
 Sits ts t (resolve n o) = Unit {0}
+Sits ts t (begins q) = Unit {0}
 Sits ts t (synchronize q) = Unit {0}
 
 -- of the slots' table and the events; and of both tables
@@ -91,6 +92,7 @@ sits_stay ts t u l f (opened q w) h = tt
 sits_stay ts t u l f (passed a n) h = tt
 sits_stay ts t u l f (value v k) h = tt
 sits_stay ts t u l f (resolve n o) h = tt
+sits_stay ts t u l f (begins q) h = tt
 sits_stay ts t u l f (synchronize q) h = tt
 
 item_seated : (ts : ℕ) (t : Table) (es : List Event) (o index s w : ℕ) (v : Fields) (waits : ℕ) (keep : Kept) → index ≡ s / ts → t.count < room 6 t.rows → Seated ts t es → Seated ts (added t (slot_row o index v waits)) (item o s w t.count ∷ value v keep ∷ es)
@@ -130,16 +132,17 @@ unfolding items_in
 rules x =
     record {
       on_passed = (λ S ot st vt es a n h. (other (word x) st es (passed a n) tt refl h.0, h.1));
+      on_begins = (λ S ot st vt es q h. (other (word x) st es (begins q) tt refl h.0, h.1));
       on_synchronize = (λ S ot st vt es q h. (other (word x) st es (synchronize q) tt refl h.0, h.1));
       on_dropped = (λ S ot st vt es v h. (other (word x) st es (value v dropped) tt refl h.0, h.1));
       on_value = (λ S ot st vt es v l h. (other (word x) st es (value v (in_value vt.count)) tt refl h.0, h.1));
-      on_open = (λ S ot st vt es q w p l h. (other (word x) st es (opened q w) tt refl h.0, open_owned ot st (w * word x) q l h.1));
+      on_open = (λ S ot st vt es q w p i l h. (other (word x) st es (opened q w) tt refl h.0, open_owned ot st (w * word x) q l h.1));
       on_flag = (λ S ot st vt es o l h. (h.0, flag_owned ot st o h.1));
       on_map = (λ S ot st vt es o size v p h. (item_seated (word x) st es o 0 0 (word x) v 0 (in_map st.count) (sym (zero-div (word x))) p.roomy h.0, slot_owned ot st o 0 v 0 p h.1));
       on_item = (λ S ot st vt es o size done w v k p e q l h. (item_seated (word x) st es o (done / word x) done w v k (in_slot st.count) refl p.roomy h.0, slot_owned ot st o (done / word x) v k p h.1));
       on_unknown = (λ S ot st vt es n o h. (other (word x) st es (resolve n o) tt refl h.0, h.1));
       on_fill = (λ S ot st vt es n o k w h. (fill_seated (word x) st es n o k h.0, fill_owned ot st k o h.1));
-      on_close = (λ S ot st vt es o size l h. h);
+      on_close = (λ S ot st vt es o size l p h. h);
     }
 
 pub record Placed (word : ℕ) (ot st : Table) (es : List Event) : Type 0 where

@@ -8,10 +8,10 @@ use Rattle.tables.specs.declared.values.SlotValue.TheVariants.{Ref as IsRef, Rep
 use Rattle.tables.specs.declared.values.Fields.{Fields}
 use Rattle.tables.specs.Values.{raw_kind, fields_of, width_of}
 use Rattle.tables.specs.Records.{room}
-use Rattle.definition.specs.Memory.{Input, word, in_map, in_slot, in_value, dropped, opened, passed, item, value, resolve, synchronize, Table, Mem}
+use Rattle.definition.specs.Memory.{Input, word, in_map, in_slot, in_value, dropped, Event, opened, passed, item, value, resolve, begins, synchronize, Table, Mem}
 use Rattle.definition.specs.Slots.{resolved, waits_of}
 use Rattle.definition.specs.Call.{Rooms, Call, input_of, told_of}
-use Rattle.assurance.specs.Steps.{Frame, frame, Base, Hot, Rules, keeping_map, keeping_item, resolve_case}
+use Rattle.assurance.specs.Steps.{Frame, frame, Base, Hot, Rules, AtEnd, keeping_map, keeping_item, resolve_case}
 use Rattle.assurance.specs.Induct.{graph_has}
 use Rattle.assurance.specs.On.{On, on_note, on_note_two, on_told, All}
 use Rattle.assurance.proofs.EventRules.{waiter_is}
@@ -146,16 +146,24 @@ rules x =
       on_pending = (λ S m h. let z = number_waits m.slots m.pending m.waiting h.2 in ((h.0, h.1, z.0), z.1));
       on_raw = (λ S m n a h l g. ((on_note _ _ (passed m.at n) m.log (λ es. told_standing m.objects.count m.slots m.values es (passed m.at n) tt refl refl) h.0, h.1, h.2), tt));
       on_value = (λ S m v h w l. ((on_note _ _ (value (fields_of v) (in_value m.values.count)) m.log (λ es. value_standing m.objects.count m.slots m.values es (fields_of v) l (val_refers _ _ m.slots m.pending v w)) h.0, h.1, h.2), omega arith, λ n. omega arith));
-      on_open = (λ S m tag words q h l. (on_note _ _ (opened tag words) m.log (λ es. open_standing m.objects.count m.slots m.values es tag words) h.0, ring_up m.hot m.objects.count (m.objects.count + 1) (omega arith) h.1, h.2));
+      on_open = (λ S m tag words q i h l. (on_note _ _ (opened tag words) m.log (λ es. open_standing m.objects.count m.slots m.values es tag words) h.0, ring_up m.hot m.objects.count (m.objects.count + 1) (omega arith) h.1, h.2));
       on_flag = (λ S m o v l h w. (h, w));
       on_map = (λ S m o size v b h w l. map_keeps x S m o v h w l);
       on_item = (λ S m o size done v b h w p d l. item_keeps x S m o done v h w l);
       on_resolve = (λ S m o size done n b h. resolve_keeps x S m o size done n b h);
-      on_close = (λ S m o size l h. h);
+      on_close = (λ S m o size l p h. h);
       on_drop = (λ S m v h w. (on_note _ _ (value (fields_of v) dropped) m.log (λ es. told_standing m.objects.count m.slots m.values es (value (fields_of v) dropped) (val_refers _ _ m.slots m.pending v w, tt) refl refl) h.0, h.1, h.2));
       on_align = (λ S m a h. h);
-      on_synchronize = (λ m h. (on_note _ _ (synchronize m.at) m.log (λ es. told_standing m.objects.count m.slots m.values es (synchronize m.at) tt refl refl) h.0, h.1, h.2));
+      on_begins = (λ m n h. (on_note _ _ (begins m.at) m.log (λ es. told_standing m.objects.count m.slots m.values es (begins m.at) tt refl refl) h.0, h.1, h.2));
     }
+
+at_end : AtEnd Inv
+unfolding LeftPending FilledBy
+at_end m h =
+    let o : ℕ = m.objects.count in
+    let more : (es : List Event) → Standing o m.slots m.values es → Standing o m.slots m.values (synchronize m.at ∷ begins m.at ∷ es) =
+    λ es i. told_standing o m.slots m.values _ (synchronize m.at) tt refl refl (told_standing o m.slots m.values es (begins m.at) tt refl refl i) in
+    (on_note_two _ _ (begins m.at) (synchronize m.at) m.log more h.0, h.1, h.2)
 
 -- THE THEOREM
 pub referred : (c : Call) (rooms : Rooms) (m : Mem) → Accepted c rooms m → Standing m.objects.count m.slots m.values (told_of m.log)
@@ -163,4 +171,4 @@ unfolding All LeftPending FilledBy waits_in
 referred c rooms m a =
     on_told (Standing m.objects.count m.slots m.values) m.log
     (graph_has c rooms m a Inv W (rules (input_of c))
-    (record { right = tt; left = (λ k n i. absurd i); resolved = (λ k n o i. absurd i) }, ring-start, record { numbered = (λ k l w. absurd (omega arith)); distinct = (λ j k l g w v e. absurd (omega arith)); counted = refl })).0
+    (record { right = tt; left = (λ k n i. absurd i); resolved = (λ k n o i. absurd i) }, ring-start, record { numbered = (λ k l w. absurd (omega arith)); distinct = (λ j k l g w v e. absurd (omega arith)); counted = refl }) at_end).0

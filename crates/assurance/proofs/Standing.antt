@@ -8,7 +8,7 @@ use Rattle.tables.specs.declared.values.Fields.{Fields}
 use Rattle.tables.specs.Values.{triple}
 use Rattle.tables.specs.Records.{room, field, slot_row, value_row, filled}
 use Rattle.tables.proofs.RecordLaws.{written_same, written_else, filled_same}
-use Rattle.definition.specs.Memory.{Kept, in_map, in_slot, in_value, dropped, Event, opened, passed, item, value, resolve, synchronize, Table, table, added}
+use Rattle.definition.specs.Memory.{Kept, in_map, in_slot, in_value, dropped, Event, opened, passed, item, value, resolve, begins, synchronize, Table, table, added}
 use Rattle.definition.specs.Slots.{waiter}
 use Rattle.assurance.specs.On.{All, all_map}
 use Rattle.assurance.proofs.Waiting.{WaitsAt, Waits, filled_other, unknown}
@@ -35,6 +35,7 @@ Right objects st vt (opened q w) = Unit {0}
 Right objects st vt (passed a n) = Unit {0}
 Right objects st vt (item o s w k) = Unit {0}
 Right objects st vt (resolve n o) = Unit {0}
+Right objects st vt (begins q) = Unit {0}
 Right objects st vt (synchronize q) = Unit {0}
 
 pub record Standing (objects : ℕ) (st vt : Table) (es : List Event) : Type 0 where
@@ -63,6 +64,7 @@ right_map o o' st st' vt vt' lo lv fs fv (opened q w) h = tt
 right_map o o' st st' vt vt' lo lv fs fv (passed a n) h = tt
 right_map o o' st st' vt vt' lo lv fs fv (item x s w k) h = tt
 right_map o o' st st' vt vt' lo lv fs fv (resolve n x) h = tt
+right_map o o' st st' vt vt' lo lv fs fv (begins q) h = tt
 right_map o o' st st' vt vt' lo lv fs fv (synchronize q) h = tt
 
 -- ---- the changes

@@ -1,14 +1,14 @@
 -- What is assured of a payload that is accepted under a plain sheet (demand 3). The words are those of Words.antt. Assumes nothing: these are
 -- definitions.
-use Rattle.std.specs.Prelude.{◌≡◌, ◌⊎◌, ◌≢◌, ℕ, ◌*◌, ◌/◌, ◌<◌, ◌≤◌, length, get_or}
+use Rattle.std.specs.Prelude.{◌≡◌, ◌⊎◌, ◌≢◌, ℕ, ◌+◌, ◌*◌, ◌/◌, ◌<◌, ◌≤◌, length, get_or}
 use Rattle.sheet.specs.Names.{k_synchronize}
 use Rattle.sheet.specs.Sheet.{number, word_bytes}
 use Rattle.tables.specs.declared.values.Fields.{Fields}
 use Rattle.tables.specs.Values.{triple}
 use Rattle.tables.specs.Records.{field}
-use Rattle.definition.specs.Memory.{Kept, in_map, in_slot, in_value, opened, passed, item, value, Table}
+use Rattle.definition.specs.Memory.{Kept, in_map, in_slot, in_value, opened, passed, item, value, begins, Table}
 use Rattle.definition.specs.Call.{Rooms, Call, input_of, empty}
-use Rattle.assurance.specs.Words.{events, Told, openings, place_of, words_of, RangesBelow, EndsAt, filled_of, items_in, EndToEnd, ItemOf, in_slots, in_values, LeftPending, FilledBy}
+use Rattle.assurance.specs.Words.{events, Told, openings, place_of, words_of, IntegerAt, RangesBelow, EndsAt, filled_of, items_in, EndToEnd, ItemOf, MapItem, in_slots, in_values, LeftPending, FilledBy}
 use Rattle.assurance.specs.Records.{SlotHas, ValueHas, SlotAt, slots_of, ZeroRest}
 use Rattle.assurance.specs.Steps.{OpensAt}
 use Rattle.assurance.specs.Raws.{IsRange}
@@ -21,6 +21,10 @@ pub record Assured (c : Call) (rooms : Rooms) (objects slots values addresses : 
   pub listed_as_opened : openings (events c rooms) ≡ objects.count
   pub listed_place : (o : ℕ) → o < objects.count → field 4 objects.rows o 1 ≡ place_of (events c rooms) o
   pub listed_size : (o : ℕ) → o < objects.count → field 4 objects.rows o 0 ≡ words_of (events c rooms) o * word_bytes c.sheet
+  -- its declared words are the integer after its head byte
+  pub declared_words : (q w : ℕ) → Told (events c rooms) (opened q w) → IntegerAt c.payload (q + 1) w
+  pub listed_declared : (o : ℕ) → o < objects.count →
+      IntegerAt c.payload (place_of (events c rooms) o + 1) (words_of (events c rooms) o)
   -- every object that it refers to is listed, in dropped values too; what a weak or a repeat holds is a value record
   pub referred_is_listed : (v : Fields) (t : Kept) → Told (events c rooms) (value v t) → v.kind ≡ 1 → v.a < objects.count
   pub repeat_holds_value : (v : Fields) (t : Kept) → Told (events c rooms) (value v t) → v.kind ≡ 7 → v.b < values.count
@@ -38,6 +42,11 @@ pub record Assured (c : Call) (rooms : Rooms) (objects slots values addresses : 
   pub final_inside : final < length c.payload
   pub final_byte : get_or c.payload final 0 ≡ number c.sheet k_synchronize
   pub final_ends_closing : EndsAt final (events c rooms)
+  -- that is the first kSynchronize at a place where an entry of the closing section begins
+  pub final_begins : Told (events c rooms) (begins final)
+  pub none_begins_later : (q : ℕ) → Told (events c rooms) (begins q) → q ≤ final
+  pub none_before_is_final : (q : ℕ) → Told (events c rooms) (begins q) → q < final →
+      get_or c.payload q 0 ≢ number c.sheet k_synchronize
   pub end_after_final : final < end
   pub end_inside : end ≤ length c.payload
   pub raw_is_range : (v : Fields) (t : Kept) → Told (events c rooms) (value v t) → IsRange v → Told (events c rooms) (passed v.a v.b)
@@ -48,6 +57,9 @@ pub record Assured (c : Call) (rooms : Rooms) (objects slots values addresses : 
   pub index_below_words : (o s w k : ℕ) → Told (events c rooms) (item o s w k) → (o < objects.count) × (s / word_bytes c.sheet < words_of (events c rooms) o)
   -- an item is an object's map, one word from byte 0, or has the width of its value
   pub item_of_value : (o s w k : ℕ) → Told (events c rooms) (item o s w k) → ItemOf (word_bytes c.sheet) (events c rooms) s w k
+  -- each object has exactly one map item, and so a word at least: an object of no words is not among the accepted
+  pub one_map_item : (o : ℕ) → o < objects.count → MapItem (word_bytes c.sheet) (events c rooms) o
+  pub some_words : (o : ℕ) → o < objects.count → 0 < words_of (events c rooms) o
   -- each slot record is one item's, with its object and index; each object's slot count is the number of its slot records
   pub item_has_record : (o s w k : ℕ) → Told (events c rooms) (item o s w k) → SlotAt slots k o (s / word_bytes c.sheet)
   pub record_has_item : (k : ℕ) → k < slots.count → items_in (events c rooms) k ≡ 1

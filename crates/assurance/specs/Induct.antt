@@ -4,12 +4,12 @@ use Rattle.std.proofs.Common.{sym, subst, arith}
 use Rattle.std.specs.Prelude.{List, []}
 use Rattle.sheet.specs.Sheet.{usable}
 use Rattle.tables.specs.declared.values.SlotValue.{SlotValue}
-use Rattle.definition.specs.Memory.{told, synchronize, Mem, noted}
+use Rattle.definition.specs.Memory.{told, begins, synchronize, Mem, noted}
 use Rattle.definition.specs.Call.{Rooms, Call, input_of, start, too_long, called, graph}
 use Rattle.assurance.specs.PlainSheet.{PlainSheet, plain-gives}
 use Rattle.assurance.specs.Words.{Accepted}
 use Rattle.assurance.specs.Gives.{Gives, given, refused, gives-choose}
-use Rattle.assurance.specs.Steps.{Frame, Base, Rules}
+use Rattle.assurance.specs.Steps.{Frame, Base, Rules, AtEnd}
 use Rattle.assurance.specs.Whole.{End, walk_has}
 
 module _ (c : Call) (rooms : Rooms) (m : Mem) (a : Accepted c rooms m) where
@@ -36,8 +36,8 @@ module _ (c : Call) (rooms : Rooms) (m : Mem) (a : Accepted c rooms m) where
     pub graph_end : Ended m
     graph_end = given (λ u. Ended) tt m (subst (Gives (λ u. Ended)) a.accepted graph-gives)
 
-    pub graph_has : I [] m
-    graph_has =
+    pub graph_has : AtEnd I → I [] m
+    graph_has last =
         let e = graph_end in
-        let s : Mem = noted (synchronize e.before.at) e.before in
-        subst (I []) (sym e.after) (rules.on_move [] s e.next (rules.on_synchronize e.before e.holds.1) e.later e.ends)
+        let s : Mem = noted (synchronize e.before.at) (noted (begins e.before.at) e.before) in
+        subst (I []) (sym e.after) (rules.on_move [] s e.next (last e.before e.holds.1) e.later e.ends)

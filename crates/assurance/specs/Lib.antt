@@ -2,7 +2,6 @@ pub mod Words
 pub mod Records
 pub mod PlainSheet
 pub mod PlainHeads
-pub mod ByKind
 pub mod Gives
 pub mod Steps
 pub mod Objects

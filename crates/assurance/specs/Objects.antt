@@ -17,7 +17,8 @@ use Rattle.definition.specs.Memory.{Input, word, Kept, in_map, in_slot, Mem, Rea
 use Rattle.definition.specs.Slots.{add_slot, resolved, keep_item, place_item, waits_of}
 use Rattle.definition.specs.Object.{peek, add_object, large_byte, read_map, flags, flag_object, keep_map, resolves, items, closed, body, object}
 use Rattle.assurance.specs.PlainSheet.{PlainSheet, word_pos, not_legacy, not_six_x_lem, not_map_first, not_deferred}
-use Rattle.assurance.specs.Gives.{Gives, gives, refused, gives_then, gives-choose, byte_gives, int_gives}
+use Rattle.assurance.specs.Gives.{Gives, gives, refused, gives_then, gives-choose, byte_gives, int_reads, int_gives}
+use Rattle.assurance.specs.Words.{IntegerAt}
 use Rattle.assurance.specs.Steps.{Frame, frame, OpensAt, Base, Rules, keeping, base_same, base_open, base_flag, base_keep, base_resolve, base_close}
 
 -- a value that becomes a slot: under a plain sheet all are
@@ -65,11 +66,11 @@ module _ (x : Input) (bytes : Bytes x.payload) (plainly : PlainSheet x.sheet) wh
         gives-choose (Had S) (is_six_x x.sheet && eqb space (lo_space x.sheet)) _ _ m
         (λ t. absurd (not_six_x_lem x.sheet plainly (and_parts _ _ t).0)) (λ t. gives (Had S) _ _ g)
 
-    open_has : (S : List Frame) (tag words : ℕ) (m : Mem) → OpensAt x tag → Good S m → Gives (λ o. Good (frame o (words * word x) 0 ∷ S)) (add_object x tag words m)
+    open_has : (S : List Frame) (tag words : ℕ) (m : Mem) → OpensAt x tag → IntegerAt x.payload (tag + 1) words → Good S m → Gives (λ o. Good (frame o (words * word x) 0 ∷ S)) (add_object x tag words m)
     unfolding add_object
-    open_has S tag words m q g =
+    open_has S tag words m q i g =
         gives-choose (λ o. Good (frame o (words * word x) 0 ∷ S)) (has_room 4 m.objects) _ _ m
-        (λ t. let l = ltb-true _ _ t in gives (λ o. Good (frame o (words * word x) 0 ∷ S)) _ _ (base_open x S m g.0 tag words l, rules.on_open S m tag words q g.1 l)) (λ t. refused (λ o. Good (frame o (words * word x) 0 ∷ S)) _ _ _)
+        (λ t. let l = ltb-true _ _ t in gives (λ o. Good (frame o (words * word x) 0 ∷ S)) _ _ (base_open x S m g.0 tag words l, rules.on_open S m tag words q i g.1 l)) (λ t. refused (λ o. Good (frame o (words * word x) 0 ∷ S)) _ _ _)
 
     flag_has : (S : List Frame) (o : ℕ) (v : SlotValue) (m : Mem) → o < m.objects.count → Good S m → W m v → Gives (λ u m. (Good S m) × (W m v)) (flag_object x o v m)
     unfolding flag_object
@@ -141,11 +142,13 @@ module _ (x : Input) (bytes : Bytes x.payload) (plainly : PlainSheet x.sheet) wh
 
     -- ---- an object, whose references r reads
 
-    closed_has : (S : List Frame) (o tag size done : ℕ) (m : Mem) → Good (frame o size done ∷ S) m → Gives (Has S) (closed o tag size done m)
+    closed_has : (S : List Frame) (o tag size done : ℕ) (m : Mem) → Read S o size done m → Gives (Has S) (closed o tag size done m)
     closed_has S o tag size done m g =
         gives-choose (Has S) (eqb done size) _ _ m
-        (λ t. let i : I S m = rules.on_close S m o size g.0.open_below.0 (subst (λ (d : ℕ). I (frame o size d ∷ S) m) (eqb-true _ _ t) g.1) in
-        gives (Has S) _ _ ((base_close x S o size done m g.0, i), rules.on_object S m o i g.0.open_below.0, tt))
+        (λ t. let e : done ≡ size = eqb-true _ _ t in
+        let l : o < m.objects.count = g.0.0.open_below.0 in
+        let i : I S m = rules.on_close S m o size l (omega (arith, g.1)) (subst (λ (d : ℕ). I (frame o size d ∷ S) m) e g.0.1) in
+        gives (Has S) _ _ ((base_close x S o size done m g.0.0, i), rules.on_object S m o i l, tt))
         (λ t. refused (Has S) _ _ _)
 
     module _ (r : Reader SlotValue) (has : (S : List Frame) (m : Mem) → Good S m → Gives (Has S) (r m)) where
@@ -179,13 +182,15 @@ module _ (x : Input) (bytes : Bytes x.payload) (plainly : PlainSheet x.sheet) wh
           (gives_then (Has F) (Had T) (read_map x r space size o m) _ (read_map_has F space size o m g) (λ v m h. map_has S o size v m h.0 h.1))
           (λ u m h. resolves_have S o size (word x) (length x.payload - m.at) m h))
           (λ u m h. items_have S o size (length x.payload - m.at + 1) (word x) m (h, word_pos x.sheet plainly)))
-          (λ d m h. closed_has S o tag size d m h.0)
+          (λ d m h. closed_has S o tag size d m h)
 
-      pub object_has : (S : List Frame) (space tag : ℕ) (m : Mem) → OpensAt x tag → Good S m → Gives (Has S) (object x r space tag m)
+      pub object_has : (S : List Frame) (space tag : ℕ) (m : Mem) → m.at ≡ tag + 1 → OpensAt x tag → Good S m → Gives (Has S) (object x r space tag m)
       unfolding object
-      object_has S space tag m q g =
-          gives_then (λ n. Good S) (Has S) (int x m) _ (int_has S m g)
+      object_has S space tag m e q g =
+          let P : ℕ → Mem → Type 0 = λ words m. (Good S m) × (IntegerAt x.payload (tag + 1) words) in
+          gives_then P (Has S) (int x m) _
+          (int_reads x bytes P m (λ v at i l h. (good_move S m at g l h, subst (λ (a : ℕ). IntegerAt x.payload a v) e i)))
           (λ words m h. let Q : ℕ → Mem → Type 0 = λ o. Good (frame o (words * word x) 0 ∷ S) in
           gives_then Q (Has S) ((large_byte x space >> add_object x tag words) m) _
-          (gives_then (Had S) Q (large_byte x space m) _ (large_has S space m h) (λ u m h. open_has S tag words m q h))
+          (gives_then (Had S) Q (large_byte x space m) _ (large_has S space m h.0) (λ u m k. open_has S tag words m q h.1 k))
           (λ o m h. body_has S space tag words o m h))

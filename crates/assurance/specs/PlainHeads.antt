@@ -1,114 +1,121 @@
 -- A plain sheet gives no head byte a kind that only legacy, 6.x or with-skip sheets have. Assumes nothing.
 use Rattle.std.specs.Prelude.{◌≡◌, refl, Bool, true, false, not, ◌&&◌, ◌||◌, ℕ, ◌+◌, ◌-◌, ◌<◌, ◌≤◌, eqb, leb}
-use Rattle.std.proofs.Common.{⊎_elim, arith, eqb-true, eq-eqb, leb-true, ltb-true, le-leb, lt-ltb}
-use mathlib.Core.List.{List, [], ◌∷◌}
+use Rattle.std.proofs.Common.{⊎_elim, arith, eqb-true, leb-true, ltb-true, le-leb, lt-ltb}
+use mathlib.Core.List.{List}
 use Rattle.std.proofs.lemmas.Bool.{not-true, and_parts, or_cases}
-use Rattle.std.proofs.lemmas.Nat.{and_le_r}
 use Rattle.sheet.specs.Names.{k_new_object, k_backref, k_hot_object_with_skip, k_root_array_constants_with_skip, k_skip}
-use Rattle.sheet.specs.Sheet.{number, present, root_mask}
-use Rattle.heads.specs.Kinds.{new_object, legacy_backref, legacy_backref_with_skip, next_chunk, alignment, hot, hot_with_skip, root_constant_with_skip, builtin, external, api, internal, deoptimizer, stream_bytes, embedder_fields, off_heap_target, fixed_raw, skip, repeat_previous, variable_repeat_previous}
-use Rattle.heads.specs.Heads.{up_to_backref, Row, legacy, six_x, six_x_alone, from_one, and_seven, tests, argument_of, order, Head, head, claims, pick_head, first_of, head_of}
+use Rattle.sheet.specs.Sheet.{number, present}
 use Rattle.sheet.specs.Tests.{opens}
-use Rattle.sheet.proofs.UsableSheet.{implies, parts}
+use Rattle.heads.specs.declared.heads.Head.{Head}
+use Rattle.heads.specs.declared.kinds.Kind.{Kind}
+use Rattle.heads.specs.declared.kinds.Kind.TheVariants.{NewObject, LegacyBackref, LegacyBackrefWithSkip, NextChunk, Alignment, HotWithSkip, RootConstantWithSkip, Builtin, External, Api, Internal, Deoptimizer, StreamBytes, EmbedderFields, OffHeapTarget, Skip, RepeatPrevious, VariableRepeatPrevious}
+use Rattle.heads.specs.declared.order.Claim.{Claim}
+use Rattle.heads.specs.declared.order.Span.{Span}
+use Rattle.heads.specs.declared.order.Span.TheVariants.{UpToBackref}
+use Rattle.heads.specs.declared.order.Family.{Family}
+use Rattle.heads.specs.declared.order.Family.TheVariants.{Legacy, SixX, SixXAlone}
+use Rattle.heads.specs.Heads.{tests, order, claims, head_by, head_of}
+use Rattle.heads.proofs.Rules.{each_head}
 use Rattle.assurance.specs.PlainSheet.{clash, PlainSheet}
 
--- one of these
-abbrev is_one_of : ℕ → List ℕ → Bool
-is_one_of k [] = false
-is_one_of k (j ∷ js) = eqb k j || is_one_of k js
-
 -- the kinds that a plain sheet does not have
-abbrev pub not_plain : ℕ → Bool
-not_plain k = is_one_of k (legacy_backref ∷ legacy_backref_with_skip ∷ next_chunk ∷ alignment ∷ hot_with_skip ∷ root_constant_with_skip ∷ builtin ∷ external ∷ api ∷ internal ∷ deoptimizer ∷ stream_bytes ∷ embedder_fields ∷ off_heap_target ∷ skip ∷ repeat_previous ∷ variable_repeat_previous ∷ [])
+abbrev pub not_plain : Kind → Bool
+not_plain LegacyBackref = true
+not_plain LegacyBackrefWithSkip = true
+not_plain NextChunk = true
+not_plain Alignment = true
+not_plain HotWithSkip = true
+not_plain RootConstantWithSkip = true
+not_plain Builtin = true
+not_plain External = true
+not_plain Api = true
+not_plain Internal = true
+not_plain Deoptimizer = true
+not_plain StreamBytes = true
+not_plain EmbedderFields = true
+not_plain OffHeapTarget = true
+not_plain Skip = true
+not_plain RepeatPrevious = true
+not_plain VariableRepeatPrevious = true
+not_plain kind = false
 
--- what is known of a head that a plain sheet gives a byte: its kind; a new-object head lies from kNewObject up to below kBackref; fixed raw
--- data has a word at least; a hot byte names one of eight places
+-- what is known of a head that a plain sheet gives a byte: its kind; a new-object head lies from
+-- kNewObject up to below kBackref
 pub record PlainHead (v : List ℕ) (b : ℕ) (h : Head) : Type 0 where
   pub kind : not_plain h.kind ≡ false
-  pub new_object_lem : h.kind ≡ new_object → opens v b ≡ true
-  pub raw : h.kind ≡ fixed_raw → 1 ≤ h.argument
-  pub place : h.kind ≡ hot → h.argument < 8
+  pub new_object_lem : h.kind ≡ NewObject → opens v b ≡ true
 
--- a row that no plain sheet tests
-abbrev untested : Row → Bool
-untested r = is_one_of r.family (legacy ∷ six_x ∷ six_x_alone ∷ []) || is_one_of r.name (k_hot_object_with_skip ∷ k_root_array_constants_with_skip ∷ k_skip ∷ [])
+-- families and names of which a plain sheet has none
+abbrev no_family : Family → Bool
+no_family Legacy = true
+no_family SixX = true
+no_family SixXAlone = true
+no_family family = false
 
-abbrev fits : Row → Bool
-fits r = (untested r || not (not_plain r.kind)) && (not (eqb r.kind new_object) || (untested r || (eqb r.name k_new_object && eqb r.span up_to_backref))) && (not (eqb r.kind fixed_raw) || eqb r.argument from_one) && (not (eqb r.kind hot) || eqb r.argument and_seven)
+abbrev no_name : ℕ → Bool
+no_name k = eqb k k_hot_object_with_skip || eqb k k_root_array_constants_with_skip || eqb k k_skip
 
-all_fit : List Row → Bool
-all_fit [] = true
-all_fit (r ∷ rs) = fits r && all_fit rs
+abbrev untested : Claim → Bool
+untested r = no_family r.family || no_name r.name
 
-order-fits : all_fit order ≡ true
-unfolding order all_fit
-order-fits = refl
+-- a new-object row is that of modern sheets
+abbrev is_up_to_backref : Span → Bool
+is_up_to_backref UpToBackref = true
+is_up_to_backref span = false
 
--- the kind of this number is none of a plain sheet
-pub no_kind : (k j : ℕ) → eqb k j ≡ true → not_plain j ≡ true → not_plain k ≡ false → ⊥
-no_kind k j e t f = clash (not_plain j) t (rw (eqb-true k j e) at f)
+abbrev is_opening : Kind → Claim → Bool
+is_opening NewObject r = untested r || (eqb r.name k_new_object && is_up_to_backref r.span)
+is_opening kind r = true
+
+abbrev fits : Claim → Bool
+fits r = (untested r || not (not_plain r.kind)) && is_opening r.kind r
+
+up_to_backref : (s : Span) → is_up_to_backref s ≡ true → s ≡ UpToBackref
+up_to_backref UpToBackref e = refl
+up_to_backref s e = absurd cc
 
 module _ (v : List ℕ) (s : PlainSheet v) where
-  no_family : (f j : ℕ) → eqb f j ≡ true → tests v j ≡ false → tests v f ≡ true → ⊥
-  no_family f j e n t = clash (tests v j) (rw (eqb-true f j e) at t) n
+  not_tested : (f : Family) → no_family f ≡ true → tests v f ≡ true → ⊥
+  not_tested Legacy e t = clash (tests v Legacy) t s.no_legacy
+  not_tested SixX e t = clash (tests v SixX) t s.no_six_x
+  not_tested SixXAlone e t = clash (tests v SixX) (and_parts (tests v SixX) _ t).0 s.no_six_x
+  not_tested f e t = cc
 
-  no_name : (n j : ℕ) → eqb n j ≡ true → present v j ≡ false → present v n ≡ true → ⊥
-  no_name n j e a p = clash (present v j) (rw (eqb-true n j e) at p) a
+  not_present : (k : ℕ) → no_name k ≡ true → present v k ≡ true → ⊥
+  not_present k e p =
+      let is : (j : ℕ) → eqb k j ≡ true → present v j ≡ false → ⊥ = λ j q a. clash (present v j) (rw (eqb-true k j q) at p) a in
+      ⊎_elim
+      (λ q. ⊎_elim (λ q. is k_hot_object_with_skip q s.no_hot_skip) (λ q. is k_root_array_constants_with_skip q s.no_root_skip) (or_cases (eqb k k_hot_object_with_skip) _ q))
+      (λ q. is k_skip q s.no_skip)
+      (or_cases (eqb k k_hot_object_with_skip || eqb k k_root_array_constants_with_skip) _ e)
 
-  one_of_three : (k a b c : ℕ) (C : Type 0) → is_one_of k (a ∷ b ∷ c ∷ []) ≡ true → (eqb k a ≡ true → C) → (eqb k b ≡ true → C) → (eqb k c ≡ true → C) → C
-  one_of_three k a b c C e f g h =
-      ⊎_elim f (λ r. ⊎_elim g (λ r. ⊎_elim h (λ r. absurd (clash false r refl)) (or_cases (eqb k c) _ r)) (or_cases (eqb k b) _ r)) (or_cases (eqb k a) _ e)
-
-  untested_row : (r : Row) (b : ℕ) → untested r ≡ true → claims v r b ≡ true → ⊥
+  untested_row : (r : Claim) (b : ℕ) → untested r ≡ true → claims v r b ≡ true → ⊥
   untested_row r b u c =
       let l : present v r.name && tests v r.family ≡ true = (and_parts _ _ (and_parts _ _ c).0).0 in
-      let p : present v r.name ≡ true = (and_parts _ _ l).0 in
-      let t : tests v r.family ≡ true = (and_parts (present v r.name) _ l).1 in
       ⊎_elim
-      (λ f. one_of_three r.family legacy six_x six_x_alone ⊥ f
-      (λ e. no_family r.family legacy e s.no_legacy t)
-      (λ e. no_family r.family six_x e s.no_six_x t)
-      (λ e. no_family r.family six_x_alone e (rw s.no_six_x) t))
-      (λ n. one_of_three r.name k_hot_object_with_skip k_root_array_constants_with_skip k_skip ⊥ n
-      (λ e. no_name r.name k_hot_object_with_skip e s.no_hot_skip p)
-      (λ e. no_name r.name k_root_array_constants_with_skip e s.no_root_skip p)
-      (λ e. no_name r.name k_skip e s.no_skip p))
-      (or_cases _ _ u)
-
-  -- of the head that a row gives
-  abbrev given : Row → ℕ → Head
-  given r b = head r.kind (argument_of (root_mask v) r.argument (number v r.name) b)
+      (λ f. not_tested r.family f (and_parts (present v r.name) _ l).1)
+      (λ n. not_present r.name n (and_parts _ _ l).0)
+      (or_cases (no_family r.family) _ u)
 
   -- of the modern row for new objects
-  opening : (r : Row) (b : ℕ) → r.name ≡ k_new_object → r.span ≡ up_to_backref → claims v r b ≡ true → opens v b ≡ true
+  opening : (r : Claim) (b : ℕ) → r.name ≡ k_new_object → r.span ≡ UpToBackref → claims v r b ≡ true → opens v b ≡ true
   opening r b n s c =
       let low : number v k_new_object ≤ b = leb-true _ _ (rw n at (and_parts (present v r.name && tests v r.family) _ (and_parts _ _ c).0).1) in
       let high : b < number v k_new_object + (number v k_backref - number v k_new_object) = ltb-true _ _ (rw (n, s) at (and_parts (present v r.name && tests v r.family && leb (number v r.name) b) _ c).1) in
       rw (le-leb (number v k_new_object) b low, lt-ltb b (number v k_backref) (omega arith))
 
-  row_plain : (r : Row) (b : ℕ) → fits r ≡ true → claims v r b ≡ true → PlainHead v b (given r b)
+  row_plain : (r : Claim) (b : ℕ) → fits r ≡ true → claims v r b ≡ true → PlainHead v b (head_by v r b)
   row_plain r b f c =
-      let p = parts ((untested r || not (not_plain r.kind)) ∷ (not (eqb r.kind new_object) || (untested r || (eqb r.name k_new_object && eqb r.span up_to_backref))) ∷ (not (eqb r.kind fixed_raw) || eqb r.argument from_one) ∷ (not (eqb r.kind hot) || eqb r.argument and_seven) ∷ []) f in
+      let p = and_parts (untested r || not (not_plain r.kind)) (is_opening r.kind r) f in
       record {
-        kind = ⊎_elim (λ u. absurd (untested_row r b u c)) (λ n. not-true _ n) (or_cases _ _ (p 0));
+        kind = ⊎_elim (λ u. absurd (untested_row r b u c)) (λ n. not-true _ n) (or_cases (untested r) _ p.0);
         new_object_lem =
             (λ e. ⊎_elim (λ u. absurd (untested_row r b u c))
-            (λ q. opening r b (eqb-true r.name k_new_object (and_parts _ _ q).0) (eqb-true r.span up_to_backref (and_parts (eqb r.name k_new_object) _ q).1) c)
-            (or_cases (untested r) _ (implies _ _ (p 1) (eq-eqb r.kind new_object e))));
-        raw = (λ e. let q : r.argument ≡ from_one = eqb-true _ _ (implies _ _ (p 2) (eq-eqb r.kind fixed_raw e)) in rw q (omega arith));
-        place = (λ e. let q : r.argument ≡ and_seven = eqb-true _ _ (implies _ _ (p 3) (eq-eqb r.kind hot e)) in rw q (omega (arith, and_le_r b 7)));
+            (λ q. let q = and_parts (eqb r.name k_new_object) (is_up_to_backref r.span) q in opening r b (eqb-true r.name k_new_object q.0) (up_to_backref r.span q.1) c)
+            (or_cases (untested r) _ (rw e at p.1)));
       }
-
-  pick_plain : (b : ℕ) (t : Bool) (h k : Head) → (t ≡ true → PlainHead v b h) → PlainHead v b k → PlainHead v b (pick_head t h k)
-  pick_plain b true h k f g = f refl
-  pick_plain b false h k f g = g
-
-  first_plain : (rs : List Row) (b : ℕ) → all_fit rs ≡ true → PlainHead v b (first_of v rs b)
-  unfolding first_of all_fit
-  first_plain [] b f = record { kind = refl; new_object_lem = (λ e. absurd (omega arith)); raw = (λ e. omega arith); place = (λ e. omega arith) }
-  first_plain (r ∷ rs) b f = pick_plain b (claims v r b) _ _ (row_plain r b (and_parts (fits r) (all_fit rs) f).0) (first_plain rs b (and_parts (fits r) (all_fit rs) f).1)
 
   -- THE THEOREM
   pub head_plain : (b : ℕ) → PlainHead v b (head_of v b)
-  unfolding head_of
-  head_plain b = first_plain order b order-fits
+  unfolding order
+  head_plain b = each_head v b (PlainHead v b) fits (record { kind = refl; new_object_lem = λ e. absurd cc }) (λ r f c. row_plain r b f c) refl

@@ -65,12 +65,21 @@ module _ (v : List ℕ) (plainly : PlainSheet v) where
     pick_case true a b y n = y refl
     pick_case false a b y n = n
 
-    pub closing_case : (b : ℕ) → (eqb (number v k_synchronize) b ≡ true → P Synchronize) → ((a : ℕ) → P (Alignment a)) → P Reference → P (closing_of v b)
+    abbrev is_last : ℕ → Bool
+    is_last b = eqb (number v k_synchronize) b
+
+    pub closing_case : (b : ℕ) → (is_last b ≡ true → P Synchronize) → (is_last b ≡ false → (a : ℕ) → P (Alignment a)) → (is_last b ≡ false → P Reference) → P (closing_of v b)
     unfolding closing_of
-    closing_case b s a r =
-        pick_case (eqb (number v k_synchronize) b) _ _ s
-        (pick_case (in_span v k_alignment_prefix 3 b) (Alignment (b - number v k_alignment_prefix + 1)) _ (λ t. a (b - number v k_alignment_prefix + 1))
-        (pick_case (is_entry v b) (Deferred (b - number v k_new_object)) _ (λ t. absurd (not_legacy (and_parts _ _ (and_parts _ _ t).0).0)) r))
+    closing_case b s a r = at (is_last b) refl
+      where
+        other : is_last b ≡ false → P (pick_closing (in_span v k_alignment_prefix 3 b) (Alignment (b - number v k_alignment_prefix + 1)) (pick_closing (is_entry v b) (Deferred (b - number v k_new_object)) Reference))
+        other e =
+            pick_case (in_span v k_alignment_prefix 3 b) (Alignment (b - number v k_alignment_prefix + 1)) _ (λ t. a e (b - number v k_alignment_prefix + 1))
+            (pick_case (is_entry v b) (Deferred (b - number v k_new_object)) _ (λ t. absurd (not_legacy (and_parts _ _ (and_parts _ _ t).0).0)) (r e))
+
+        at : (t : Bool) → is_last b ≡ t → P (pick_closing t Synchronize (pick_closing (in_span v k_alignment_prefix 3 b) (Alignment (b - number v k_alignment_prefix + 1)) (pick_closing (is_entry v b) (Deferred (b - number v k_new_object)) Reference)))
+        at true e = s e
+        at false e = other e
 
 -- kDeferred is absent, so no byte is it
 pub not_deferred : (x : Input) → Bytes x.payload → PlainSheet x.sheet → (m : Mem) → is_deferred x.sheet (peek x m) ≡ true → ⊥

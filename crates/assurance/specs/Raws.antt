@@ -7,10 +7,10 @@ use Rattle.tables.specs.declared.values.SlotValue.{SlotValue}
 use Rattle.tables.specs.declared.values.SlotValue.TheVariants.{Ref as IsRef, Repeat, RepeatPrev, Skip, StreamBytes, Raw as IsRaw, ClearedWeak, WeakRef, PendingRef}
 use Rattle.tables.specs.declared.values.Fields.{Fields}
 use Rattle.tables.specs.Values.{fields_of, width_of}
-use Rattle.definition.specs.Memory.{Input, word, Kept, in_map, in_slot, in_value, dropped, Event, opened, passed, item, value, resolve, synchronize, Mem}
+use Rattle.definition.specs.Memory.{Input, word, Kept, in_map, in_slot, in_value, dropped, Event, opened, passed, item, value, resolve, begins, synchronize, Mem}
 use Rattle.definition.specs.Call.{Rooms, Call, input_of, told_of}
 use Rattle.assurance.specs.Words.{Accepted, Told}
-use Rattle.assurance.specs.Steps.{Frame, frame, Rules, resolve_case}
+use Rattle.assurance.specs.Steps.{Frame, frame, Rules, AtEnd, resolve_case}
 use Rattle.assurance.specs.Induct.{graph_has}
 use Rattle.assurance.specs.On.{On, on_note, on_note_two, on_map, on_both, on_told, All, all_map, all_told}
 
@@ -24,6 +24,7 @@ Ranged es (opened q w) = Unit {0}
 Ranged es (passed a n) = Unit {0}
 Ranged es (item o s w k) = Unit {0}
 Ranged es (resolve n o) = Unit {0}
+Ranged es (begins q) = Unit {0}
 Ranged es (synchronize q) = Unit {0}
 
 -- of a value that was given
@@ -61,6 +62,7 @@ later es f (opened q w) h = tt
 later es f (passed a n) h = tt
 later es f (item o s w k) h = tt
 later es f (resolve n o) h = tt
+later es f (begins q) h = tt
 later es f (synchronize q) h = tt
 
 abbrev P : List Event → Type 0
@@ -93,18 +95,21 @@ rules x =
       on_pending = (λ S m h. (h, on_map _ _ m.log (λ es g. tt) h));
       on_raw = (λ S m n a h l g. (on_note _ _ (passed m.at n) m.log (λ es. more (passed m.at n) es tt) h, on_note _ _ (passed m.at n) m.log (λ es i. Memᴰ.head refl) h));
       on_value = (λ S m v h w l. let e : Event = value (fields_of v) (in_value m.values.count) in (on_note _ _ e m.log (valued v (in_value m.values.count)) (on_both P (Val v) m.log h w), on_note _ _ e m.log (λ es i. tt) h, λ n. on_note _ _ e m.log (λ es i. tt) h));
-      on_open = (λ S m tag words q h l. on_note _ _ (opened tag words) m.log (λ es. more (opened tag words) es tt) h);
+      on_open = (λ S m tag words q i h l. on_note _ _ (opened tag words) m.log (λ es. more (opened tag words) es tt) h);
       on_flag = (λ S m o v l h w. (h, w));
       on_map = (λ S m o size v b h w l. on_note_two _ _ (value (fields_of v) (in_map m.slots.count)) (item o 0 (word x) m.slots.count) m.log (λ es i. more (item o 0 (word x) m.slots.count) _ tt (valued v (in_map m.slots.count) es i)) (on_both P (Val v) m.log h w));
       on_item = (λ S m o size done v b h w p d l. on_note_two _ _ (value (fields_of v) (in_slot m.slots.count)) (item o done (width_of (word x) v) m.slots.count) m.log (λ es i. more (item o done (width_of (word x) v) m.slots.count) _ tt (valued v (in_slot m.slots.count) es i)) (on_both P (Val v) m.log h w));
       on_resolve = (λ S m o size done n b h. resolve_case m n o (Inv (frame o size done ∷ S)) (λ e. on_note _ _ (resolve n o) m.log (λ es. more (resolve n o) es tt) h) (λ k e. on_note _ _ (resolve n o) m.log (λ es. more (resolve n o) es tt) h));
-      on_close = (λ S m o size l h. h);
+      on_close = (λ S m o size l p h. h);
       on_drop = (λ S m v h w. on_note _ _ (value (fields_of v) dropped) m.log (valued v dropped) (on_both P (Val v) m.log h w));
       on_align = (λ S m a h. h);
-      on_synchronize = (λ m h. on_note _ _ (synchronize m.at) m.log (λ es. more (synchronize m.at) es tt) h);
+      on_begins = (λ m n h. on_note _ _ (begins m.at) m.log (λ es. more (begins m.at) es tt) h);
     }
+
+at_end : AtEnd Inv
+at_end m h = on_note_two _ _ (begins m.at) (synchronize m.at) m.log (λ es i. more (synchronize m.at) _ tt (more (begins m.at) es tt i)) h
 
 -- THE THEOREM
 pub raw_ranged : (c : Call) (rooms : Rooms) (m : Mem) → Accepted c rooms m → (v : Fields) (t : Kept) → Told (told_of m.log) (value v t) → IsRange v → Told (told_of m.log) (passed v.a v.b)
 unfolding All
-raw_ranged c rooms m a v t i = all_told (Ranged (told_of m.log)) (told_of m.log) (value v t) (on_told P m.log (graph_has c rooms m a Inv W (rules (input_of c)) tt)) i
+raw_ranged c rooms m a v t i = all_told (Ranged (told_of m.log)) (told_of m.log) (value v t) (on_told P m.log (graph_has c rooms m a Inv W (rules (input_of c)) tt at_end)) i

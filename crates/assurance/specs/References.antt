@@ -1,13 +1,17 @@
 -- What the rules keep is kept by every reader, under a plain sheet: references. Assumes nothing.
-use Rattle.std.specs.Prelude.{◌≡◌, Bool, List, ltb, Option, Some, None}
+use Rattle.std.specs.Prelude.{◌≡◌, ◌≢◌, Bool, List, ltb, eqb, Option, Some, None}
 use Rattle.std.proofs.Math.Path.{refl}
-use Rattle.std.proofs.Math.Bool.{true}
+use Rattle.std.proofs.Math.Bool.{true, false}
 use Prim.Native.Nat.{ℕ, zero, suc, ◌+◌, ◌*◌, ◌-◌, ◌^◌, ◌<◌, ◌≤◌}
-use Rattle.std.proofs.Common.{arith, ltb-true}
+use Rattle.std.proofs.Common.{arith, ltb-true, eqb-true}
+use Rattle.std.proofs.lemmas.Bool.{eqb-false}
 use Rattle.std.proofs.Math.ListN.{length}
 use Rattle.stream.specs.Bytes.{raw_at}
 use Rattle.stream.proofs.ByteLaws.{Bytes}
 use Rattle.sheet.specs.Sheet.{raw_advances}
+use Rattle.heads.specs.declared.kinds.Kind.{Kind}
+use Rattle.heads.specs.declared.kinds.Kind.TheVariants.{NewObject, Backref, Hot as HotPlace, RootArray, RootConstant, ReadOnly, Attached, Cache, RegisterPending, ClearedWeak, WeakPrefix, PointerPrefix, DispatchEntry, FixedRaw, VariableRaw, FixedRepeat, FixedRepeatRoot, VariableRepeat, VariableRepeatRoot, MetaMap, NoMeaning}
+use Rattle.heads.proofs.Rules.{Argued, head_argued}
 use Rattle.heads.specs.Heads.{head, head_of}
 use Rattle.sheet.specs.Tests.{opens}
 use Rattle.tables.specs.declared.values.Ref.{Ref}
@@ -18,11 +22,11 @@ use Rattle.tables.specs.Values.{fields_of}
 use Rattle.backref.specs.HotRing.{hot_at}
 use Rattle.definition.specs.Memory.{◌>>=◌, Input, word, Mem, Reader, byte, int, moved, has_room}
 use Rattle.definition.specs.Slots.{add_value}
+use Rattle.definition.specs.Object.{object}
 use Rattle.definition.specs.Reference.{refers_hot, backref_to, of_hot, hot_place, outside, pending_reference, after_raw, raw_data, raw_bytes, weak_of, repeat_of, repeat_root, by_head, reference, ref_at}
 use Rattle.laws.specs.Leaves.{RawEnds, raw_ends}
 use Rattle.assurance.specs.PlainSheet.{PlainSheet, words_pos}
 use Rattle.assurance.specs.PlainHeads.{PlainHead, head_plain}
-use Rattle.assurance.specs.ByKind.{by_kind}
 use Rattle.assurance.specs.Gives.{Gives, gives, refused, gives_then, gives-choose, byte_gives}
 use Rattle.assurance.specs.Steps.{Frame, OpensAt, Hot, Rules, entering, numbering, passing, valuing, base_same}
 use Rattle.assurance.specs.Objects.{Good, Has, good_move, byte_has, int_has, object_has}
@@ -108,38 +112,38 @@ module _ (x : Input) (bytes : Bytes x.payload) (plainly : PlainSheet x.sheet) (I
     with_reference : (f : SlotValue → Reader SlotValue) → ((v : SlotValue) (m : Mem) → G S m → W m v → Gives (H S) (f v m)) → Reads (r >>= f)
     with_reference f k m g = gives_then (H S) (H S) (r m) f (has S m g) (λ v m h. k v m h.0 h.1)
 
-    head_has : (b tag kind a : ℕ) → PlainHead x.sheet b (head kind a) → (opens x.sheet b ≡ true → OpensAt x tag) → Reads (by_head x r tag kind a)
-    head_has b tag kind a p o =
-        by_kind x r tag kind a Reads p.kind
-        (record {
-          new_object_lem = (λ e m g. object_has x bytes plainly I W rules r has S a tag m (o (p.new_object_lem e)) g);
-          back_reference = with_number _ (back_has S);
-          hot_place_lem = (λ e m g. hot_has S a m (p.place e) g);
-          root_array_lem = with_number _ (λ i m h. enter_has S (Root i) tt m h (rules.on_root S m i h.1));
-          root_constant_lem = (λ m g. gives (H S) _ _ (g, rules.on_root S m a g.1, tt));
-          read_only_heap = with_number _ (λ c. with_number _ (λ o m h. gives (H S) _ _ (h, rules.on_read_only S m c o h.1, tt)));
-          attached_reference = with_number _ (λ i m h. gives (H S) _ _ (h, rules.on_attached S m i h.1, tt));
-          object_cache = outside_has S 1;
-          pending = pending_has S;
-          cleared = (λ m g. gives (H S) _ _ (g, rules.on_cleared S m g.1, tt));
-          weak = with_reference _ (weak_has S);
-          pointer = has S;
-          dispatch = with_number _ (λ i m h. gives (H S) _ _ (h, rules.on_cleared S m h.1, tt));
-          fixed_raw_lem = (λ e m g. raw_has S (a * word x) true m (words_pos x.sheet plainly a (p.raw e)) g);
-          variable_raw_lem = with_number _ (λ n m h. raw_has S (raw_bytes x n) (raw_advances x.sheet) m (omega arith) h);
-          fixed_repeat_lem = with_reference _ (repeat_has S a);
-          fixed_repeat_root_lem = repeat_root_has S a;
-          variable_repeat_lem = with_number _ (λ n. with_reference _ (repeat_has S (n + 18)));
-          variable_repeat_root_lem = with_number _ (λ n. repeat_root_has S (n + 18));
-          refusal = (λ n m g. refused (H S) _ _ _);
-        })
+    -- by a head of a kind that a plain sheet has; a new object's head stands right before the cursor
+    head_has : (b tag : ℕ) (kind : Kind) (a : ℕ) → PlainHead x.sheet b (head kind a) → Argued (head kind a) → (opens x.sheet b ≡ true → OpensAt x tag) → (m : Mem) → m.at ≡ tag + 1 → G S m → Gives (H S) (by_head x r tag kind a m)
+    unfolding by_head
+    head_has b tag NewObject a p q o m at g = object_has x bytes plainly I W rules r has S a tag m at (o (p.new_object_lem refl)) g
+    head_has b tag Backref a p q o m at g = with_number _ (back_has S) m g
+    head_has b tag HotPlace a p q o m at g = hot_has S a m (q.place refl) g
+    head_has b tag RootArray a p q o m at g = with_number _ (λ i m h. enter_has S (Root i) tt m h (rules.on_root S m i h.1)) m g
+    head_has b tag RootConstant a p q o m at g = gives (H S) _ _ (g, rules.on_root S m a g.1, tt)
+    head_has b tag ReadOnly a p q o m at g = with_number _ (λ c. with_number _ (λ o m h. gives (H S) _ _ (h, rules.on_read_only S m c o h.1, tt))) m g
+    head_has b tag Attached a p q o m at g = with_number _ (λ i m h. gives (H S) _ _ (h, rules.on_attached S m i h.1, tt)) m g
+    head_has b tag Cache a p q o m at g = outside_has S 1 m g
+    head_has b tag RegisterPending a p q o m at g = pending_has S m g
+    head_has b tag ClearedWeak a p q o m at g = gives (H S) _ _ (g, rules.on_cleared S m g.1, tt)
+    head_has b tag WeakPrefix a p q o m at g = with_reference _ (weak_has S) m g
+    head_has b tag PointerPrefix a p q o m at g = has S m g
+    head_has b tag DispatchEntry a p q o m at g = with_number _ (λ i m h. gives (H S) _ _ (h, rules.on_cleared S m h.1, tt)) m g
+    head_has b tag FixedRaw a p q o m at g = raw_has S (a * word x) true m (words_pos x.sheet plainly a (q.raw refl)) g
+    head_has b tag VariableRaw a p q o m at g = with_number _ (λ n m h. raw_has S (raw_bytes x n) (raw_advances x.sheet) m (omega arith) h) m g
+    head_has b tag FixedRepeat a p q o m at g = with_reference _ (repeat_has S a) m g
+    head_has b tag FixedRepeatRoot a p q o m at g = repeat_root_has S a m g
+    head_has b tag VariableRepeat a p q o m at g = with_number _ (λ n. with_reference _ (repeat_has S (n + 18))) m g
+    head_has b tag VariableRepeatRoot a p q o m at g = with_number _ (λ n. repeat_root_has S (n + 18)) m g
+    head_has b tag MetaMap a p q o m at g = refused (H S) _ _ _
+    head_has b tag NoMeaning a p q o m at g = refused (H S) _ _ _
+    head_has b tag kind a p q o m at g = absurd cc
 
     pub reference_has : (m : Mem) → (m.at < length x.payload → G S (moved (m.at + 1) m)) → Gives (H S) (reference x r m)
     unfolding reference
     reference_has m g =
-        let Q : ℕ → Mem → Type 0 = λ b m'. (G S m') × (opens x.sheet b ≡ true → OpensAt x m.at) in
-        gives_then Q (H S) (byte x m) _ (byte_gives x Q m (λ l. (g l, λ e. (l, e))))
-        (λ b m' h. head_has b m.at (head_of x.sheet b).kind (head_of x.sheet b).argument (head_plain x.sheet plainly b) h.1 m' h.0)
+        let Q : ℕ → Mem → Type 0 = λ b m'. (G S m') × (m'.at ≡ m.at + 1) × (opens x.sheet b ≡ true → OpensAt x m.at) × (b < 256) in
+        gives_then Q (H S) (byte x m) _ (byte_gives x Q m (λ l. (g l, refl, λ e. (l, e), bytes m.at)))
+        (λ b m' h. head_has b m.at (head_of x.sheet b).kind (head_of x.sheet b).argument (head_plain x.sheet plainly b) (head_argued x.sheet b h.3) h.2 m' h.1 h.0)
 
   -- THE THEOREM
   pub ref_has : (k : ℕ) (S : List Frame) (m : Mem) → G S m → Gives (H S) (ref_at x k m)

@@ -8,7 +8,8 @@ use Rattle.stream.specs.Bytes.{peek_at, raw_at}
 use Rattle.stream.specs.declared.putint.Int.{Int}
 use Rattle.stream.specs.PutInt.{int_at}
 use Rattle.sheet.specs.Sheet.{usable, is_legacy, is_six_x, is_map_first, lo_space}
-use Rattle.heads.specs.Kinds.{new_object, backref, legacy_backref, legacy_backref_with_skip, next_chunk, alignment, hot, hot_with_skip, root_array, root_constant, root_constant_with_skip, read_only, attached, builtin, external, api, internal, deoptimizer, stream_bytes, embedder_fields, off_heap_target, cache, register_pending, cleared_weak, weak_prefix, pointer_prefix, dispatch_entry, fixed_raw, variable_raw, skip, fixed_repeat, fixed_repeat_root, repeat_previous, variable_repeat, variable_repeat_previous, variable_repeat_root, meta_map}
+use Rattle.heads.specs.declared.kinds.Kind.{Kind}
+use Rattle.heads.specs.declared.kinds.Kind.TheVariants.{NoMeaning, NewObject, Backref, LegacyBackref, LegacyBackrefWithSkip, NextChunk, Alignment, Hot, HotWithSkip, RootArray, RootConstant, RootConstantWithSkip, ReadOnly, Attached, Builtin, External, Api, Internal, Deoptimizer, StreamBytes, EmbedderFields, OffHeapTarget, Cache, RegisterPending, ClearedWeak, WeakPrefix, PointerPrefix, DispatchEntry, FixedRaw, VariableRaw, Skip, FixedRepeat, FixedRepeatRoot, RepeatPrevious, VariableRepeat, VariableRepeatPrevious, VariableRepeatRoot, MetaMap}
 use Rattle.heads.specs.Heads.{head_of}
 use Rattle.sheet.specs.declared.tests.Closing.{Closing}
 use Rattle.sheet.specs.declared.tests.Closing.TheVariants.{Synchronize, Alignment, Deferred, Reference}
@@ -27,7 +28,7 @@ use Rattle.alloc.specs.Allocation.{Outcome, outcome, pick_outcome, advance_of, p
 use Rattle.backref.specs.HotRing.{hot_at}
 use Rattle.backref.specs.declared.legacy.BackrefError.TheVariants.{Cut, Unknown}
 use Rattle.backref.specs.Legacy.{Answer, backref_of}
-use Rattle.definition.specs.Memory.{Input, word, Kept, in_map, in_slot, item, Mem, Out, got, no, Reader, and_then, ◌>>=◌, ◌>>◌, choose, give, change, refuse_at, moved, with_skip, aligned, tell, after_int, byte, int, has_room}
+use Rattle.definition.specs.Memory.{Input, word, Kept, in_map, in_slot, item, begins, Mem, Out, got, no, Reader, and_then, ◌>>=◌, ◌>>◌, choose, give, change, refuse_at, moved, with_skip, aligned, noted, tell, after_int, byte, int, has_room}
 use Rattle.definition.specs.Slots.{add_value, add_slot, resolved, waits_of, keep_item, previous, place_item}
 use Rattle.definition.specs.Object.{peek, add_object, large_byte, change_chunk, allocate, alignment_byte, chunk_changes, map_first, read_map, flags, flag_object, keep_map, resolves, items, body, object}
 use Rattle.definition.specs.Reference.{skip_amount, backref_to, of_hot, hot_place, of_backref, legacy_reference, pending_reference, after_raw, raw_data, repeat_of, repeat_root, by_head, reference, ref_at}
@@ -235,50 +236,46 @@ module _ (x : Input) where
     root_known : (n : ℕ) → R (repeat_root x n)
     root_known n = seq (byte x) _ (byte_known x) (λ i. held_known n (IsRef (Root i)))
 
-    by_head_known : (tag kind a : ℕ) → R (by_head x r tag kind a)
+    by_head_known : (tag : ℕ) (kind : Kind) (a : ℕ) → R (by_head x r tag kind a)
     unfolding by_head
-    by_head_known tag kind a m =
-        by new_object _ _ (object_known a tag m)
-        (by backref _ _ (seq (int x) _ (int_known x) backref_to_known m)
-        (by legacy_backref _ _ (legacy_known x a m)
-        (by legacy_backref_with_skip _ _ (next (skip_amount x) _ (skip_known x) (legacy_known x a) m)
-        (by next_chunk _ _ (next (byte x >>= (λ space. change (change_chunk x space))) r (seq (byte x) (λ space. change (change_chunk x space)) (byte_known x) (λ space m. tt)) h m)
-        (by alignment _ _ (next (change (aligned a)) r (λ m. tt) h m)
-        (by hot _ _ (hot_known a m)
-        (by hot_with_skip _ _ (next (skip_amount x) _ (skip_known x) (hot_known a) m)
-        (by root_array _ _ (seq (int x) _ (int_known x) (λ i m. tt) m)
-        (by root_constant _ _ tt
-        (by root_constant_with_skip _ _ (next (skip_amount x) _ (skip_known x) (λ m. tt) m)
-        (by read_only _ _ (seq (int x) _ (int_known x) (λ c. seq (int x) _ (int_known x) (λ o m. tt)) m)
-        (by attached _ _ (seq (int x) _ (int_known x) (λ i m. tt) m)
-        (by builtin _ _ (seq (int x) _ (int_known x) (λ i m. tt) m)
-        (by external _ _ (seq (int x) _ (int_known x) (λ i m. tt) m)
-        (by api _ _ (next (skip_amount x) _ (skip_known x) (seq (int x) _ (int_known x) (λ i m. tt)) m)
-        (by internal _ _ (next (int x >> int x) _ (next (int x) (int x) (int_known x) (int_known x)) (λ m. tt) m)
-        (by deoptimizer _ _ (next (int x) _ (int_known x) (λ m. tt) m)
-        (by stream_bytes _ _ (seq (int x) _ (int_known x) (λ n m. tt) m)
-        (by embedder_fields _ _ (seq (int x >> int x) _ (next (int x) (int x) (int_known x) (int_known x)) (λ n m. tt) m)
-        (by off_heap_target _ _ (next (skip_amount x >> int x) _ (next (skip_amount x) (int x) (skip_known x) (int_known x)) (λ m. tt) m)
-        (by cache _ _ (seq (int x) _ (int_known x) (λ i m. tt) m)
-        (by register_pending _ _ (pending_known m)
-        (by cleared_weak _ _ tt
-        (by weak_prefix _ _ (seq r _ h (λ v. seq (add_value (fields_of v)) _ (value_known (fields_of v)) (λ k m. tt)) m)
-        (by pointer_prefix _ _ (h m)
-        (by dispatch_entry _ _ (next (int x) _ (int_known x) (λ m. tt) m)
-        (by fixed_raw _ _ (raw_known x _ _ m)
-        (by variable_raw _ _ (seq (int x) _ (int_known x) (λ n. raw_known x _ _) m)
-        (by skip _ _ (seq (int x) _ (int_known x) (λ n m. tt) m)
-        (by fixed_repeat _ _ (seq r _ h (held_known a) m)
-        (by fixed_repeat_root _ _ (root_known a m)
-        (by repeat_previous _ _ tt
-        (by variable_repeat _ _ (seq (int x) _ (int_known x) (λ n. seq r _ h (held_known (n + 18))) m)
-        (by variable_repeat_previous _ _ (seq (int x) _ (int_known x) (λ n m. tt) m)
-        (by variable_repeat_root _ _ (seq (int x) _ (int_known x) (λ n. root_known (n + 18)) m)
-        (by meta_map _ _ (omega arith)
-        (omega arith)))))))))))))))))))))))))))))))))))))
-      where
-        by : (k : ℕ) (f g : Reader SlotValue) → Known (f m) → Known (g m) → Known (choose (eqb kind k) f g m)
-        by k f g y z = pick (eqb kind k) f g m (λ _. y) (λ _. z)
+    by_head_known tag NewObject a m = object_known a tag m
+    by_head_known tag Backref a m = seq (int x) _ (int_known x) backref_to_known m
+    by_head_known tag LegacyBackref a m = legacy_known x a m
+    by_head_known tag LegacyBackrefWithSkip a m = next (skip_amount x) _ (skip_known x) (legacy_known x a) m
+    by_head_known tag NextChunk a m = next (byte x >>= (λ space. change (change_chunk x space))) r (seq (byte x) (λ space. change (change_chunk x space)) (byte_known x) (λ space m. tt)) h m
+    by_head_known tag Alignment a m = next (change (aligned a)) r (λ m. tt) h m
+    by_head_known tag Hot a m = hot_known a m
+    by_head_known tag HotWithSkip a m = next (skip_amount x) _ (skip_known x) (hot_known a) m
+    by_head_known tag RootArray a m = seq (int x) _ (int_known x) (λ i m. tt) m
+    by_head_known tag RootConstant a m = tt
+    by_head_known tag RootConstantWithSkip a m = next (skip_amount x) _ (skip_known x) (λ m. tt) m
+    by_head_known tag ReadOnly a m = seq (int x) _ (int_known x) (λ c. seq (int x) _ (int_known x) (λ o m. tt)) m
+    by_head_known tag Attached a m = seq (int x) _ (int_known x) (λ i m. tt) m
+    by_head_known tag Builtin a m = seq (int x) _ (int_known x) (λ i m. tt) m
+    by_head_known tag External a m = seq (int x) _ (int_known x) (λ i m. tt) m
+    by_head_known tag Api a m = next (skip_amount x) _ (skip_known x) (seq (int x) _ (int_known x) (λ i m. tt)) m
+    by_head_known tag Internal a m = next (int x >> int x) _ (next (int x) (int x) (int_known x) (int_known x)) (λ m. tt) m
+    by_head_known tag Deoptimizer a m = next (int x) _ (int_known x) (λ m. tt) m
+    by_head_known tag StreamBytes a m = seq (int x) _ (int_known x) (λ n m. tt) m
+    by_head_known tag EmbedderFields a m = seq (int x >> int x) _ (next (int x) (int x) (int_known x) (int_known x)) (λ n m. tt) m
+    by_head_known tag OffHeapTarget a m = next (skip_amount x >> int x) _ (next (skip_amount x) (int x) (skip_known x) (int_known x)) (λ m. tt) m
+    by_head_known tag Cache a m = seq (int x) _ (int_known x) (λ i m. tt) m
+    by_head_known tag RegisterPending a m = pending_known m
+    by_head_known tag ClearedWeak a m = tt
+    by_head_known tag WeakPrefix a m = seq r _ h (λ v. seq (add_value (fields_of v)) _ (value_known (fields_of v)) (λ k m. tt)) m
+    by_head_known tag PointerPrefix a m = h m
+    by_head_known tag DispatchEntry a m = next (int x) _ (int_known x) (λ m. tt) m
+    by_head_known tag FixedRaw a m = raw_known x _ _ m
+    by_head_known tag VariableRaw a m = seq (int x) _ (int_known x) (λ n. raw_known x _ _) m
+    by_head_known tag Skip a m = seq (int x) _ (int_known x) (λ n m. tt) m
+    by_head_known tag FixedRepeat a m = seq r _ h (held_known a) m
+    by_head_known tag FixedRepeatRoot a m = root_known a m
+    by_head_known tag RepeatPrevious a m = tt
+    by_head_known tag VariableRepeat a m = seq (int x) _ (int_known x) (λ n. seq r _ h (held_known (n + 18))) m
+    by_head_known tag VariableRepeatPrevious a m = seq (int x) _ (int_known x) (λ n m. tt) m
+    by_head_known tag VariableRepeatRoot a m = seq (int x) _ (int_known x) (λ n. root_known (n + 18)) m
+    by_head_known tag MetaMap a m = omega arith
+    by_head_known tag NoMeaning a m = omega arith
 
     reference_known : R (reference x r)
     unfolding reference
@@ -321,7 +318,7 @@ module _ (x : Input) where
   entries_known zero m = tt
   entries_known (suc n) m =
       pick (leb (length x.payload) m.at) _ _ m (λ _. pick (is_legacy x.sheet) _ _ m (λ _. tt) (λ _. omega arith))
-      (λ _. one_known (entries x n) (entries_known n) m (closing_of x.sheet (peek x m)) refl)
+      (λ _. one_known (entries x n) (entries_known n) (noted (begins m.at) m) (closing_of x.sheet (peek x m)) refl)
 
   padding_known : (n : ℕ) → R (padding x n)
   unfolding padding

@@ -15,7 +15,7 @@ use Rattle.tables.specs.declared.values.SlotValue.TheVariants.{Ref, Repeat, Repe
 use Rattle.tables.specs.declared.values.Fields.{Fields}
 use Rattle.tables.specs.Values.{fields_of}
 use Rattle.tables.specs.Records.{field}
-use Rattle.definition.specs.Memory.{Input, in_slot, dropped, value, synchronize, Table, Mem, Out, got, no, Reader, and_then, ◌>>=◌, ◌>>◌, choose, give, refuse, refuse_at, moved, aligned, noted, byte, int}
+use Rattle.definition.specs.Memory.{Input, in_slot, dropped, value, begins, synchronize, Table, Mem, Out, got, no, Reader, and_then, ◌>>=◌, ◌>>◌, choose, give, refuse, refuse_at, moved, aligned, noted, tell, byte, int}
 use Rattle.definition.specs.Object.{peek, object}
 use Rattle.definition.specs.Reference.{ref_at}
 use Rattle.definition.specs.Closing.{entry_fields, add_slots, entry_slots, entry_count, entry_item, entry_items, entry_body, entry_of, entry, drop_reference, ends_legacy, after_entry, by_entry, entries, padding, closing}
@@ -64,7 +64,7 @@ entries_out : (x : Input) (n n₁ : ℕ) (m : Mem) → n ≡ suc n₁ → length
 unfolding entries
 entries_out x n n₁ m e l = rw (e, le-leb (length x.payload) m.at l)
 
-pub entries_in : (x : Input) (n n₁ b : ℕ) (m : Mem) → n ≡ suc n₁ → m.at < length x.payload → peek x m ≡ b → entries x n m ≡ by_entry x (entries x n₁) (closing_of x.sheet b) m
+pub entries_in : (x : Input) (n n₁ b : ℕ) (m : Mem) → n ≡ suc n₁ → m.at < length x.payload → peek x m ≡ b → entries x n m ≡ by_entry x (entries x n₁) (closing_of x.sheet b) (noted (begins m.at) m)
 unfolding entries
 entries_in x n n₁ b m e l f = rw (e, lt-leb (length x.payload) m.at l, f)
 
@@ -195,12 +195,12 @@ module _ (S : Pair) where
       out false e l =
           record { seen = (fit, λ v. let same : S.p' ≡ S.x.payload = S.compared_same 13 v in entries_out (x' S) n' (n' - 1) (φ S m) (S.fuel_more 1 m.at n n' (S.compared_shared 13 v m.at) fuel) (rw same l) ∙ rw (e, same)) }
 
-      turn : (t : Bool) → leb (length S.x.payload) m.at ≡ t → ((m₁ : Mem) → Fits S m₁ → m.at < m₁.at → Ends S m₁ (entries S.x n m₁) (entries (x' S) (n' - 1) (φ S m₁))) → Ends S m (choose t (choose (is_legacy S.x.sheet) (give tt) (refuse_at 13 (length S.x.payload))) (by_entry S.x (entries S.x n) (closing_of S.x.sheet (peek S.x m))) m) (entries (x' S) n' (φ S m))
+      turn : (t : Bool) → leb (length S.x.payload) m.at ≡ t → ((m₁ : Mem) → Fits S m₁ → m.at < m₁.at → Ends S m₁ (entries S.x n m₁) (entries (x' S) (n' - 1) (φ S m₁))) → Ends S m (choose t (choose (is_legacy S.x.sheet) (give tt) (refuse_at 13 (length S.x.payload))) (tell (begins m.at) >> by_entry S.x (entries S.x n) (closing_of S.x.sheet (peek S.x m))) m) (entries (x' S) n' (φ S m))
       turn true e g = out (is_legacy S.x.sheet) refl (leb-true _ _ e)
       turn false e g =
           let l : m.at < length S.x.payload = leb-false _ _ e in
-          via_ends (λ v. entries_in (x' S) n' (n' - 1) (peek S.x m) (φ S m) (S.fuel_more 1 m.at n n' v fuel) (S.on_byte m.at v l).0 (peek_same S m v))
-          (by_entry_ends (entries S.x n) (entries (x' S) (n' - 1)) (closing_of S.x.sheet (peek S.x m)) m fit l g)
+          join_ends {m₁ = noted (begins m.at) m} (omega arith) (λ v. entries_in (x' S) n' (n' - 1) (peek S.x m) (φ S m) (S.fuel_more 1 m.at n n' v fuel) (S.on_byte m.at v l).0 (peek_same S m v) ∙ rw (S.on_note (begins m.at) m.log))
+          (by_entry_ends (entries S.x n) (entries (x' S) (n' - 1)) (closing_of S.x.sheet (peek S.x m)) (noted (begins m.at) m) (fit_noted (begins m.at) fit) l g)
 
   -- ---- a walk up to the end of its closing section
 

@@ -7,7 +7,8 @@ use Rattle.stream.specs.Bytes.{peek_at}
 use Rattle.sheet.specs.Sheet.{is_legacy, is_six_x, is_map_first, lo_space, raw_advances}
 use Rattle.sheet.specs.Tests.{is_resolve, is_deferred, is_next_chunk, alignment_of}
 use Rattle.std.proofs.lemmas.Bool.{and_parts}
-use Rattle.heads.specs.Kinds.{new_object, backref, legacy_backref, legacy_backref_with_skip, next_chunk, alignment, hot, hot_with_skip, root_array, root_constant, root_constant_with_skip, read_only, attached, builtin, external, api, internal, deoptimizer, stream_bytes, embedder_fields, off_heap_target, cache, register_pending, cleared_weak, weak_prefix, pointer_prefix, dispatch_entry, fixed_raw, variable_raw, skip, fixed_repeat, fixed_repeat_root, repeat_previous, variable_repeat, variable_repeat_previous, variable_repeat_root, meta_map}
+use Rattle.heads.specs.declared.kinds.Kind.{Kind}
+use Rattle.heads.specs.declared.kinds.Kind.TheVariants.{NoMeaning, NewObject, Backref, LegacyBackref, LegacyBackrefWithSkip, NextChunk, Alignment, Hot, HotWithSkip, RootArray, RootConstant, RootConstantWithSkip, ReadOnly, Attached, Builtin, External, Api, Internal, Deoptimizer, StreamBytes, EmbedderFields, OffHeapTarget, Cache, RegisterPending, ClearedWeak, WeakPrefix, PointerPrefix, DispatchEntry, FixedRaw, VariableRaw, Skip, FixedRepeat, FixedRepeatRoot, RepeatPrevious, VariableRepeat, VariableRepeatPrevious, VariableRepeatRoot, MetaMap}
 use Rattle.heads.specs.Heads.{head_of}
 use Rattle.tables.specs.declared.values.Ref.{Ref as Reference}
 use Rattle.tables.specs.declared.values.Ref.TheVariants.{Object, Root, RoRef, Attached}
@@ -204,47 +205,46 @@ module _ (S : Pair) where
     aligned-law : (a : ℕ) → Alike S 0 Any (change (aligned a)) (change (aligned a))
     aligned-law a = change_law S _ _ (λ m fit. fit) (λ m. omega arith) (λ m fit. refl)
 
-    by_head-law : (tag kind a : ℕ) → Alike S 0 Any (by_head S.x r tag kind a) (by_head (x' S) r' tag kind a)
+    by_head-law : (tag : ℕ) (kind : Kind) (a : ℕ) → Alike S 0 Any (by_head S.x r tag kind a) (by_head (x' S) r' tag kind a)
     unfolding by_head
-    by_head-law tag kind a =
-        choose_law S (eqb kind new_object) (object_law a tag)
-        (choose_law S (eqb kind backref) (then_law S (int_law S) (λ i _. backref_to_law S i))
-        (choose_law S (eqb kind legacy_backref) (lower S (legacy_reference_law S a))
-        (choose_law S (eqb kind legacy_backref_with_skip) (seq_law S (skip_amount_law S) (lower S (legacy_reference_law S a)))
-        (choose_law S (eqb kind next_chunk) (seq_law S (then_law S (lower S (byte_law S)) (λ space _. change_chunk-law space)) (lower S law))
-        (choose_law S (eqb kind alignment) (seq_law S (aligned-law a) (lower S law))
-        (choose_law S (eqb kind hot) (hot_law S a)
-        (choose_law S (eqb kind hot_with_skip) (seq_law S (skip_amount_law S) (hot_law S a))
-        (choose_law S (eqb kind root_array) (then_law S (int_law S) (λ i _. refers_hot_law S (Root i)))
-        (choose_law S (eqb kind root_constant) (ref_law (Root a))
-        (choose_law S (eqb kind root_constant_with_skip) (seq_law S (skip_amount_law S) (ref_law (Root a)))
-        (choose_law S (eqb kind read_only) (then_law S (int_law S) (λ c _. then_law S (int_law S) (λ o _. ref_law (RoRef c o))))
-        (choose_law S (eqb kind attached) (then_law S (int_law S) (λ i _. ref_law (Attached i)))
-        (choose_law S (eqb kind builtin) (outside-law 2)
-        (choose_law S (eqb kind external) (outside-law 3)
-        (choose_law S (eqb kind api) (seq_law S (skip_amount_law S) (outside-law 4))
-        (choose_law S (eqb kind internal) (seq_law S (seq_law S (int_law S) (int_law S)) (give_law S (Skip 0) tt))
-        (choose_law S (eqb kind deoptimizer) (seq_law S (int_law S) (give_law S (Skip 0) tt))
-        (choose_law S (eqb kind stream_bytes) (then_law S (int_law S) (λ n _. give_law S (StreamBytes n) tt))
-        (choose_law S (eqb kind embedder_fields) (then_law S (seq_law S (int_law S) (int_law S)) (λ n _. give_law S (StreamBytes n) tt))
-        (choose_law S (eqb kind off_heap_target) (seq_law S (seq_law S (skip_amount_law S) (int_law S)) (ref_law (RoRef (2 ^ 32 - 5) 0)))
-        (choose_law S (eqb kind cache) (outside-law 1)
-        (choose_law S (eqb kind register_pending) (pending_law S)
-        (choose_law S (eqb kind cleared_weak) (give_law S ClearedWeak tt)
-        (choose_law S (eqb kind weak_prefix) (then_law S (lower S law) (λ v _. weak_of-law v))
-        (choose_law S (eqb kind pointer_prefix) (lower S law)
-        (choose_law S (eqb kind dispatch_entry) (seq_law S (int_law S) (give_law S ClearedWeak tt))
-        (choose_law S (eqb kind fixed_raw) (raw_data_law S (a * word S.x) true)
-        (choose_law S (eqb kind variable_raw) (then_law S (int_law S) (λ n _. raw_data_law S (raw_bytes S.x n) (raw_advances S.x.sheet)))
-        (choose_law S (eqb kind skip) (then_law S (int_law S) (λ n _. give_law S (Skip n) tt))
-        (choose_law S (eqb kind fixed_repeat) (then_law S (lower S law) (λ v _. repeat_of-law a v))
-        (choose_law S (eqb kind fixed_repeat_root) (repeat_root-law a)
-        (choose_law S (eqb kind repeat_previous) (give_law S (RepeatPrev a) tt)
-        (choose_law S (eqb kind variable_repeat) (then_law S (int_law S) (λ n _. then_law S (lower S law) (λ v _. repeat_of-law (n + 18) v)))
-        (choose_law S (eqb kind variable_repeat_previous) (then_law S (int_law S) (λ n _. give_law S (RepeatPrev n) tt))
-        (choose_law S (eqb kind variable_repeat_root) (then_law S (int_law S) (λ n _. repeat_root-law (n + 18)))
-        (choose_law S (eqb kind meta_map) (refuse_at_law S 11 tag)
-        (refuse_at_law S 10 tag)))))))))))))))))))))))))))))))))))))
+    by_head-law tag NewObject a = object_law a tag
+    by_head-law tag Backref a = then_law S (int_law S) (λ i _. backref_to_law S i)
+    by_head-law tag LegacyBackref a = lower S (legacy_reference_law S a)
+    by_head-law tag LegacyBackrefWithSkip a = seq_law S (skip_amount_law S) (lower S (legacy_reference_law S a))
+    by_head-law tag NextChunk a = seq_law S (then_law S (lower S (byte_law S)) (λ space _. change_chunk-law space)) (lower S law)
+    by_head-law tag Alignment a = seq_law S (aligned-law a) (lower S law)
+    by_head-law tag Hot a = hot_law S a
+    by_head-law tag HotWithSkip a = seq_law S (skip_amount_law S) (hot_law S a)
+    by_head-law tag RootArray a = then_law S (int_law S) (λ i _. refers_hot_law S (Root i))
+    by_head-law tag RootConstant a = ref_law (Root a)
+    by_head-law tag RootConstantWithSkip a = seq_law S (skip_amount_law S) (ref_law (Root a))
+    by_head-law tag ReadOnly a = then_law S (int_law S) (λ c _. then_law S (int_law S) (λ o _. ref_law (RoRef c o)))
+    by_head-law tag Attached a = then_law S (int_law S) (λ i _. ref_law (Attached i))
+    by_head-law tag Builtin a = outside-law 2
+    by_head-law tag External a = outside-law 3
+    by_head-law tag Api a = seq_law S (skip_amount_law S) (outside-law 4)
+    by_head-law tag Internal a = seq_law S (seq_law S (int_law S) (int_law S)) (give_law S (Skip 0) tt)
+    by_head-law tag Deoptimizer a = seq_law S (int_law S) (give_law S (Skip 0) tt)
+    by_head-law tag StreamBytes a = then_law S (int_law S) (λ n _. give_law S (StreamBytes n) tt)
+    by_head-law tag EmbedderFields a = then_law S (seq_law S (int_law S) (int_law S)) (λ n _. give_law S (StreamBytes n) tt)
+    by_head-law tag OffHeapTarget a = seq_law S (seq_law S (skip_amount_law S) (int_law S)) (ref_law (RoRef (2 ^ 32 - 5) 0))
+    by_head-law tag Cache a = outside-law 1
+    by_head-law tag RegisterPending a = pending_law S
+    by_head-law tag ClearedWeak a = give_law S ClearedWeak tt
+    by_head-law tag WeakPrefix a = then_law S (lower S law) (λ v _. weak_of-law v)
+    by_head-law tag PointerPrefix a = lower S law
+    by_head-law tag DispatchEntry a = seq_law S (int_law S) (give_law S ClearedWeak tt)
+    by_head-law tag FixedRaw a = raw_data_law S (a * word S.x) true
+    by_head-law tag VariableRaw a = then_law S (int_law S) (λ n _. raw_data_law S (raw_bytes S.x n) (raw_advances S.x.sheet))
+    by_head-law tag Skip a = then_law S (int_law S) (λ n _. give_law S (Skip n) tt)
+    by_head-law tag FixedRepeat a = then_law S (lower S law) (λ v _. repeat_of-law a v)
+    by_head-law tag FixedRepeatRoot a = repeat_root-law a
+    by_head-law tag RepeatPrevious a = give_law S (RepeatPrev a) tt
+    by_head-law tag VariableRepeat a = then_law S (int_law S) (λ n _. then_law S (lower S law) (λ v _. repeat_of-law (n + 18) v))
+    by_head-law tag VariableRepeatPrevious a = then_law S (int_law S) (λ n _. give_law S (RepeatPrev n) tt)
+    by_head-law tag VariableRepeatRoot a = then_law S (int_law S) (λ n _. repeat_root-law (n + 18))
+    by_head-law tag MetaMap a = refuse_at_law S 11 tag
+    by_head-law tag NoMeaning a = refuse_at_law S 10 tag
 
     reference-law : Alike S 1 Any (reference S.x r) (reference (x' S) r')
     unfolding reference

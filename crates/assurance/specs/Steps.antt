@@ -1,9 +1,11 @@
 -- The steps that a walk under a plain sheet is made of, what holds before each, and the rules by which a property is kept at each.
 -- Assumes nothing.
-use Rattle.std.specs.Prelude.{◌≡◌, Bool, true, List, [], ◌∷◌, length, get_or, Some}
+use Rattle.std.specs.Prelude.{◌≡◌, ◌≢◌, Bool, true, List, [], ◌∷◌, length, get_or, Some}
 use Rattle.std.proofs.Math.Path.{refl}
 use Rattle.std.proofs.Common.{◌∙◌, arith, length-set}
 use Prim.Native.Nat.{ℕ, zero, suc, ◌+◌, ◌*◌, ◌/◌, ◌<◌, ◌≤◌}
+use Rattle.sheet.specs.Names.{k_synchronize}
+use Rattle.sheet.specs.Sheet.{number}
 use Rattle.sheet.specs.Tests.{opens}
 use Rattle.tables.specs.declared.values.Ref.{Ref}
 use Rattle.tables.specs.declared.values.Ref.TheVariants.{Object, Root, RoRef, Attached}
@@ -14,9 +16,10 @@ use Rattle.tables.specs.Values.{fields_of, width_of}
 use Rattle.tables.specs.Records.{room, object_row, slot_row, value_row}
 use Rattle.tables.proofs.RecordLaws.{written_length, filled_length}
 use Rattle.backref.specs.HotRing.{entered, hot_at}
-use Rattle.definition.specs.Memory.{Input, word, Kept, in_map, in_slot, in_value, dropped, opened, passed, item, value, resolve, synchronize, Mem, moved, with_objects, with_slots, with_values, with_hot, with_pending, aligned, noted, added}
+use Rattle.definition.specs.Memory.{Input, word, Kept, in_map, in_slot, in_value, dropped, opened, passed, item, value, resolve, begins, synchronize, Mem, moved, with_objects, with_slots, with_values, with_hot, with_pending, aligned, noted, added}
 use Rattle.definition.specs.Slots.{counted, waiter, fill_waiter, resolved, waits_of}
 use Rattle.definition.specs.Object.{flagged}
+use Rattle.assurance.specs.Words.{IntegerAt}
 
 -- an object that is being read: its number, its declared bytes, and how many bytes of it were read
 pub data Frame : Type 0 where
@@ -95,15 +98,20 @@ pub record Rules (x : Input) (I : List Frame → Mem → Type 0) (W : Mem → Sl
   pub on_pending : (S : List Frame) (m : Mem) → I S m → (I S (numbering m)) × (W (numbering m) (PendingRef m.pending))
   pub on_raw : (S : List Frame) (m : Mem) (n : ℕ) (advances : Bool) → I S m → 1 ≤ n → m.at + n ≤ length x.payload → (I S (passing n m)) × (W (passing n m) (IsRaw (record { off = m.at; len = n; advances = advances })))
   pub on_value : (S : List Frame) (m : Mem) (v : SlotValue) → I S m → W m v → m.values.count < room 3 m.values.rows → (I S (valuing (fields_of v) m)) × (W (valuing (fields_of v) m) (WeakRef m.values.count)) × ((n : ℕ) → W (valuing (fields_of v) m) (Repeat n m.values.count))
-  pub on_open : (S : List Frame) (m : Mem) (tag words : ℕ) → OpensAt x tag → I S m → m.objects.count < room 4 m.objects.rows → I (frame m.objects.count (words * word x) 0 ∷ S) (opening x tag words m)
+  pub on_open : (S : List Frame) (m : Mem) (tag words : ℕ) → OpensAt x tag → IntegerAt x.payload (tag + 1) words → I S m → m.objects.count < room 4 m.objects.rows → I (frame m.objects.count (words * word x) 0 ∷ S) (opening x tag words m)
   pub on_flag : (S : List Frame) (m : Mem) (o : ℕ) (v : SlotValue) → o < m.objects.count → I S m → W m v → (I S (flagging o m)) × (W (flagging o m) v)
   pub on_map : (S : List Frame) (m : Mem) (o size : ℕ) (v : SlotValue) → Base x (frame o size 0 ∷ S) m → I (frame o size 0 ∷ S) m → W m v → m.slots.count < room 6 m.slots.rows → I (frame o size (word x) ∷ S) (keeping_map x o v m)
   pub on_item : (S : List Frame) (m : Mem) (o size done : ℕ) (v : SlotValue) → Base x (frame o size done ∷ S) m → I (frame o size done ∷ S) m → W m v → 1 ≤ done → done < size → m.slots.count < room 6 m.slots.rows → I (frame o size (done + width_of (word x) v) ∷ S) (keeping_item x o done v m)
   pub on_resolve : (S : List Frame) (m : Mem) (o size done number : ℕ) → Base x (frame o size done ∷ S) m → I (frame o size done ∷ S) m → I (frame o size done ∷ S) (resolved number o m)
-  pub on_close : (S : List Frame) (m : Mem) (o size : ℕ) → o < m.objects.count → I (frame o size size ∷ S) m → I S m
+  pub on_close : (S : List Frame) (m : Mem) (o size : ℕ) → o < m.objects.count → 1 ≤ size → I (frame o size size ∷ S) m → I S m
   pub on_drop : (S : List Frame) (m : Mem) (v : SlotValue) → I S m → W m v → I S (noted (value (fields_of v) dropped) m)
   pub on_align : (S : List Frame) (m : Mem) (a : ℕ) → I S m → I S (aligned a m)
-  pub on_synchronize : (m : Mem) → I [] m → I [] (noted (synchronize m.at) m)
+  -- an entry of the closing section begins that is not its kSynchronize
+  pub on_begins : (m : Mem) → get_or x.payload m.at 0 ≢ number x.sheet k_synchronize → I [] m → I [] (noted (begins m.at) m)
+
+-- and at the kSynchronize, where the last entry begins
+abbrev pub AtEnd : (List Frame → Mem → Type 0) → Type 0
+AtEnd I = (m : Mem) → I [] m → I [] (noted (synchronize m.at) (noted (begins m.at) m))
 
 -- ---- what a resolve leaves: a case for each way
 

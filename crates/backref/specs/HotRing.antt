@@ -1,5 +1,5 @@
--- The ring of hot objects (V8's `HotObjectsList`): eight places; back-references and kRootArray enter it, new objects don't.
--- Assumes nothing: these are definitions.
+-- The ring of hot objects (V8's `HotObjectsList`): eight places; back-references and kRootArray
+-- enter it, new objects don't. Assumes nothing: these are definitions.
 use Rattle.std.specs.Prelude.{ℕ, ◌+◌, ◌%◌, get_or, set, replicate, Option, Some, None}
 use Rattle.tables.specs.declared.values.Ref.{Ref}
 use Rattle.backref.specs.declared.hot_ring.HotRing.{HotRing}

@@ -1,4 +1,5 @@
--- Legacy back-references (`legacy_backref`): what one stands for, and what enters the ring. Assumes nothing: these are definitions.
+-- Legacy back-references (`legacy_backref`): what one stands for, and what enters the ring. Assumes
+-- nothing: these are definitions.
 use Rattle.std.specs.Prelude.{Bool, true, false, List, ℕ, ◌+◌, ◌-◌, ◌*◌, ◌/◌, ◌%◌, ◌^◌, eqb, Option, Some, None, Result, Ok, Err}
 use Rattle.stream.specs.declared.putint.Int.{Int}
 use Rattle.stream.specs.PutInt.{int_at}
@@ -20,8 +21,8 @@ abbrev pub pick_backref : Bool → Answer → Answer → Answer
 pick_backref true a b = a
 pick_backref false a b = b
 
--- map and large objects are referred to by number. Spaces kMapSpace and kLoSpace refer, but spaces 4 and 5 are numbered (difference D27);
--- 0 for a space that is not numbered
+-- map and large objects are referred to by number. Spaces kMapSpace and kLoSpace refer, but spaces
+-- 4 and 5 are numbered (difference D27); 0 for a space that is not numbered
 abbrev pub numbered_as : List ℕ → ℕ → ℕ
 numbered_as v space = pick_ℕ (eqb space (map_space v)) 4 (pick_ℕ (eqb space (lo_space v)) 5 0)
 
@@ -30,12 +31,14 @@ abbrev pub by_number : Option ℕ → ℕ → Answer
 by_number (Some o) next = Ok (record { target = ObjectRef o; next = next })
 by_number None next = Err (Unknown next)
 
--- the object at a place; none: the place is one of the read-only heap (difference D31: whatever the space)
+-- the object at a place; none: the place is one of the read-only heap (difference D31: whatever the
+-- space)
 abbrev pub by_place : Option ℕ → Place → ℕ → Answer
 by_place (Some o) place next = Ok (record { target = ObjectRef o; next = next })
 by_place None place next = Ok (record { target = RoRef place.chunk place.offset; next = next })
 
--- what a back-reference finds: the first n address records, the pending alignment and the space are given
+-- what a back-reference finds: the first n address records, the pending alignment and the space are
+-- given
 abbrev pub numbered : List ℕ → List ℕ → ℕ → ℕ → ℕ → ℕ → Answer
 numbered v t n space index next = by_number (ordinal_from t (numbered_as v space) index 0 n) next
 
@@ -48,7 +51,8 @@ abbrev pub with_int : Option Int → ℕ → (ℕ → ℕ → Answer) → Answer
 with_int (Some i) at f = f i.value (at + i.count)
 with_int None at f = Err Cut
 
--- 6.x: one integer, of which the low bits are an index: a number, or a chunk above an offset in words
+-- 6.x: one integer, of which the low bits are an index: a number, or a chunk above an offset in
+-- words
 abbrev pub word_bits : List ℕ → ℕ
 word_bits v = pick_ℕ (eqb (word_bytes v) 4) 2 3
 

@@ -1,4 +1,5 @@
--- What a reader finds: the definitions of Legacy at what it holds. Assumes nothing: these are definitions.
+-- What a reader finds: the definitions of Legacy at what it holds. Assumes nothing: these are
+-- definitions.
 use Rattle.std.specs.Prelude.{ℕ}
 use Rattle.alloc.specs.declared.resolve.Place.{Place}
 use Rattle.alloc.specs.Resolve.{ordinal_from}

@@ -1,9 +1,11 @@
-// The ring of hot objects: eight places, and the place to fill next.
+//! The ring of hot objects (docs/FORMAT.md, "The hot ring").
 ghost use Rattle.std.specs.Prelude.{◌≡◌, ◌<◌};
 ghost use Rattle.backref.specs.HotRing.{empty_ring, entered, hot_at};
 
 use tables::values::Ref;
 
+/// The ring of hot objects (the Rust's `HotRing`): eight places, each of which holds a reference or
+/// is empty, and the place to fill next.
 #[derive(Clone, Copy)]
 pub struct HotRing {
     pub places: [Option<Ref>; 8],
@@ -11,7 +13,7 @@ pub struct HotRing {
 }
 
 impl HotRing {
-    // Every place is empty.
+    /// A ring whose every place is empty.
     pub fn new() -> HotRing
         ensures { result ≡ empty_ring }
     {
@@ -21,7 +23,8 @@ impl HotRing {
         }
     }
 
-    // A reference enters the ring, and the ring moves on.
+    /// A reference enters the ring at the place to fill next, and the ring moves on (the Rust's
+    /// `add`).
     #[tactic(auto, unfolding(crate::specs::HotRing::entered))]
     pub fn add(&mut self, r: Ref)
         ensures { self.new ≡ entered self.old r }
@@ -31,8 +34,7 @@ impl HotRing {
         self.next = (i + 1) % 8;
     }
 
-    // What stands at a place; none where it is empty.
-    // `place < 8` is a clause and no type of places, which would be made of a number at each of its two callers.
+    /// What stands at a place below 8; none where it is empty (the Rust's `get`).
     #[tactic(auto, unfolding(crate::specs::HotRing::hot_at))]
     pub fn get(&self, place: usize) -> Option<Ref>
         requires { place < 8 }

@@ -1,5 +1,5 @@
-// Legacy back-references: 7.8 and 8.4 write a chunk and an offset, or a number in the map and large-object spaces; 6.x packs these in one
-// integer.
+//! Legacy back-references: 7.8 and 8.4 write a chunk and an offset, or a number in the map and
+//! large-object spaces; 6.x packs these in one integer (docs/FORMAT.md, "Legacy back-references").
 ghost use Rattle.std.specs.Prelude.{true, ◌≡◌, ◌^◌, ◌<◌, ◌≤◌};
 ghost use Rattle.sheet.specs.Sheet.{usable};
 ghost use Rattle.sheet.specs.Tests.{unless_zero};
@@ -12,21 +12,23 @@ use sheet::numbers::{lo_space, map_space, page_size_bits, six_x, space_tag_size,
 use stream::putint::putint;
 use tables::values::Ref;
 
-// What a back-reference stands for, and the cursor after it.
+/// What a back-reference stands for, and the cursor after it.
 #[derive(Clone, Copy)]
 pub struct Backref {
     pub target: Ref,
     pub next: usize,
 }
 
-// Why a back-reference is refused: the payload ended in it; or its number has no entry, with the cursor after it.
+/// Why a back-reference is refused: the payload ended in it; or its number has no entry, with the
+/// cursor after it.
 #[derive(Clone, Copy)]
 pub enum BackrefError {
     Cut,
     Unknown(usize),
 }
 
-// What is read of a back-reference to a space: the sheet and the payload, the address records, and the alignment that is pending.
+/// What is needed to read a back-reference to `space`: a usable sheet and the payload, the address
+/// records, and the alignment that is pending.
 #[derive(Clone, Copy)]
 pub struct LegacyReader<'a> {
     pub sheet: &'a [u16],
@@ -37,6 +39,7 @@ pub struct LegacyReader<'a> {
     ghost usable: { usable sheet.now ≡ true },
 }
 
+// 2 ^ bits.
 fn power(bits: u64) -> u64
     requires { bits < 64 }
     ensures { result ≡ 2 ^ bits }
@@ -153,7 +156,8 @@ impl<'a> LegacyReader<'a> {
         self.by_place(place, next + second.count)
     }
 
-    // The back-reference at a cursor.
+    /// The back-reference at a cursor, the place after its head byte (the Rust's `legacy_backref`
+    /// without the ring).
     #[tactic(auto, unfolding(crate::specs::Legacy::backref_of))]
     #[inline(always)]
     pub fn backref_at(self, at: usize) -> Result<Backref, BackrefError>
@@ -166,7 +170,7 @@ impl<'a> LegacyReader<'a> {
         }
     }
 
-    // The same; what it stands for enters the ring.
+    /// The same; what it stands for enters the ring. Refused, the ring stays as it was.
     pub fn legacy_backref(self, hot: &mut HotRing, at: usize) -> Result<Backref, BackrefError>
         ensures { (result ≡ backref_by self.entry at) × (hot.new ≡ ring_after hot.old result) }
     {

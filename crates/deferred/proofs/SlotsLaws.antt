@@ -1,4 +1,5 @@
--- The slots of an item of a deferred entry: their value, their number, and adding them. Assumes nothing.
+-- The slots of an item of a deferred entry: their value, their number, and adding them. Assumes
+-- nothing.
 use mathlib.Core.Path.{◌≡◌, refl, ap, ◌∙◌}
 use Prim.Native.Nat.{ℕ, suc, ◌+◌, ◌-◌, ◌*◌, ◌<◌, ◌≤◌}
 use native.Mathlib.Omega.{arith}

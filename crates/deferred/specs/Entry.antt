@@ -1,4 +1,5 @@
--- The part of a deferred entry that is a function of its own in the code. Assumes nothing: these are definitions.
+-- The part of a deferred entry that is a function of its own in the code. Assumes nothing: these
+-- are definitions.
 use Rattle.std.specs.Prelude.{◌≡◌, false, Option, Some, None, ℕ, eqb}
 use Rattle.tables.specs.declared.values.Fields.{Fields}
 use Rattle.tables.specs.declared.values.Ref.TheVariants.{Object}

@@ -1,4 +1,4 @@
-// Legacy deferred entries: slots of an object that was opened before.
+//! A deferred entry: slots of an object that was opened before.
 
 ghost use Rattle.std.specs.Prelude.{true, ◌≡◌, ℕ, ◌+◌, ◌^◌, ◌<◌, ◌≤◌, max};
 ghost use Rattle.sheet.specs.Sheet.{is_legacy};
@@ -70,14 +70,15 @@ fn add_slots(w: &mut Walker, s: State, o: u64, f: Fields, index: u64, n: u64) ->
     Ok(((), t))
 }
 
-// The index of the first slot that an entry gives object o: its slots go on, after the map's at least.
+// The index of the first slot that an entry gives object o: its slots go on, after the map's at
+// least.
 fn first_index(w: &Walker, o: u64) -> u64
     ensures { result ≡ max (field_of 4 w.now.objects.now o 3) 1 }
 {
     slot_count(w.objects, o).max(1)
 }
 
-// The items of an entry of object o, while the count is below the size: the step is what was read, so that a `for` would be no plainer.
+// The items of an entry of object o, while the count is below the size.
 fn entry_items(w: &mut Walker, s: State, o: u64, size: u64) -> Answer<()>
     requires ready { Ready w.old s }
     requires legacy { (is_legacy w.old.sheet.now ≡ true) × (size < 2 ^ 30) }
@@ -110,9 +111,9 @@ fn object_of(v: SlotValue) -> Option<u64>
     }
 }
 
-// The object that an entry names: a new-object byte, then a back-reference of its space. `NoEntry` has the number 0, as the definition has
-// it there (`entry_of`): it only ends a legacy closing section. An error type of its own for this crate and `graph` would make the clauses
-// needless that say of other refusals that their number is not 0, and would need a view of its own beside `seen`, with its laws.
+// The object that an entry names: a new-object byte, then a back-reference of its space. Where that
+// names no object, the refusal `NoEntry` has the number 0, as the definition has it there: it only
+// ends a legacy closing section, and no call answers it.
 fn entry_object(w: &mut Walker, s: State, space: u64) -> Answer<u64>
     requires { Addressed w.old s.addresses }
     ensures is { seen result (lent_of w.new) ≡ entry_object (input_of w.old) space (mem s (lent_of w.old)) }
@@ -124,7 +125,9 @@ fn entry_object(w: &mut Walker, s: State, space: u64) -> Answer<u64>
     Ok((o, u))
 }
 
-// An entry of a space.
+/// Reads a deferred entry of a space, at the cursor in a legacy closing section: the slots that it
+/// gives an object are added. What it refuses only ends the section, but for a table without room
+/// and an address that is too large.
 pub fn entry(w: &mut Walker, s: State, space: u64) -> Answer<()>
     requires ready { Ready w.old s }
     requires legacy { is_legacy w.old.sheet.now ≡ true }

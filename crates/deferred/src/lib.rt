@@ -1,4 +1,4 @@
-// Deferred entries of legacy closing sections.
+//! Deferred entries of legacy closing sections (docs/FORMAT.md, "Deferred entries").
 #![tactic(auto)]
 
 pub mod entry;

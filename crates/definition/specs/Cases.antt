@@ -12,7 +12,7 @@ use Rattle.alloc.specs.Allocation.{spaces_of, next_chunk, advance_of, allocate_o
 use Rattle.alloc.specs.Resolve.{addressed, resolve_of, ordinal_from}
 use Rattle.backref.specs.HotRing.{entered, hot_at}
 use Rattle.backref.specs.Legacy.{packed_backref, plain_backref, backref_of}
-use Rattle.definition.specs.Memory.{in_map, in_slot, in_value, dropped, Event, opened, passed, item, value, resolve, synchronize, Table, Out, got, no, byte, int}
+use Rattle.definition.specs.Memory.{in_map, in_slot, in_value, dropped, Event, opened, passed, item, value, resolve, begins, synchronize, Table, Out, got, no, byte, int}
 use Rattle.definition.specs.Slots.{add_value, add_slot, waiter, resolved, keep_item, place_item}
 use Rattle.definition.specs.Object.{add_object, allocate, chunk_changes, map_first, flag_object, keep_map, resolves, items, body, object}
 use Rattle.definition.specs.Reference.{backref_to, legacy_reference, pending_reference, raw_data, by_head, reference, ref_at}
@@ -143,7 +143,9 @@ told_events =
     item 1 8 8 4 ∷
     value (triple 1 1 0) (in_slot 5) ∷
     item 0 24 8 5 ∷
+    begins 20 ∷
     value (triple 2 7 0) dropped ∷
+    begins 21 ∷
     synchronize 21 ∷
     []
 

@@ -9,7 +9,7 @@ use Rattle.tables.specs.declared.values.SlotValue.TheVariants.{Ref as IsRef, Rep
 use Rattle.tables.specs.declared.values.Fields.{Fields}
 use Rattle.tables.specs.Values.{pick_ℕ, triple, fields_of, width_of}
 use Rattle.tables.specs.Records.{field}
-use Rattle.definition.specs.Memory.{Input, word, in_slot, dropped, value, synchronize, Table, Out, got, no, Reader, ◌>>=◌, ◌>>◌, choose, give, change, refuse, refuse_at, aligned, tell, byte, int}
+use Rattle.definition.specs.Memory.{Input, word, in_slot, dropped, value, begins, synchronize, Table, Out, got, no, Reader, ◌>>=◌, ◌>>◌, choose, give, change, refuse, refuse_at, aligned, tell, byte, int}
 use Rattle.definition.specs.Slots.{add_slot}
 use Rattle.definition.specs.Object.{peek}
 use Rattle.definition.specs.Reference.{legacy_reference, ref_at}
@@ -98,13 +98,13 @@ by_entry x k (Alignment a) m = (byte x >> change (aligned a) >> k) m
 by_entry x k (Deferred space) m = after_entry x k (entry x space m)
 by_entry x k Reference m = after_entry x k (drop_reference x m)
 
--- entries until kSynchronize; each reads a byte at least. The payload's end: refusal 13, in legacy the section ends
+-- entries until kSynchronize; where each begins is told, and each reads a byte at least. The payload's end: refusal 13, in legacy the section ends
 unfoldable pub entries : Input → ℕ → Reader (Unit {0})
 entries x zero m = give tt m
 entries x (suc n) m =
     choose (leb (length x.payload) m.at)
     (choose (is_legacy x.sheet) (give tt) (refuse_at 13 (length x.payload)))
-    (by_entry x (entries x n) (closing_of x.sheet (peek x m)))
+    (tell (begins m.at) >> by_entry x (entries x n) (closing_of x.sheet (peek x m)))
     m
 
 -- only kNop after it (else refusal 14 at that byte, in legacy the reading ends; difference D21)

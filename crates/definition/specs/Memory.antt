@@ -35,13 +35,15 @@ pub data Kept : Type 0 where
 
 -- what happens in a reading, for the words of demand 3: an object is opened (the place of its head, its declared words); raw data is
 -- passed (offset, length); an item of an object is read (the object, its first byte there, its width, its slot record); a value was read
--- (kind, a, b) and is kept; a resolve of a number stands after an object's map; kSynchronize ends the closing section (its place)
+-- (kind, a, b) and is kept; a resolve of a number stands after an object's map; an entry of the closing section begins (its place);
+-- kSynchronize ends that section (its place)
 pub data Event : Type 0 where
   opened : ℕ → ℕ → Event
   passed : ℕ → ℕ → Event
   item : ℕ → ℕ → ℕ → ℕ → Event
   value : Fields → Kept → Event
   resolve : ℕ → ℕ → Event
+  begins : ℕ → Event
   synchronize : ℕ → Event
 
 -- events are not recorded, or they are: these so far, the latest first
@@ -120,55 +122,37 @@ refuse n m = no n m.at m
 
 -- the cursor
 abbrev pub moved : ℕ → Mem → Mem
-moved at m =
-    record
-    { at = at; objects = m.objects; slots = m.slots; values = m.values; addresses = m.addresses; hot = m.hot; pending = m.pending; waiting = m.waiting; skip = m.skip; alignment = m.alignment; alloc = m.alloc; log = m.log }
+moved at m = record m { at = at }
 
 abbrev pub with_objects : Table → Mem → Mem
-with_objects t m =
-    record
-    { at = m.at; objects = t; slots = m.slots; values = m.values; addresses = m.addresses; hot = m.hot; pending = m.pending; waiting = m.waiting; skip = m.skip; alignment = m.alignment; alloc = m.alloc; log = m.log }
+with_objects t m = record m { objects = t }
 
 abbrev pub with_slots : Table → Mem → Mem
-with_slots t m =
-    record
-    { at = m.at; objects = m.objects; slots = t; values = m.values; addresses = m.addresses; hot = m.hot; pending = m.pending; waiting = m.waiting; skip = m.skip; alignment = m.alignment; alloc = m.alloc; log = m.log }
+with_slots t m = record m { slots = t }
 
 abbrev pub with_values : Table → Mem → Mem
-with_values t m =
-    record
-    { at = m.at; objects = m.objects; slots = m.slots; values = t; addresses = m.addresses; hot = m.hot; pending = m.pending; waiting = m.waiting; skip = m.skip; alignment = m.alignment; alloc = m.alloc; log = m.log }
+with_values t m = record m { values = t }
 
 abbrev pub with_hot : HotRing → Mem → Mem
-with_hot h m =
-    record
-    { at = m.at; objects = m.objects; slots = m.slots; values = m.values; addresses = m.addresses; hot = h; pending = m.pending; waiting = m.waiting; skip = m.skip; alignment = m.alignment; alloc = m.alloc; log = m.log }
+with_hot h m = record m { hot = h }
 
 -- the next pending number, and how many slots wait
 abbrev pub with_pending : ℕ → ℕ → Mem → Mem
-with_pending n w m =
-    record
-    { at = m.at; objects = m.objects; slots = m.slots; values = m.values; addresses = m.addresses; hot = m.hot; pending = n; waiting = w; skip = m.skip; alignment = m.alignment; alloc = m.alloc; log = m.log }
+with_pending n w m = record m { pending = n; waiting = w }
 
 abbrev pub with_skip : ℕ → Mem → Mem
-with_skip n m =
-    record
-    { at = m.at; objects = m.objects; slots = m.slots; values = m.values; addresses = m.addresses; hot = m.hot; pending = m.pending; waiting = m.waiting; skip = n; alignment = m.alignment; alloc = m.alloc; log = m.log }
+with_skip n m = record m { skip = n }
 
 -- addresses, pending alignment and chunk counters
 abbrev pub with_alloc : Table → ℕ → LegacyAlloc → Mem → Mem
-with_alloc t a c m =
-    record
-    { at = m.at; objects = m.objects; slots = m.slots; values = m.values; addresses = t; hot = m.hot; pending = m.pending; waiting = m.waiting; skip = m.skip; alignment = a; alloc = c; log = m.log }
+with_alloc t a c m = record m { addresses = t; alignment = a; alloc = c }
 
 abbrev pub aligned : ℕ → Mem → Mem
 aligned a m = with_alloc m.addresses a m.alloc m
 
 -- an event is recorded, where events are
 abbrev pub noted : Event → Mem → Mem
-noted e m =
-    record
-    { at = m.at; objects = m.objects; slots = m.slots; values = m.values; addresses = m.addresses; hot = m.hot; pending = m.pending; waiting = m.waiting; skip = m.skip; alignment = m.alignment; alloc = m.alloc; log = note e m.log }
+noted e m = record m { log = note e m.log }
 
 -- ---- steps
 

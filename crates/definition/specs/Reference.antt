@@ -1,9 +1,10 @@
 -- A reference: what its head byte says, in the order of the Rust's `parse_ref_inner` (specs/Heads.antt of the crate `heads`). Assumes nothing:
 -- these are definitions.
-use Rattle.std.specs.Prelude.{Bool, true, ℕ, zero, suc, ◌+◌, ◌*◌, ◌^◌, ◌-◌, max, ltb, eqb, Option, Some, None, Ok, Err}
+use Rattle.std.specs.Prelude.{Bool, true, ℕ, zero, suc, ◌+◌, ◌*◌, ◌^◌, ◌-◌, max, ltb, Option, Some, None, Ok, Err}
 use Rattle.stream.specs.Bytes.{raw_at}
 use Rattle.sheet.specs.Sheet.{pick_ℕ, is_legacy, raw_advances}
-use Rattle.heads.specs.Kinds.{new_object, backref, legacy_backref, legacy_backref_with_skip, next_chunk, alignment, hot, hot_with_skip, root_array, root_constant, root_constant_with_skip, read_only, attached, builtin, external, api, internal, deoptimizer, stream_bytes, embedder_fields, off_heap_target, cache, register_pending, cleared_weak, weak_prefix, pointer_prefix, dispatch_entry, fixed_raw, variable_raw, skip, fixed_repeat, fixed_repeat_root, repeat_previous, variable_repeat, variable_repeat_previous, variable_repeat_root, meta_map}
+use Rattle.heads.specs.declared.kinds.Kind.{Kind}
+use Rattle.heads.specs.declared.kinds.Kind.TheVariants.{NoMeaning, NewObject, Backref, LegacyBackref, LegacyBackrefWithSkip, NextChunk, Alignment, Hot, HotWithSkip, RootArray, RootConstant, RootConstantWithSkip, ReadOnly, Attached, Builtin, External, Api, Internal, Deoptimizer, StreamBytes, EmbedderFields, OffHeapTarget, Cache, RegisterPending, ClearedWeak, WeakPrefix, PointerPrefix, DispatchEntry, FixedRaw, VariableRaw, Skip, FixedRepeat, FixedRepeatRoot, RepeatPrevious, VariableRepeat, VariableRepeatPrevious, VariableRepeatRoot, MetaMap}
 use Rattle.heads.specs.Heads.{head_of}
 use Rattle.tables.specs.declared.values.Ref.{Ref}
 use Rattle.tables.specs.declared.values.Ref.TheVariants.{Object, Root, RoRef, Attached}
@@ -90,46 +91,45 @@ repeat_root x n = byte x >>= (λ i. repeat_of n (IsRef (Root i)))
 -- Where the Rust leaves V8 here: pointer prefixes leave no trace (D13), the self pointer is a cleared weak (D14), stream bytes are not passed
 -- over (D38), a dispatch entry is its integer alone (D39), meta maps are refused (D36), and so are tags that only V8 knows (D37, D40)
 
-unfoldable pub by_head : Input → Reader SlotValue → ℕ → ℕ → ℕ → Reader SlotValue
-by_head x r tag kind a =
-    choose (eqb kind new_object) (object x r a tag)
-    (choose (eqb kind backref) (int x >>= backref_to)
-    (choose (eqb kind legacy_backref) (legacy_reference x a)
-    (choose (eqb kind legacy_backref_with_skip) (skip_amount x >> legacy_reference x a)
-    (choose (eqb kind next_chunk) (byte x >>= (λ space. change (change_chunk x space)) >> r)
-    (choose (eqb kind alignment) (change (aligned a) >> r)
-    (choose (eqb kind hot) (hot_place a)
-    (choose (eqb kind hot_with_skip) (skip_amount x >> hot_place a)
-    (choose (eqb kind root_array) (int x >>= (λ i. refers_hot (Root i)))
-    (choose (eqb kind root_constant) (refers (Root a))
-    (choose (eqb kind root_constant_with_skip) (skip_amount x >> refers (Root a))
-    (choose (eqb kind read_only) (int x >>= (λ c. int x >>= (λ o. refers (RoRef c o))))
-    (choose (eqb kind attached) (int x >>= (λ i. refers (Attached i)))
-    (choose (eqb kind builtin) (outside x 2)
-    (choose (eqb kind external) (outside x 3)
-    (choose (eqb kind api) (skip_amount x >> outside x 4)
-    (choose (eqb kind internal) (int x >> int x >> give (Skip 0))
-    (choose (eqb kind deoptimizer) (int x >> give (Skip 0))
-    (choose (eqb kind stream_bytes) (int x >>= (λ n. give (StreamBytes n)))
-    (choose (eqb kind embedder_fields) (int x >> int x >>= (λ n. give (StreamBytes n)))
-    (choose (eqb kind off_heap_target) (skip_amount x >> int x >> refers (RoRef (2 ^ 32 - 5) 0))
-    (choose (eqb kind cache) (outside x 1)
-    (choose (eqb kind register_pending) pending_reference
-    (choose (eqb kind cleared_weak) (give ClearedWeak)
-    (choose (eqb kind weak_prefix) (r >>= weak_of)
-    (choose (eqb kind pointer_prefix) r
-    (choose (eqb kind dispatch_entry) (int x >> give ClearedWeak)
-    (choose (eqb kind fixed_raw) (raw_data x (a * word x) true)
-    (choose (eqb kind variable_raw) (int x >>= (λ n. raw_data x (raw_bytes x n) (raw_advances x.sheet)))
-    (choose (eqb kind skip) (int x >>= (λ n. give (Skip n)))
-    (choose (eqb kind fixed_repeat) (r >>= repeat_of a)
-    (choose (eqb kind fixed_repeat_root) (repeat_root x a)
-    (choose (eqb kind repeat_previous) (give (RepeatPrev a))
-    (choose (eqb kind variable_repeat) (int x >>= (λ n. r >>= repeat_of (n + 18)))
-    (choose (eqb kind variable_repeat_previous) (int x >>= (λ n. give (RepeatPrev n)))
-    (choose (eqb kind variable_repeat_root) (int x >>= (λ n. repeat_root x (n + 18)))
-    (choose (eqb kind meta_map) (refuse_at 11 tag)
-    (refuse_at 10 tag)))))))))))))))))))))))))))))))))))))
+unfoldable pub by_head : Input → Reader SlotValue → ℕ → Kind → ℕ → Reader SlotValue
+by_head x r tag NewObject a = object x r a tag
+by_head x r tag Backref a = int x >>= backref_to
+by_head x r tag LegacyBackref a = legacy_reference x a
+by_head x r tag LegacyBackrefWithSkip a = skip_amount x >> legacy_reference x a
+by_head x r tag NextChunk a = byte x >>= (λ space. change (change_chunk x space)) >> r
+by_head x r tag Alignment a = change (aligned a) >> r
+by_head x r tag Hot a = hot_place a
+by_head x r tag HotWithSkip a = skip_amount x >> hot_place a
+by_head x r tag RootArray a = int x >>= (λ i. refers_hot (Root i))
+by_head x r tag RootConstant a = refers (Root a)
+by_head x r tag RootConstantWithSkip a = skip_amount x >> refers (Root a)
+by_head x r tag ReadOnly a = int x >>= (λ c. int x >>= (λ o. refers (RoRef c o)))
+by_head x r tag Attached a = int x >>= (λ i. refers (Attached i))
+by_head x r tag Builtin a = outside x 2
+by_head x r tag External a = outside x 3
+by_head x r tag Api a = skip_amount x >> outside x 4
+by_head x r tag Internal a = int x >> int x >> give (Skip 0)
+by_head x r tag Deoptimizer a = int x >> give (Skip 0)
+by_head x r tag StreamBytes a = int x >>= (λ n. give (StreamBytes n))
+by_head x r tag EmbedderFields a = int x >> int x >>= (λ n. give (StreamBytes n))
+by_head x r tag OffHeapTarget a = skip_amount x >> int x >> refers (RoRef (2 ^ 32 - 5) 0)
+by_head x r tag Cache a = outside x 1
+by_head x r tag RegisterPending a = pending_reference
+by_head x r tag ClearedWeak a = give ClearedWeak
+by_head x r tag WeakPrefix a = r >>= weak_of
+by_head x r tag PointerPrefix a = r
+by_head x r tag DispatchEntry a = int x >> give ClearedWeak
+by_head x r tag FixedRaw a = raw_data x (a * word x) true
+by_head x r tag VariableRaw a = int x >>= (λ n. raw_data x (raw_bytes x n) (raw_advances x.sheet))
+by_head x r tag Skip a = int x >>= (λ n. give (Skip n))
+by_head x r tag FixedRepeat a = r >>= repeat_of a
+by_head x r tag FixedRepeatRoot a = repeat_root x a
+by_head x r tag RepeatPrevious a = give (RepeatPrev a)
+by_head x r tag VariableRepeat a = int x >>= (λ n. r >>= repeat_of (n + 18))
+by_head x r tag VariableRepeatPrevious a = int x >>= (λ n. give (RepeatPrev n))
+by_head x r tag VariableRepeatRoot a = int x >>= (λ n. repeat_root x (n + 18))
+by_head x r tag MetaMap a = refuse_at 11 tag
+by_head x r tag NoMeaning a = refuse_at 10 tag
 
 -- a reference, whose inner references r reads
 unfoldable pub reference : Input → Reader SlotValue → Reader SlotValue

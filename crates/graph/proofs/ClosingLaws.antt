@@ -14,7 +14,7 @@ use Rattle.sheet.specs.declared.tests.Closing.TheVariants.{Synchronize, Alignmen
 use Rattle.sheet.specs.Tests.{closing_of}
 use Rattle.tables.specs.declared.values.SlotValue.{SlotValue}
 use Rattle.tables.specs.Values.{fields_of}
-use Rattle.definition.specs.Memory.{Input, dropped, value, Mem, Out, got, no, Reader, choose, give, refuse_at, tell, byte}
+use Rattle.definition.specs.Memory.{Input, dropped, value, begins, Mem, Out, got, no, Reader, choose, give, refuse_at, noted, tell, byte}
 use Rattle.definition.specs.Object.{peek}
 use Rattle.definition.specs.Reference.{ref_at}
 use Rattle.definition.specs.Closing.{entry, drop_reference, ends_legacy, after_entry, by_entry, entries, closing}
@@ -62,7 +62,7 @@ module _ (x : Input) (m : Mem) where
     left_cut y = rw (one_more, le-leb (length x.payload) m.at h, y)
 
   module _ (h : m.at < length x.payload) (e : Closing) (c : closing_of x.sheet (peek x m) ≡ e) where
-    left_by : by_entry x (entries x (length x.payload - m.at)) e m ≡ entries_left x m
+    left_by : by_entry x (entries x (length x.payload - m.at)) e (noted (begins m.at) m) ≡ entries_left x m
     unfolding entries
     left_by = rw (one_more, lt-leb (length x.payload) m.at h, c)
 
@@ -78,7 +78,8 @@ pub record Loop (w₀ : Walker) (s₀ : State) (w : Walker) (s : State) : Type 0
   pub same : entries_left (input_of w) (mem s (lent_of w)) ≡ entries_left (input_of w₀) (mem s₀ (lent_of w₀))
   pub fixed : Fixed w₀ w
 
--- what is known of the answer to an entry that holds references: how the section goes on, and what stays in order
+-- what is known of the answer to an entry that holds references: how the section goes on, and what
+-- stays in order
 pub record Answered (w₀ : Walker) (s₀ : State) (w : Walker) (s : State) (r : Answer (Unit {0})) (w₁ : Walker) : Type 1 where
   pub same : after_entry (input_of w) (entries (input_of w) (length w.payload.now - s.at)) (seen r (lent_of w₁)) ≡ entries_left (input_of w₀) (mem s₀ (lent_of w₀))
   pub law : Law (input_of w) Reads (mem s (lent_of w)) (seen r (lent_of w₁))

@@ -1,4 +1,5 @@
--- The parts of the driver that are a function of their own in the code. Assumes nothing: these are definitions.
+-- The parts of the driver that are a function of their own in the code. Assumes nothing: these are
+-- definitions.
 use Rattle.std.specs.Prelude.{Ok, Err}
 use Rattle.sheet.specs.Tests.{opens}
 use Rattle.tables.specs.declared.values.SlotValue.{SlotValue}

@@ -1,4 +1,4 @@
-// The closing section.
+//! The closing section (docs/FORMAT.md, "The closing section").
 
 ghost use Rattle.std.specs.Prelude.{◌≡◌, List, ℕ, ◌+◌, ◌-◌, length};
 ghost use Rattle.refusals.specs.Numbers.{number_of};
@@ -25,7 +25,8 @@ fn ends_legacy(sheet: &[u16], e: Refusal) -> bool
     legacy(sheet) && e != Refusal::NoRoom && e != Refusal::AddressTooLarge
 }
 
-// A reference at depth 0, whose value is dropped. A new object, the commonest, needs no call of `parse_ref`.
+// A reference at depth 0, whose value is dropped. A new object, the commonest, needs no call of
+// `parse_ref`.
 #[inline(always)]
 fn drop_ref(w: &mut Walker, s: State) -> Answer<()>
     requires ready { Ready w.old s }
@@ -41,8 +42,8 @@ fn drop_ref(w: &mut Walker, s: State) -> Answer<()>
     Ok(((), t))
 }
 
-// Entries until kSynchronize: the step is what was read, so that a `for` would be no plainer. No `?`, since most faults of an entry only
-// end a legacy section.
+// Entries until the first kSynchronize. There is no `?`, since most faults of an entry only end a
+// legacy section.
 #[tactic(auto, using(crate::proofs::ClosingLaws::loop_synchronize, crate::proofs::ClosingLaws::loop_end, crate::proofs::ClosingLaws::loop_cut, laws::specs::Leaves::deferred_legacy))]
 fn entries(w: &mut Walker, s: State) -> Answer<()>
     requires ready { Ready w.old s }
@@ -79,7 +80,8 @@ fn entries(w: &mut Walker, s: State) -> Answer<()>
     }
 }
 
-// The closing section and what follows it.
+/// Reads the closing section at the cursor, and the padding after it. Refused as docs/FORMAT.md,
+/// "Refusals", says; in a legacy sheet most faults only end the section.
 pub fn closing(w: &mut Walker, s: State) -> Answer<()>
     requires ready { Ready w.old s }
     ensures is { seen result (lent_of w.new) ≡ closingSection (input_of w.old) (mem s (lent_of w.old)) }

@@ -1,4 +1,4 @@
-// What may follow the closing section.
+//! What may follow the closing section.
 
 ghost use Rattle.std.specs.Prelude.{◌≡◌, List, ℕ, ◌-◌, length};
 ghost use Rattle.definition.specs.Closing as Closing;
@@ -10,7 +10,8 @@ use sheet::names::K_NOP;
 use sheet::numbers::legacy;
 use sheet::tests::is_tag;
 
-// kNop up to the payload's end; in legacy the reading ends before any other byte.
+/// Passes kNop bytes up to the payload's end. At another byte a legacy reading ends, and else the
+/// payload is refused there (`NoPadding`, 14).
 pub fn padding(sheet: &[u16], p: &[u8], s: State) -> Answer<()>
     ensures { (tr : List ℕ) (sp : ℕ) (l : Lent) → seen result l ≡ Closing.padding (input sheet.now p.now sp tr) (length p.now - s.at) (mem s l) }
 {

@@ -1,4 +1,4 @@
-// The walk of a whole payload.
+//! The walk of a whole payload.
 
 ghost use Rattle.std.specs.Prelude.{true, ◌≡◌, List, ℕ, ◌≤◌};
 ghost use Rattle.sheet.specs.Tests as Tests;
@@ -51,7 +51,9 @@ fn top_object(w: &mut Walker, s: State) -> Answer<SlotValue>
     parse_object(w, t, 0, new)
 }
 
-// The top object, then the closing section.
+/// Walks a whole payload from its first byte: the top object, then the closing section and the
+/// padding. The tables are left in the walker; the state has the counts and the place where the
+/// reading ended. It is what `parse_with` of the Rust does once its input is tested.
 pub fn walk(w: &mut Walker, s: State) -> Answer<()>
     requires ready { Ready w.old s }
     ensures is { seen result (lent_of w.new) ≡ Call.walk (input_of w.old) (mem s (lent_of w.old)) }

@@ -1,4 +1,4 @@
-// The input files.
+//! The input files: sheet.bin, payload.bin, reserve.bin and trusted.bin, little-endian.
 ghost use Rattle.std.specs.Prelude.{◌≡◌, ◌≢◌, ◌*◌, ◌/◌, ◌≤◌, ◌⊎◌, [], map, IfOk, length, vec_len};
 ghost use Rattle.std.specs.Int.{from_le_bytes};
 ghost use Rattle.std.specs.Simd.{first_chunks};
@@ -11,23 +11,26 @@ use std::{fmt, fs, io};
 
 const LIMIT: usize = 65536;
 
-// What the files hold.
+/// What the files hold.
 #[derive(Drop)]
 pub struct Input {
+    /// The 58 numbers of the version sheet, or none where the file has another length.
     pub sheet: Vec<u16>,
+    /// The payload, of at most 65,536 bytes.
     pub payload: Vec<u8>,
+    /// The reservations, at most 16,384.
     pub reservations: Vec<u32>,
+    /// The trusted list, of at most 65,536 bytes.
     pub trusted: Vec<u8>,
 }
 
-// The name of a file that can't be used, and the reason.
+/// The name of a file that can't be used, and the reason.
 #[derive(Debug, Drop)]
 pub struct Unusable {
     name: &'static str,
     reason: Error,
 }
 
-// One `write!`: a derive would be no shorter.
 impl fmt::Display for Unusable {
     fn fmt<W: fmt::Write>(&self, f: &mut fmt::Formatter<W>) -> fmt::Result {
         write!(f, "{}: {}", self.name, self.reason)
@@ -53,8 +56,7 @@ fn read_needed(rt: &impl Files, alloc: Global, name: &str) -> io::Result<Vec<u8>
     read_open(alloc, fs::open(rt, name)?)
 }
 
-// The bytes of a file that counts as empty where it is missing. `read_needed` opens it too: one function of both would take what a missing
-// file comes to.
+// The bytes of a file that counts as empty where it is missing.
 fn read_if_there(rt: &impl Files, alloc: Global, name: &str) -> io::Result<Vec<u8>>
     ensures { IfOk result (λ v. vec_len v ≤ LIMIT) }
 {
@@ -90,7 +92,6 @@ fn reservations_of(alloc: Global, bytes: &[u8]) -> io::Result<Vec<u32>>
     Ok(fours.iter().map(|x| u32::from_le_bytes(*x)).collect(alloc)?)
 }
 
-// This and `read_reservations` name a file, how it is opened and what its bytes are: one function of both would take all three.
 fn read_sheet(rt: &impl Files, alloc: Global) -> io::Result<Vec<u16>>
     ensures { IfOk result (λ v. (vec_len v ≡ 0) ⊎ (vec_len v ≡ 58)) }
 {
@@ -113,7 +114,8 @@ fn named<T>(name: &'static str, read: io::Result<T>) -> Result<T, Unusable>
 }
 
 impl Input {
-    // Reads the files, up to the first that can't be used.
+    /// Reads the files, up to the first that can't be used. reserve.bin and trusted.bin count as
+    /// empty where they are missing.
     pub fn read(rt: &impl Files, alloc: Global) -> Result<Input, Unusable>
         ensures sheet { IfOk result (λ i. (vec_len i.sheet ≡ 0) ⊎ (vec_len i.sheet ≡ 58)) }
         ensures payload { IfOk result (λ i. vec_len i.payload ≤ LIMIT) }

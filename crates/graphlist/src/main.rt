@@ -1,4 +1,5 @@
-// Reads a version sheet, a payload, its reservations and a trusted list from files, and prints the payload's object graph.
+//! Reads a version sheet, a payload, its reservations and a trusted list from files, and prints the
+//! payload's object graph (docs/GRAPHLIST.md).
 #![tactic(auto)]
 
 ghost use Rattle.std.specs.Prelude.{◌<◌};
@@ -11,7 +12,8 @@ use std::alloc::Global;
 use std::io::{BufWriter, Write};
 use std::{fmt, io};
 
-// Records of N fields, a line each: the letter and the fields. N is small, so that a record's size fits.
+// Records of N fields, a line each: the letter and the fields. N is small, so that a record's size
+// fits.
 #[derive(Clone, Copy)]
 struct Lines<'a, const N: usize> {
     letter: &'static str,
@@ -20,7 +22,7 @@ struct Lines<'a, const N: usize> {
 }
 
 impl<const N: usize> fmt::Display for Lines<'_, N> {
-    // `write_str` and `fmt` stand in place of `write!`, with which a long listing takes a fifth more time.
+    // `write_str` and `fmt`: with `write!` a long listing takes a fifth more time.
     fn fmt<W: fmt::Write>(&self, f: &mut fmt::Formatter<W>) -> fmt::Result {
         for record in self.records {
             f.write_str(self.letter)?;
@@ -34,7 +36,7 @@ impl<const N: usize> fmt::Display for Lines<'_, N> {
     }
 }
 
-// The first `count` records of a table. How wide they are is said by number, as include/dawichko.h says it to C.
+// Prints the first `count` records of a table.
 fn records<const N: usize>(
     out: &mut impl Write,
     letter: &'static str,

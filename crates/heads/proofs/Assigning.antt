@@ -9,10 +9,11 @@ use lib.ListN.{length, set, length-set}
 use lib.Seq.{get_or-set_same, get_or-set_other}
 use Rattle.heads.specs.declared.heads.Head.{Head}
 use Rattle.heads.specs.declared.kinds.Kind.{Kind}
-use Rattle.heads.specs.Heads.{argument_of, no_head, head_at}
+use Rattle.heads.specs.declared.order.Argument.{Argument}
+use Rattle.heads.specs.Heads.{argument_of, head, no_head, head_at}
 use Rattle.heads.specs.Assigning.{Assigned}
 
-module _ (t : List Head) (first : ℕ) (kind : Kind) (rule mask : ℕ) where
+module _ (t : List Head) (first : ℕ) (kind : Kind) (rule : Argument) (mask : ℕ) where
   pub assigned_none : (n : ℕ) → n ≡ 0 → Assigned t first n kind rule mask t
   assigned_none n e =
       record { size = refl; inside = λ b h l. absurd (omega arith); below = λ b h. refl; above = λ b h l. refl }
@@ -24,7 +25,7 @@ module _ (t : List Head) (first : ℕ) (kind : Kind) (rule mask : ℕ) where
     after_size : length after ≡ 256
     after_size = d.size ∙ size
 
-    more-inside : (k : ℕ) → first ≤ k → (k ≡ b) ⊎ (k < b) → head_at (set after b has) k ≡ record { kind = kind; argument = argument_of mask rule first k }
+    more-inside : (k : ℕ) → first ≤ k → (k ≡ b) ⊎ (k < b) → head_at (set after b has) k ≡ head kind (argument_of mask rule first k)
     unfolding has
     more-inside k h (inl q) = rw q (get_or-set_same after b has no_head (omega (arith, after_size)) ∙ rw e)
     more-inside k h (inr l) = get_or-set_other after b k has no_head (omega arith) ∙ d.inside k h (omega arith)
@@ -38,5 +39,5 @@ module _ (t : List Head) (first : ℕ) (kind : Kind) (rule mask : ℕ) where
         record { size = simp length-set d.size; inside = λ k h l. more-inside k h (eq-or-lt_of_le (omega arith)); below = λ k h. more-other k (omega arith) (d.below k h); above = λ k h l. more-other k (omega arith) (d.above k (omega arith) l) }
 
 -- equal numbers, the same assignment
-pub assigned_as : {t after : List Head} {kind : Kind} {first first' n n' rule rule' mask mask' : ℕ} → first ≡ first' → n ≡ n' → rule ≡ rule' → mask ≡ mask' → Assigned t first n kind rule mask after → Assigned t first' n' kind rule' mask' after
-assigned_as f n r m d = rw (← f, ← n, ← r, ← m) d
+pub assigned_as : {t after : List Head} {kind : Kind} {rule : Argument} {first first' n n' mask mask' : ℕ} → first ≡ first' → n ≡ n' → mask ≡ mask' → Assigned t first n kind rule mask after → Assigned t first' n' kind rule mask' after
+assigned_as f n m d = rw (← f, ← n, ← m) d

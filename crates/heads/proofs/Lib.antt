@@ -1,5 +1,4 @@
 pub mod Answers
 pub mod Assigning
-pub mod Claims
 pub mod Rules
 pub mod Spans

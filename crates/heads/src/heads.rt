@@ -1,8 +1,9 @@
-// What a reference with each head byte is: the 256 answers, made once for a sheet.
+//! What a reference with each head byte is: the 256 answers, made once for a sheet.
+
 ghost use Rattle.std.specs.Prelude.{◌≡◌, true, ◌+◌, ◌<◌, ◌≤◌, length, replicate};
 ghost use Rattle.sheet.specs.Sheet.{usable as isUsable};
-ghost use Rattle.heads.specs.Heads.{tests, argument_of, no_head, Heads, Decoded};
-ghost use Rattle.heads.specs.Assigning.{span_bytes, family_number, argument_number, Assigned};
+ghost use Rattle.heads.specs.Heads.{span_of, tests, argument_of, no_head, Heads, Decoded};
+ghost use Rattle.heads.specs.Assigning.{Assigned};
 
 use crate::kinds::Kind;
 use crate::order::{Argument, Family, ORDER, Span};
@@ -12,7 +13,7 @@ use usable_sheets::usable::usable;
 
 // How many bytes a name lays hold of.
 fn span_of(sheet: &[u16], span: Span) -> u64
-    ensures { result ≡ span_bytes sheet.now span }
+    ensures { result ≡ span_of sheet.now span }
 {
     match span {
         Span::Bytes(n) => n,
@@ -26,7 +27,7 @@ fn span_of(sheet: &[u16], span: Span) -> u64
 
 // Whether this sheet tests a name of such a family.
 fn tested(sheet: &[u16], family: Family) -> bool
-    ensures { result ≡ tests sheet.now (family_number family) }
+    ensures { result ≡ tests sheet.now family }
 {
     match family {
         Family::Always => true,
@@ -42,7 +43,7 @@ fn tested(sheet: &[u16], family: Family) -> bool
 // The head's argument, from the byte and the name's first byte.
 fn argument_of(mask: u64, argument: Argument, first: u64, b: u64) -> u64
     requires { (first ≤ b) × (b < 256) }
-    ensures { result ≡ argument_of mask (argument_number argument) first b }
+    ensures { result ≡ argument_of mask argument first b }
 {
     match argument {
         Argument::Nothing => 0,
@@ -54,7 +55,7 @@ fn argument_of(mask: u64, argument: Argument, first: u64, b: u64) -> u64
     }
 }
 
-// What a reference with a head byte is, and its argument.
+/// What a reference with a head byte is, and its argument, which is at most 257.
 #[derive(Clone, Copy)]
 pub struct Head {
     pub kind: Kind,
@@ -64,7 +65,7 @@ pub struct Head {
 // n bytes from `first` on get this kind and their arguments.
 fn assign(heads: &mut [Head; 256], first: u64, n: u64, kind: Kind, argument: Argument, mask: u64)
     requires { first + n ≤ 256 }
-    ensures { Assigned heads.old first n kind (argument_number argument) mask heads.new }
+    ensures { Assigned heads.old first n kind argument mask heads.new }
 {
     for b in first..first + n {
         heads[b as usize] = Head {
@@ -74,7 +75,8 @@ fn assign(heads: &mut [Head; 256], first: u64, n: u64, kind: Kind, argument: Arg
     }
 }
 
-// The answers of a usable sheet. The rows are taken from the last to the first, so that the first that lays hold of a byte stays.
+// The answers of a usable sheet. The rows are taken from the last to the first, so that the first
+// that lays hold of a byte stays.
 fn claim_all(sheet: &[u16], heads: &mut [Head; 256])
     requires sheet_value { isUsable sheet.now ≡ true }
     requires heads_value { heads.old ≡ replicate 256 no_head }
@@ -91,7 +93,8 @@ fn claim_all(sheet: &[u16], heads: &mut [Head; 256])
     }
 }
 
-// What each head byte means under this sheet. None where the sheet is not usable.
+/// What each head byte means under this sheet: the answer for byte b stands at index b. None where
+/// the sheet is not usable.
 pub fn decode(sheet: &[u16]) -> Option<[Head; 256]>
     ensures { Decoded sheet.now result }
 {

@@ -1,46 +1,56 @@
-// The order in which a reference's head is tested (`order` of specs/Heads.antt).
+//! The order in which a reference's head byte is tested, as a table (`order` of specs/Heads.antt).
+
 use crate::kinds::Kind;
 use sheet::names::*;
 
-// How many bytes a name lays hold of.
+/// How many bytes a name lays hold of, from its first byte on.
 #[derive(Clone, Copy, PartialEq, Eq, Debug)]
-pub(crate) enum Span {
+pub enum Span {
+    /// So many.
     Bytes(u64),
-    // kNumberOfSpaces
+    /// kNumberOfSpaces.
     Spaces,
-    // kRootArrayConstantsMask + 1
+    /// kRootArrayConstantsMask + 1.
     RootConstants,
-    // from kNewObject to below kBackref
+    /// From kNewObject to below kBackref.
     UpToBackref,
 }
 
-// Which sheets test a name.
+/// Which sheets test a name.
 #[derive(Clone, Copy, PartialEq, Eq, Debug)]
-pub(crate) enum Family {
+pub enum Family {
     Always,
     Legacy,
     Modern,
     SixX,
     NotSixX,
-    // the last two only where kFixedRepeat is absent
+    /// 6.x, where kFixedRepeat is absent: it hides kFixedRepeatRoot.
     SixXAlone,
+    /// All but 6.x, where kFixedRepeat is absent.
     NotSixXAlone,
 }
 
-// A head's argument, from its byte and the name's first byte.
+/// A head's argument, from its byte and the name's first byte.
 #[derive(Clone, Copy, PartialEq, Eq, Debug)]
-pub(crate) enum Argument {
+pub enum Argument {
+    /// 0.
     Nothing,
+    /// The byte less the first byte.
     Offset,
+    /// That, and 1.
     FromOne,
+    /// That, and 2.
     FromTwo,
+    /// The byte AND 7.
     AndSeven,
+    /// The byte AND kRootArrayConstantsMask.
     AndMask,
 }
 
-// A row of the order: the bytes of a name, by its place in the sheet, mean this kind and argument in sheets of this family.
+/// A row of the order: the bytes of a name, by its place in the sheet, mean this kind and argument
+/// in sheets of this family.
 #[derive(Clone, Copy, PartialEq, Eq, Debug)]
-pub(crate) struct Claim {
+pub struct Claim {
     pub name: usize,
     pub span: Span,
     pub family: Family,
@@ -61,8 +71,8 @@ macro_rules! claims {
     };
 }
 
-// Legacy sheets test the first five before all others.
-pub(crate) const ORDER: [Claim; 50] = claims! {
+/// The rows, in order. Legacy sheets test the first five before all others.
+pub const ORDER: [Claim; 50] = claims! {
     K_NEW_OBJECT, Spaces, Legacy, NewObject, Offset;
     K_BACKREF_WITH_SKIP, Spaces, SixX, LegacyBackrefWithSkip, Offset;
     K_BACKREF, Spaces, Legacy, LegacyBackref, Offset;

@@ -13,7 +13,7 @@ use Rattle.sheet.specs.declared.tests.Closing.TheVariants.{Synchronize, Alignmen
 use Rattle.sheet.specs.Tests.{is_resolve, is_deferred, is_next_chunk, is_nop, closing_of}
 use Rattle.std.proofs.lemmas.Bool.{and_parts}
 use Rattle.tables.specs.declared.values.SlotValue.{SlotValue}
-use Rattle.definition.specs.Memory.{Input, Mem, Out, got, no, Reader, and_then, ◌>>=◌, ◌>>◌, choose, change, moved, aligned, byte, int}
+use Rattle.definition.specs.Memory.{Input, begins, Mem, Out, got, no, Reader, and_then, ◌>>=◌, ◌>>◌, choose, change, moved, aligned, noted, byte, int}
 use Rattle.definition.specs.Slots.{resolved, place_item}
 use Rattle.definition.specs.Object.{peek, change_chunk, chunk_changes, resolves, items}
 use Rattle.definition.specs.Reference.{ref_at}
@@ -21,7 +21,7 @@ use Rattle.definition.specs.Closing.{entry_slots, entry_count, entry_item, entry
 use Rattle.laws.specs.Sound.{Proper, Sound, Counted, Kept, Holds, Keeps, Referred}
 use Rattle.laws.specs.Leaves.{tag_inside, deferred_legacy}
 use Rattle.laws.specs.Rules.{frame}
-use Rattle.laws.specs.Steps.{Good, Ends, Keeping, gives, here, by, last, then₁, then₂, law, good_aligned}
+use Rattle.laws.specs.Steps.{Good, Ends, Keeping, gives, here, by, last, then₁, then₂, law, kept_noted, good_aligned}
 use Rattle.laws.specs.Keeps.{Reads, Passed, sheet_gives, resolved_kept, resolved_objects, byte_keeps as byte_law, int_keeps as int_law, place_item-ends}
 use Rattle.laws.specs.ClosingKeeps.{Slots, entry_item-ends}
 use Rattle.laws.specs.Rules.{Nothing}
@@ -156,7 +156,8 @@ module _ {x : Input} (g : Proper x) where
   entries_fuel (suc n) zero m s c h h' = absurd (omega arith)
   entries_fuel (suc n) (suc n') m s c h h' =
       choose_same (leb (length x.payload) m.at) _ _ _ _ (λ _. refl)
-      (λ _. by_same _ _ m s c (closing_of x.sheet (peek x m)) refl
+      (λ _. let w0 : Kept x m (noted (begins m.at) m) = kept_noted (begin x {S = []} s c tt).kept _ in
+      by_same _ _ (noted (begins m.at) m) w0.sound w0.counted (closing_of x.sheet (peek x m)) refl
       (λ m1 w l. entries_fuel n n' m1 w.sound w.counted (omega (arith, w.sound.within)) (omega (arith, w.sound.within))))
 
   padding_stop : (n : ℕ) (m : Mem) → left m ≤ 0 → padding x n m ≡ got tt m

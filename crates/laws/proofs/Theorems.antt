@@ -48,6 +48,7 @@ module _ (x : Input) where
         on_chunk = λ S m space i. tt;
         on_allocate = λ S m o size done space s i b h r e z. tt;
         on_drop = λ m v i h. tt;
+        on_begins = λ m i. tt;
         on_synchronize = λ m i h e. tt;
         on_entry = λ m o index f s e i l. tt;
         on_fault = λ S m e i. tt;

@@ -313,6 +313,7 @@ seated_rules {x} g =
       on_chunk = λ S m space i. (chunk_ascending x m.addresses m.alloc space i.0, i.1);
       on_allocate = λ S m o size done space s i b h r e z. (allocated x (sheet_gives g).word m i.0 space size o h i.1.0 r e z, i.1);
       on_drop = λ m v i h. i;
+      on_begins = λ m i. i;
       on_synchronize = λ m i h e. i;
       on_entry = λ m o index f s e i l. i;
       on_fault = λ S m e i. (i.0, tt);

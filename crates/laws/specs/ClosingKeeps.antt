@@ -15,7 +15,7 @@ use Rattle.tables.specs.declared.values.Fields.{Fields}
 use Rattle.tables.specs.Values.{fields_of}
 use Rattle.tables.specs.Records.{field}
 use Rattle.alloc.specs.Allocation.{zero_counters}
-use Rattle.definition.specs.Memory.{Input, Log, in_slot, synchronize, table, Mem, Out, got, no, Reader, and_then, ◌>>=◌, choose, refuse_at, with_slots, with_alloc, noted, byte}
+use Rattle.definition.specs.Memory.{Input, Log, in_slot, begins, synchronize, table, Mem, Out, got, no, Reader, and_then, ◌>>=◌, choose, refuse_at, with_slots, with_alloc, noted, byte}
 use Rattle.definition.specs.Object.{peek, object}
 use Rattle.definition.specs.Reference.{ref_at}
 use Rattle.definition.specs.Closing.{add_slots, entry_fields, entry_slots, entry_count, entry_item, entry_items, entry_of, entry, drop_reference, ends_legacy, after_entry, by_entry, entries, padding, closing}
@@ -108,7 +108,8 @@ module _ {x : Input} {I : List Frame → Mem → Type 0} {W : Mem → SlotValue 
   entries_end (suc n) {m} w =
       either (leb (length x.payload) m.at) _ _
       (λ _. either (is_legacy x.sheet) _ _ (λ _. gives w tt) (λ _. refuses w))
-      (λ e. by_entry_ends (λ m w. entries_end n w) w (leb-false _ _ e) (closing_of x.sheet (peek x m)) refl)
+      (λ e. let w1 : Good x I [] m (noted (begins m.at) m) = record { kept = kept_noted w.kept _; has = R.on_begins m w.has; listed = tt } in
+      last w1 (by_entry_ends (λ m w. entries_end n w) (here w1) (leb-false _ _ e) (closing_of x.sheet (peek x m)) refl) (λ _ m2 w2 k2 _. tt))
 
   pub padding_keeps : (n : ℕ) → Keeping x I Any (padding x n)
   unfolding padding

@@ -1,23 +1,20 @@
 -- What the definitions below the walk keep: integers, raw ranges, back-references, the ring, allocation, head bytes. Assumes nothing.
-use Rattle.std.specs.Prelude.{◌≡◌, Bool, not, ◌&&◌, ◌||◌, ◌≢◌, List, [], ◌∷◌, ℕ, zero, suc, ◌+◌, ◌-◌, ◌*◌, ◌%◌, ◌^◌, ◌<◌, ◌≤◌, ltb, leb, eqb, get_or, set, Option, Some, None, Ok, Err}
+use Rattle.std.specs.Prelude.{◌≡◌, Bool, not, ◌&&◌, ◌||◌, ◌≢◌, List, [], ◌∷◌, ℕ, zero, suc, ◌+◌, ◌-◌, ◌%◌, ◌^◌, ◌<◌, ◌≤◌, ltb, leb, eqb, get_or, set, Option, Some, None, Ok, Err}
 use Rattle.std.proofs.Math.Path.{refl}
 use Rattle.std.proofs.Common.{◌∙◌, ⊎_elim, arith, lt_of_lt_of_le, length-set, pow_mono}
 use Rattle.std.proofs.Math.Bool.{true, false}
-use borrow.Author.Tests.{ltb-true, ltb-false, leb-true, leb-false, eqb-true, eqb-false, not-true, not-false}
-use Rattle.std.proofs.lemmas.Nat.{and_le_l}
+use borrow.Author.Tests.{ltb-true, ltb-false, leb-true, leb-false, eqb-true, not-false}
 use Rattle.std.proofs.Math.ListN.{length, get_or-eq_default}
 use Rattle.stream.specs.declared.putint.Int.{Int}
 use Rattle.stream.specs.Bytes.{peek_at, little_endian, raw_at, pick_range}
 use Rattle.stream.specs.PutInt.{pick_int, int_length, int_at}
 use Rattle.stream.proofs.ByteLaws.{Bytes, le_below, peek-byte}
 use Rattle.sheet.specs.Names.{k_new_object, k_synchronize, k_alignment_prefix, k_new_meta_map}
-use Rattle.heads.specs.Kinds.{new_object}
-use Rattle.sheet.specs.Sheet.{pick_ℕ, number, present, number_of_spaces, root_mask, word_bytes, is_legacy, is_six_x}
-use Rattle.heads.specs.Heads.{Row, order, argument_of, Head, claims, first_of, head_of, pick_head, nothing, offset, from_one, from_two, and_seven}
+use Rattle.sheet.specs.Sheet.{pick_ℕ, number, present, number_of_spaces, word_bytes, is_legacy, is_six_x}
 use Rattle.sheet.specs.declared.tests.Closing.TheVariants.{Synchronize, Alignment, Deferred, Reference}
 use Rattle.sheet.specs.Tests.{in_span, alignment_of, pick_closing, is_entry, closing_of}
 use Rattle.sheet.specs.Usable.{Usable}
-use Rattle.std.proofs.lemmas.Bool.{and_parts, or_cases}
+use Rattle.std.proofs.lemmas.Bool.{and_parts}
 use Rattle.tables.specs.declared.values.Ref.{Ref}
 use Rattle.tables.specs.Records.{room}
 use Rattle.tables.proofs.RecordLaws.{written_length}
@@ -215,61 +212,6 @@ module _ (t : List ℕ) (n spaces : ℕ) (want : Request) (c : LegacyAlloc) wher
       (λ _. pick_outcome_case Grants (leb spaces want.space) _ _
       (λ _ z. record { roomy = leb-false _ _ e; size = written_length t _ n; cur_same = refl; used_length = refl })
       (λ _. placed_grants (leb-false _ _ e) (get_or c.used want.space 0))))
-
--- ---- head bytes
-
-pick_bound : (t : Bool) (a b most : ℕ) → a ≤ most → b ≤ most → pick_ℕ t a b ≤ most
-pick_bound true a b most h l = h
-pick_bound false a b most h l = l
-
--- a head's argument
-argument_bound : (mask rule first b : ℕ) → b < 256 → argument_of mask rule first b ≤ 257
-argument_bound mask rule first b h =
-    pick_bound (eqb rule nothing) _ _ 257 (omega arith)
-    (pick_bound (eqb rule offset) _ _ 257 (omega arith)
-    (pick_bound (eqb rule from_one) _ _ 257 (omega arith)
-    (pick_bound (eqb rule from_two) _ _ 257 (omega arith)
-    (pick_bound (eqb rule and_seven) _ _ 257 (omega (arith, and_le_l b 7)) (omega (arith, and_le_l b mask))))))
-
--- of a new object it is a space
-abbrev is_space : Row → Bool
-is_space r = not (eqb r.kind new_object) || (eqb r.argument nothing || eqb r.argument offset)
-
-abbrev are_spaces : List Row → Bool
-are_spaces [] = true
-are_spaces (r ∷ rs) = is_space r && are_spaces rs
-
-order_spaces : are_spaces order ≡ true
-unfolding order
-order_spaces = refl
-
--- a head's argument, and of a new object's head
-pub record Argued (h : Head) : Type 0 where
-  pub bound : h.argument ≤ 257
-  pub space : h.kind ≡ new_object → h.argument < 256
-
-space_argument : (mask : ℕ) (r : Row) (first b : ℕ) → b < 256 → is_space r ≡ true → r.kind ≡ new_object → argument_of mask r.argument first b < 256
-space_argument mask r first b h e k =
-    ⊎_elim
-    (λ f. absurd (eqb-false r.kind new_object (not-true _ f) k))
-    (λ (f : eqb r.argument nothing || eqb r.argument offset ≡ true). ⊎_elim (λ g. rw (eqb-true r.argument nothing g) (omega arith)) (λ g. rw (eqb-true r.argument offset g) (omega arith)) (or_cases (eqb r.argument nothing) (eqb r.argument offset) f))
-    (or_cases (not (eqb r.kind new_object)) (eqb r.argument nothing || eqb r.argument offset) e)
-
-pick_head_case : (P : Head → Type 0) (t : Bool) (a b : Head) → P a → P b → P (pick_head t a b)
-pick_head_case P true a b y n = y
-pick_head_case P false a b y n = n
-
-first_argued : (v : List ℕ) (rows : List Row) (b : ℕ) → b < 256 → are_spaces rows ≡ true → Argued (first_of v rows b)
-unfolding first_of
-first_argued v [] b h e = omega arith
-first_argued v (r ∷ rs) b h e =
-    pick_head_case Argued (claims v r b) _ _
-    (record { bound = argument_bound (root_mask v) r.argument (number v r.name) b h; space = λ k. space_argument (root_mask v) r (number v r.name) b h (and_parts (is_space r) (are_spaces rs) e).0 k })
-    (first_argued v rs b h (and_parts (is_space r) (are_spaces rs) e).1)
-
-pub head_argued : (v : List ℕ) (b : ℕ) → b < 256 → Argued (head_of v b)
-unfolding head_of
-head_argued v b h = first_argued v order b h order_spaces
 
 -- a byte of the payload that was peeked at is a byte
 pub peek-below : (p : List ℕ) (at : ℕ) → Bytes p → at < length p → peek_at p at < 256

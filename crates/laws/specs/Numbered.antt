@@ -114,6 +114,7 @@ numbered-rules x =
       on_chunk = λ S m space i. i;
       on_allocate = λ S m o size done space s i b h r e z. i;
       on_drop = λ m v i h. i;
+      on_begins = λ m i. i;
       on_synchronize = λ m i h e. i;
       on_entry = λ m o index f s e i l. waits_added i o index f 0 l (λ e. never e) (omega arith);
       on_fault = λ S m e i. i;

@@ -1,15 +1,16 @@
 -- A reference keeps what it has in order (Sound.antt) and an invariant with its rules (Rules.antt), reads a byte at least, and no item is
 -- wider than 2 ^ 34 bytes. Assumes nothing.
-use Rattle.std.specs.Prelude.{◌≡◌, Bool, ltb, eqb, length, Option, Some, None, Ok, Err}
+use Rattle.std.specs.Prelude.{◌≡◌, Bool, ltb, length, Option, Some, None, Ok, Err}
 use Rattle.std.proofs.Math.Path.{refl}
 use Rattle.std.proofs.Math.Bool.{true, false}
-use Rattle.std.proofs.Common.{⊎_elim, eqb-true, ltb-true}
+use Rattle.std.proofs.Common.{⊎_elim, ltb-true}
 use mathlib.Core.List.{List}
 use Prim.Native.Nat.{ℕ, zero, suc, ◌+◌, ◌-◌, ◌*◌, ◌^◌, ◌<◌, ◌≤◌}
 use native.Mathlib.Omega.{arith}
 use Rattle.stream.specs.Bytes.{raw_at}
 use Rattle.sheet.specs.Sheet.{raw_advances}
-use Rattle.heads.specs.Kinds.{new_object, backref, legacy_backref, legacy_backref_with_skip, next_chunk, alignment, hot, hot_with_skip, root_array, root_constant, root_constant_with_skip, read_only, attached, builtin, external, api, internal, deoptimizer, stream_bytes, embedder_fields, off_heap_target, cache, register_pending, cleared_weak, weak_prefix, pointer_prefix, dispatch_entry, fixed_raw, variable_raw, skip, fixed_repeat, fixed_repeat_root, repeat_previous, variable_repeat, variable_repeat_previous, variable_repeat_root, meta_map}
+use Rattle.heads.specs.declared.kinds.Kind.{Kind}
+use Rattle.heads.specs.declared.kinds.Kind.TheVariants.{NoMeaning, NewObject, Backref, LegacyBackref, LegacyBackrefWithSkip, NextChunk, Alignment, Hot, HotWithSkip, RootArray, RootConstant, RootConstantWithSkip, ReadOnly, Attached, Builtin, External, Api, Internal, Deoptimizer, StreamBytes, EmbedderFields, OffHeapTarget, Cache, RegisterPending, ClearedWeak, WeakPrefix, PointerPrefix, DispatchEntry, FixedRaw, VariableRaw, Skip, FixedRepeat, FixedRepeatRoot, RepeatPrevious, VariableRepeat, VariableRepeatPrevious, VariableRepeatRoot, MetaMap}
 use Rattle.heads.specs.Heads.{head_of}
 use Rattle.tables.specs.declared.values.Ref.{Ref}
 use Rattle.tables.specs.declared.values.Ref.TheVariants.{Object, Root, RoRef, Attached}
@@ -22,8 +23,9 @@ use Rattle.backref.specs.Legacy.{Answer, backref_of}
 use Rattle.definition.specs.Memory.{Input, word, Mem, Reader, ◌>>=◌, ◌>>◌, give, change, moved, with_hot, int, aligned}
 use Rattle.definition.specs.Reference.{skip_amount, refers, refers_hot, backref_to, of_hot, hot_place, of_backref, legacy_reference, outside, pending_reference, after_raw, raw_data, raw_bytes, weak_of, repeat_of, repeat_root, by_head, reference, ref_at}
 use Rattle.laws.specs.Sound.{Proper}
-use Rattle.laws.specs.Leaves.{RawEnds, raw_ends, BackrefEnds, backref_ends, Argued, head_argued}
-use Rattle.laws.specs.Rules.{Frame, HeadOf, one_of, with_amount, gives_skip, gives_bytes, gives_previous, GivenRef, Given, Rules}
+use Rattle.heads.proofs.Rules.{Argued, head_argued}
+use Rattle.laws.specs.Leaves.{RawEnds, raw_ends, BackrefEnds, backref_ends}
+use Rattle.laws.specs.Rules.{Frame, HeadOf, with_amount, gives_skip, gives_bytes, gives_previous, GivenRef, Given, Rules}
 use Rattle.laws.specs.Steps.{Good, Ends, Keeping, gives, refuses, either, here, by, last, then₁, then₂, law, weaken, kept_noted, kept_moved, kept_pending, kept_skip, good_moved, good_entered, good_aligned}
 use Rattle.laws.specs.Keeps.{Reads, Refers, word_low, sheet_gives, byte_keeps, int_keeps, value_ends, chunk_byte_keeps, object-keeping}
 
@@ -144,9 +146,6 @@ module _ {x : Input} {I : List Frame → Mem → Type 0} {W : Mem → SlotValue 
 
     -- a head that was read, with its kind and argument; a byte more was read than pending numbers were given out
     module _ {S : List Frame} {m₀ m : Mem} (w : Good x I S m₀ m) (l : m₀.at < m.at) (low : m.pending < m.at) (tag b : ℕ) (byte_low : b < 256) where
-      abbrev kind : ℕ
-      kind = (head_of x.sheet b).kind
-
       abbrev a : ℕ
       a = (head_of x.sheet b).argument
 
@@ -161,64 +160,66 @@ module _ {x : Input} {I : List Frame → Mem → Type 0} {W : Mem → SlotValue 
           gives (record { kept = kept_pending w.kept (m.pending + 1) m.waiting (omega arith) w.kept.sound.waiting_low; has = z.0; listed = w.listed }) (record { reads = l; narrow = omega (arith, word_low g); has = z.1 })
 
       -- the byte is a head of this kind
-      headed : (K : ℕ) → eqb kind K ≡ true → (kinds : List ℕ) → one_of kinds K ≡ true → HeadOf x kinds
-      headed K e kinds h = (b, byte_low, rw (eqb-true kind K e) h)
+      headed : (K : Kind) → (head_of x.sheet b).kind ≡ K → (test : Kind → Bool) → test K ≡ true → HeadOf x test
+      headed K e test h = (b, byte_low, rw e h)
 
-      pub by_head-ends : Ends x I m₀ (λ _. S) (Refers x W m₀) (by_head x r tag kind a m)
+      argued : Argued (head_of x.sheet b)
+      argued = head_argued x.sheet b byte_low
+
+      legacy : (space : ℕ) → Keeping x I Gives (legacy_reference x space)
+      legacy space = weaken (legacy_reference_keeps space) (λ m v m' p. (p.narrow, p.has))
+
+      aligned_keeps : Keeping x I Gives (change (aligned a) >> r)
+      aligned_keeps = law (λ S m w. let w1 = good_aligned R w a in last w1 (by w1 again) (λ v m1 w1 k1 q. q))
+
+      target_keeps : HeadOf x with_amount → Keeping x I Gives (skip_amount x >> int x >> refers (RoRef (2 ^ 32 - 5) 0))
+      target_keeps d =
+          law (λ S m w. then₂ w (by w (amount_keeps d)) _ _
+          (λ _ m1 w1 k1 _. then₁ w1 (by w1 (int_keeps g R)) _ (λ _ m2 w2 k2 _. last w2 (by w2 (refers_keeps (RoRef (2 ^ 32 - 5) 0) tt)) (λ v m3 w3 k3 q. q))))
+
+      by_kind : (K : Kind) → (head_of x.sheet b).kind ≡ K → Ends x I m₀ (λ _. S) (Refers x W m₀) (by_head x r tag K a m)
       unfolding by_head
-      by_head-ends =
-          either (eqb kind new_object) _ _ (λ e. last w (by w (object-keeping g R k a tag (argued.space (eqb-true _ _ e)))) (λ v m1 w1 k1 p. record { reads = omega (arith, l, k1.onward); narrow = p.narrow; has = p.has }))
-          (λ _. either (eqb kind backref) _ _ (λ _. to (int_first _ (λ n h. backref_to_keeps n)))
-          (λ _. either (eqb kind legacy_backref) _ _ (λ _. to (legacy a))
-          (λ _. either (eqb kind legacy_backref_with_skip) _ _ (λ e. to (amount_first (headed legacy_backref_with_skip e with_amount refl) _ (legacy a)))
-          (λ _. either (eqb kind next_chunk) _ _ (λ _. then₁ w (by w (chunk_byte_keeps g R)) _ (λ _ m1 w1 k1 p. last w1 (by w1 k) (λ v m2 w2 k2 q. record { reads = omega (arith, l, p, k2.onward); narrow = q.narrow; has = q.has })))
-          (λ _. either (eqb kind alignment) _ _ (λ _. to aligned_keeps)
-          (λ _. either (eqb kind hot) _ _ (λ _. to (hot_place_keeps a))
-          (λ _. either (eqb kind hot_with_skip) _ _ (λ e. to (amount_first (headed hot_with_skip e with_amount refl) _ (hot_place_keeps a)))
-          (λ _. either (eqb kind root_array) _ _ (λ _. to (int_first _ (λ i h. refers_hot_keeps (Root i) tt)))
-          (λ _. either (eqb kind root_constant) _ _ (λ _. to (refers_keeps (Root a) tt))
-          (λ _. either (eqb kind root_constant_with_skip) _ _ (λ e. to (amount_first (headed root_constant_with_skip e with_amount refl) _ (refers_keeps (Root a) tt)))
-          (λ _. either (eqb kind read_only) _ _ (λ _. to (int_first _ (λ c h. int_first _ (λ o h. refers_keeps (RoRef c o) tt))))
-          (λ _. either (eqb kind attached) _ _ (λ _. to (int_first _ (λ i h. refers_keeps (Attached i) tt)))
-          (λ _. either (eqb kind builtin) _ _ (λ _. to (outside_keeps 2))
-          (λ _. either (eqb kind external) _ _ (λ _. to (outside_keeps 3))
-          (λ _. either (eqb kind api) _ _ (λ e. to (amount_first (headed api e with_amount refl) _ (outside_keeps 4)))
-          (λ _. either (eqb kind internal) _ _ (λ e. to (ints_first _ (λ n h. giving (Skip 0) (omega arith) (headed internal e gives_skip refl))))
-          (λ _. either (eqb kind deoptimizer) _ _ (λ e. to (int_first _ (λ n h. giving (Skip 0) (omega arith) (headed deoptimizer e gives_skip refl))))
-          (λ _. either (eqb kind stream_bytes) _ _ (λ e. to (int_first _ (λ n h. giving (StreamBytes n) (omega arith) (headed stream_bytes e gives_bytes refl))))
-          (λ _. either (eqb kind embedder_fields) _ _ (λ e. to (ints_first _ (λ n h. giving (StreamBytes n) (omega arith) (headed embedder_fields e gives_bytes refl))))
-          (λ _. either (eqb kind off_heap_target) _ _ (λ e. to (target_keeps (headed off_heap_target e with_amount refl)))
-          (λ _. either (eqb kind cache) _ _ (λ _. to (outside_keeps 1))
-          (λ _. either (eqb kind register_pending) _ _ (λ _. pending-ends)
-          (λ _. either (eqb kind cleared_weak) _ _ (λ _. to (giving ClearedWeak (omega (arith, word_low g)) tt))
-          (λ _. either (eqb kind weak_prefix) _ _ (λ _. to (inner _ (λ S m v w h. weak_of_ends w v h)))
-          (λ _. either (eqb kind pointer_prefix) _ _ (λ _. to again)
-          (λ _. either (eqb kind dispatch_entry) _ _ (λ _. to (int_first _ (λ n h. giving ClearedWeak (omega (arith, word_low g)) tt)))
-          (λ _. either (eqb kind fixed_raw) _ _ (λ _. to (raw_data_keeps (a * word x) true))
-          (λ _. either (eqb kind variable_raw) _ _ (λ _. to (int_first _ (λ n h. raw_data_keeps (raw_bytes x n) (raw_advances x.sheet))))
-          (λ _. either (eqb kind skip) _ _ (λ e. to (int_first _ (λ n h. giving (Skip n) (omega arith) (headed skip e gives_skip refl))))
-          (λ _. either (eqb kind fixed_repeat) _ _ (λ _. to (repeating a (omega (arith, argued))))
-          (λ _. either (eqb kind fixed_repeat_root) _ _ (λ _. to (repeat_root_keeps a (omega (arith, argued))))
-          (λ _. either (eqb kind repeat_previous) _ _ (λ e. to (giving (RepeatPrev a) (repeat_narrow g a (omega (arith, argued))) (headed repeat_previous e gives_previous refl)))
-          (λ _. either (eqb kind variable_repeat) _ _ (λ _. to (int_first _ (λ n h. repeating (n + 18) (omega arith))))
-          (λ _. either (eqb kind variable_repeat_previous) _ _ (λ e. to (int_first _ (λ n h. giving (RepeatPrev n) (repeat_narrow g n (omega arith)) (headed variable_repeat_previous e gives_previous refl))))
-          (λ _. either (eqb kind variable_repeat_root) _ _ (λ _. to (int_first _ (λ n h. repeat_root_keeps (n + 18) (omega arith))))
-          (λ _. either (eqb kind meta_map) _ _ (λ _. refuses w)
-          (λ _. refuses w)))))))))))))))))))))))))))))))))))))
-        where
-          argued : Argued (head_of x.sheet b)
-          argued = head_argued x.sheet b byte_low
+      by_kind NewObject e = last w (by w (object-keeping g R k a tag (argued.space e))) (λ v m1 w1 k1 p. record { reads = omega (arith, l, k1.onward); narrow = p.narrow; has = p.has })
+      by_kind Backref _ = to (int_first _ (λ n h. backref_to_keeps n))
+      by_kind LegacyBackref _ = to (legacy a)
+      by_kind LegacyBackrefWithSkip e = to (amount_first (headed LegacyBackrefWithSkip e with_amount refl) _ (legacy a))
+      by_kind NextChunk _ = then₁ w (by w (chunk_byte_keeps g R)) _ (λ _ m1 w1 k1 p. last w1 (by w1 k) (λ v m2 w2 k2 q. record { reads = omega (arith, l, p, k2.onward); narrow = q.narrow; has = q.has }))
+      by_kind Alignment _ = to aligned_keeps
+      by_kind Hot _ = to (hot_place_keeps a)
+      by_kind HotWithSkip e = to (amount_first (headed HotWithSkip e with_amount refl) _ (hot_place_keeps a))
+      by_kind RootArray _ = to (int_first _ (λ i h. refers_hot_keeps (Root i) tt))
+      by_kind RootConstant _ = to (refers_keeps (Root a) tt)
+      by_kind RootConstantWithSkip e = to (amount_first (headed RootConstantWithSkip e with_amount refl) _ (refers_keeps (Root a) tt))
+      by_kind ReadOnly _ = to (int_first _ (λ c h. int_first _ (λ o h. refers_keeps (RoRef c o) tt)))
+      by_kind Attached _ = to (int_first _ (λ i h. refers_keeps (Attached i) tt))
+      by_kind Builtin _ = to (outside_keeps 2)
+      by_kind External _ = to (outside_keeps 3)
+      by_kind Api e = to (amount_first (headed Api e with_amount refl) _ (outside_keeps 4))
+      by_kind Internal e = to (ints_first _ (λ n h. giving (Skip 0) (omega arith) (headed Internal e gives_skip refl)))
+      by_kind Deoptimizer e = to (int_first _ (λ n h. giving (Skip 0) (omega arith) (headed Deoptimizer e gives_skip refl)))
+      by_kind StreamBytes e = to (int_first _ (λ n h. giving (StreamBytes n) (omega arith) (headed StreamBytes e gives_bytes refl)))
+      by_kind EmbedderFields e = to (ints_first _ (λ n h. giving (StreamBytes n) (omega arith) (headed EmbedderFields e gives_bytes refl)))
+      by_kind OffHeapTarget e = to (target_keeps (headed OffHeapTarget e with_amount refl))
+      by_kind Cache _ = to (outside_keeps 1)
+      by_kind RegisterPending _ = pending-ends
+      by_kind ClearedWeak _ = to (giving ClearedWeak (omega (arith, word_low g)) tt)
+      by_kind WeakPrefix _ = to (inner _ (λ S m v w h. weak_of_ends w v h))
+      by_kind PointerPrefix _ = to again
+      by_kind DispatchEntry _ = to (int_first _ (λ n h. giving ClearedWeak (omega (arith, word_low g)) tt))
+      by_kind FixedRaw _ = to (raw_data_keeps (a * word x) true)
+      by_kind VariableRaw _ = to (int_first _ (λ n h. raw_data_keeps (raw_bytes x n) (raw_advances x.sheet)))
+      by_kind Skip e = to (int_first _ (λ n h. giving (Skip n) (omega arith) (headed Skip e gives_skip refl)))
+      by_kind FixedRepeat _ = to (repeating a (omega (arith, argued)))
+      by_kind FixedRepeatRoot _ = to (repeat_root_keeps a (omega (arith, argued)))
+      by_kind RepeatPrevious e = to (giving (RepeatPrev a) (repeat_narrow g a (omega (arith, argued))) (headed RepeatPrevious e gives_previous refl))
+      by_kind VariableRepeat _ = to (int_first _ (λ n h. repeating (n + 18) (omega arith)))
+      by_kind VariableRepeatPrevious e = to (int_first _ (λ n h. giving (RepeatPrev n) (repeat_narrow g n (omega arith)) (headed VariableRepeatPrevious e gives_previous refl)))
+      by_kind VariableRepeatRoot _ = to (int_first _ (λ n h. repeat_root_keeps (n + 18) (omega arith)))
+      by_kind MetaMap _ = refuses w
+      by_kind NoMeaning _ = refuses w
 
-          legacy : (space : ℕ) → Keeping x I Gives (legacy_reference x space)
-          legacy space = weaken (legacy_reference_keeps space) (λ m v m' p. (p.narrow, p.has))
-
-          aligned_keeps : Keeping x I Gives (change (aligned a) >> r)
-          aligned_keeps = law (λ S m w. let w1 = good_aligned R w a in last w1 (by w1 again) (λ v m1 w1 k1 q. q))
-
-          target_keeps : HeadOf x with_amount → Keeping x I Gives (skip_amount x >> int x >> refers (RoRef (2 ^ 32 - 5) 0))
-          target_keeps d =
-              law (λ S m w. then₂ w (by w (amount_keeps d)) _ _
-              (λ _ m1 w1 k1 _. then₁ w1 (by w1 (int_keeps g R)) _ (λ _ m2 w2 k2 _. last w2 (by w2 (refers_keeps (RoRef (2 ^ 32 - 5) 0) tt)) (λ v m3 w3 k3 q. q))))
+      pub by_head-ends : Ends x I m₀ (λ _. S) (Refers x W m₀) (by_head x r tag (head_of x.sheet b).kind a m)
+      by_head-ends = by_kind (head_of x.sheet b).kind refl
 
     pub reference-keeping : Keeping x I (Refers x W) (reference x r)
     unfolding reference

@@ -1,11 +1,12 @@
 -- The elementary steps of a reading, as rules for an invariant: what holds at the start and is kept by each step holds of every reading.
 -- The invariant I speaks of the objects that are being read, the innermost first, and of what a reader has, also where it refuses; W speaks
 -- of a value that was read, until it is kept or dropped. Assumes nothing: these are definitions.
-use Rattle.std.specs.Prelude.{◌≡◌, Bool, true, false, ◌||◌, List, [], ◌∷◌, ℕ, ◌+◌, ◌*◌, ◌/◌, ◌^◌, ◌<◌, ◌≤◌, eqb, length, Some, Ok}
+use Rattle.std.specs.Prelude.{◌≡◌, Bool, true, false, List, [], ◌∷◌, ℕ, ◌+◌, ◌*◌, ◌/◌, ◌^◌, ◌<◌, ◌≤◌, length, Some, Ok}
 use Rattle.sheet.specs.Sheet.{is_legacy}
 use Rattle.sheet.specs.declared.tests.Closing.TheVariants.{Synchronize}
 use Rattle.sheet.specs.Tests.{is_deferred, closing_of}
-use Rattle.heads.specs.Kinds.{legacy_backref_with_skip, hot_with_skip, root_constant_with_skip, internal, deoptimizer, stream_bytes, embedder_fields, off_heap_target, api, skip, repeat_previous, variable_repeat_previous}
+use Rattle.heads.specs.declared.kinds.Kind.{Kind}
+use Rattle.heads.specs.declared.kinds.Kind.TheVariants.{LegacyBackrefWithSkip, HotWithSkip, RootConstantWithSkip, Internal, Deoptimizer, StreamBytes, EmbedderFields, OffHeapTarget, Api, Skip, RepeatPrevious, VariableRepeatPrevious}
 use Rattle.heads.specs.Heads.{head_of}
 use Rattle.tables.specs.declared.values.Ref.{Ref}
 use Rattle.tables.specs.declared.values.Ref.TheVariants.{Object, Root, RoRef, Attached}
@@ -18,7 +19,7 @@ use Rattle.alloc.specs.Allocation.{Outcome, allocate_of}
 use Rattle.backref.specs.HotRing.{entered, hot_at}
 use Rattle.backref.specs.declared.legacy.Backref.{Backref}
 use Rattle.backref.specs.Legacy.{backref_of}
-use Rattle.definition.specs.Memory.{Input, word, Kept as Place, in_map, in_slot, in_value, dropped, opened, passed, item, value, synchronize, Table, table, Mem, moved, with_objects, with_slots, with_values, with_hot, with_pending, with_skip, with_alloc, aligned, noted, added}
+use Rattle.definition.specs.Memory.{Input, word, Kept as Place, in_map, in_slot, in_value, dropped, opened, passed, item, value, begins, synchronize, Table, table, Mem, moved, with_objects, with_slots, with_values, with_hot, with_pending, with_skip, with_alloc, aligned, noted, added}
 use Rattle.definition.specs.Slots.{counted, resolved, waits_of, previous}
 use Rattle.definition.specs.Object.{peek, change_chunk, flags, flagged}
 use Rattle.laws.specs.Sound.{Sound}
@@ -34,26 +35,35 @@ Listed (frame o size done ∷ S) n = (o < n) × (Listed S n)
 
 -- ---- where a value comes from
 
-abbrev pub one_of : List ℕ → ℕ → Bool
-one_of [] k = false
-one_of (a ∷ l) k = eqb k a || one_of l k
+-- a byte has such a kind as a head
+abbrev pub HeadOf : Input → (Kind → Bool) → Type 0
+HeadOf x test = (b : ℕ) × (b < 256) × (test (head_of x.sheet b).kind ≡ true)
 
--- a byte has one of these kinds as a head
-abbrev pub HeadOf : Input → List ℕ → Type 0
-HeadOf x kinds = (b : ℕ) × (b < 256) × (one_of kinds (head_of x.sheet b).kind ≡ true)
+-- kinds of heads with a with-skip amount, and those that give a skip, stream bytes or a repeat of
+-- the previous slot
+abbrev pub with_amount : Kind → Bool
+with_amount LegacyBackrefWithSkip = true
+with_amount HotWithSkip = true
+with_amount RootConstantWithSkip = true
+with_amount Api = true
+with_amount OffHeapTarget = true
+with_amount kind = false
 
--- kinds of heads with a with-skip amount, and those that give a skip, stream bytes or a repeat of the previous slot
-abbrev pub with_amount : List ℕ
-with_amount = legacy_backref_with_skip ∷ hot_with_skip ∷ root_constant_with_skip ∷ api ∷ off_heap_target ∷ []
+abbrev pub gives_skip : Kind → Bool
+gives_skip Internal = true
+gives_skip Deoptimizer = true
+gives_skip Skip = true
+gives_skip kind = false
 
-abbrev pub gives_skip : List ℕ
-gives_skip = internal ∷ deoptimizer ∷ skip ∷ []
+abbrev pub gives_bytes : Kind → Bool
+gives_bytes StreamBytes = true
+gives_bytes EmbedderFields = true
+gives_bytes kind = false
 
-abbrev pub gives_bytes : List ℕ
-gives_bytes = stream_bytes ∷ embedder_fields ∷ []
-
-abbrev pub gives_previous : List ℕ
-gives_previous = repeat_previous ∷ variable_repeat_previous ∷ []
+abbrev pub gives_previous : Kind → Bool
+gives_previous RepeatPrevious = true
+gives_previous VariableRepeatPrevious = true
+gives_previous kind = false
 
 abbrev pub GivenRef : Ref → Type 0
 GivenRef (Object o) = ⊥
@@ -165,6 +175,7 @@ pub record Rules (x : Input) (I : List Frame → Mem → Type 0) (W : Mem → Sl
       I (frame o size done ∷ S) (with_alloc (table r.table (m.addresses.count + 1)) r.alignment r.alloc m)
   -- the closing section; a fault may end it in legacy, with objects left open
   pub on_drop : (m : Mem) (v : SlotValue) → I [] m → W m v → I [] (noted (value (fields_of v) dropped) m)
+  pub on_begins : (m : Mem) → I [] m → I [] (noted (begins m.at) m)
   pub on_synchronize : (m : Mem) → I [] m → m.at < length x.payload → closing_of x.sheet (peek x m) ≡ Synchronize → I [] (noted (synchronize m.at) m)
   pub on_entry : (m : Mem) (o index : ℕ) (f : Fields) → Sound x m → is_legacy x.sheet ≡ true → I [] m → m.slots.count < room 6 m.slots.rows → I [] (with_slot o index f 0 in_slot m)
   pub on_fault : (S : List Frame) (m : Mem) → is_legacy x.sheet ≡ true → I S m → I [] m

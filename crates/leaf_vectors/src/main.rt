@@ -1,4 +1,5 @@
-// Runs vectors of the parts below the walk and prints what they give; crates/leaf_vectors/stdout is what must come out.
+//! Runs vectors of the parts below the walk and prints what they give;
+//! crates/leaf_vectors/stdout is what must come out.
 #![tactic(auto)]
 
 use alloc::fill::fill_to_align;
@@ -58,7 +59,7 @@ fn smis(rt: &impl Print) -> io::Result<()> {
     Ok(())
 }
 
-// Sheet A, as the order has it.
+// Sheet A (docs/FORMAT.md, "Examples").
 fn sheet_a() -> [u16; SHEET_LENGTH] {
     let mut sheet = [ABSENT; SHEET_LENGTH];
     sheet[K_NEW_OBJECT] = 0x00;
@@ -83,7 +84,8 @@ fn sheet_a() -> [u16; SHEET_LENGTH] {
     sheet
 }
 
-// What some head bytes mean under a sheet: the kind and the argument (crates/heads/specs/Kinds.antt).
+// What some head bytes mean under a sheet: the kind and the argument
+// (crates/heads/src/kinds.rt).
 fn show_heads(rt: &impl Print, sheet: &[u16], bytes: &[u8]) -> io::Result<()> {
     if let Some(heads) = decode(sheet) {
         for &byte in bytes {
@@ -101,8 +103,8 @@ fn show_sheet(rt: &impl Print, sheet: &[u16]) -> io::Result<()> {
     println!(rt; "usable plain {usable} {plain}")
 }
 
-// Usable, plain, and the heads of the first and last byte of some spans. With kSpaceMask the sheet is legacy, and with a span that ends
-// past 255 not usable.
+// Usable, plain, and the heads of the first and last byte of some spans. With kSpaceMask the sheet
+// is legacy, and with a span that ends past 255 not usable.
 fn sheets(rt: &impl Print) -> io::Result<()> {
     let mut sheet = sheet_a();
     show_sheet(rt, &sheet)?;
@@ -128,8 +130,8 @@ fn number_of(alignment: Result<u64, Refusal>) -> u64 {
     alignment.err().map_or(0, Refusal::number)
 }
 
-// Two objects of 12 bytes in space 2, the second double-aligned: it is found at its address, and at the one before its filler while the
-// alignment is pending.
+// Two objects of 12 bytes in space 2, the second double-aligned: it is found at its address, and at
+// the one before its filler while the alignment is pending.
 fn addresses(rt: &impl Print) -> io::Result<()> {
     let mut table = [0u64; 10];
     let request = Request {
@@ -184,7 +186,9 @@ fn views(rt: &impl Print) -> io::Result<()> {
     for k in 0..3 {
         match slots.raw_range(&payload, k) {
             Ok(view) => println!(rt; "view {} {}", view.offset, view.len)?,
-            Err(refusal) => println!(rt; "refused {} 0", refusal.number())?,
+            Err(refused) => {
+                println!(rt; "refused {} {}", refused.refusal.number(), refused.place)?
+            }
         }
     }
     Ok(())

@@ -14,41 +14,44 @@ use Rattle.stream.specs.declared.putint.Int.{Int}
 use Rattle.stream.specs.PutInt.{int_at}
 use Rattle.sheet.specs.Sheet.{word_bytes}
 use Rattle.heads.specs.Heads.{head_at, Heads}
-use Rattle.heads.specs.Kinds.{kind_number}
+use Rattle.heads.specs.declared.kinds.Kind.{Kind}
+use Rattle.heads.specs.declared.kinds.Kind.TheVariants.{Backref as BackrefKind, LegacyBackref, Hot, RootArray, RootConstant, ReadOnly, FixedRaw}
+use Rattle.std.proofs.Common.{rules}
 use Rattle.tables.specs.declared.values.Ref.{Ref}
 use Rattle.tables.specs.declared.values.Ref.TheVariants.{Object, Root, RoRef}
 use Rattle.tables.specs.declared.values.SlotValue.{SlotValue}
 use Rattle.tables.specs.declared.values.SlotValue.TheVariants.{Ref as IsRef, Raw as IsRaw}
 use Rattle.tables.specs.Values.{fields_of, width_of}
-use Rattle.tables.specs.Records.{room, slot_row, written, pick_table, counted, Put}
+use Rattle.tables.specs.Records.{room, slot_row, written, counted}
 use Rattle.backref.specs.declared.hot_ring.HotRing.{HotRing}
 use Rattle.backref.specs.HotRing.{hot_at}
 use Rattle.backref.specs.declared.legacy.Backref.{Backref}
+use Rattle.backref.specs.declared.legacy.BackrefError.TheVariants.{Cut, Unknown}
 use Rattle.backref.specs.Legacy.{Answer, backref_of}
-use Rattle.definition.specs.Memory.{Input, word, Mem, got, moved, int, byte, Reader}
+use Rattle.definition.specs.Memory.{Input, word, Mem, Out, got, no, and_then, has_room, table, moved, int, byte, Reader}
 use Rattle.definition.specs.Slots.{add_slot, waits_of, keep_item, place_item}
-use Rattle.definition.specs.Reference.{backref_to, refers, refers_hot, by_head, reference}
+use Rattle.definition.specs.Reference.{backref_to, refers, raw_data, of_backref, legacy_reference, refers_hot, by_head, reference}
 use Rattle.readers.specs.declared.state.State.{State}
 use Rattle.readers.specs.declared.walker.Walker.{Walker}
 use Rattle.readers.specs.Views.{Lent, input, mem, hot_is, slots_is, objects_is, moved_to}
 use Rattle.readers.specs.Lent.{input_of, lent_of}
-use Rattle.readers.proofs.ViewLaws.{then_got}
-use Rattle.readers.proofs.SimpleLaws.{backref_in, hot_is_lem, legacy_to, raw_to}
+use Rattle.readers.proofs.ViewLaws.{then_got, then_no}
+use Rattle.readers.proofs.SimpleLaws.{backref_in, backref_past, hot_is_lem, legacy_to, raw_to}
 use Rattle.leaves.specs.declared.leaf.Leaf.{Leaf}
-use Rattle.leaves.specs.Leaf.{ring_with, ring, after, Stands, Found, LeafAt, FoundIn, slot_in}
+use Rattle.leaves.specs.Leaf.{ring_with, ring, after, Stands, Found, Missing, Refused, LeafAt, NoLeafAt, MissingIn, begins_leaf, begins_item, kind_at, argument_at, FoundIn, slot_in}
 
 -- a reference that is one word wide
 abbrev one_word : Ref → ℕ → ℕ → Bool → Leaf
 one_word r next ts enters = record { value = IsRef r; width = ts; next = next; enters = enters }
 
 -- what is right in every sheet is right in one
-pub found_in : (w : Walker) (s : State) (at kind a : ℕ) (r : Option Leaf) → Found w.payload.now w.hot s.objects (word_bytes w.sheet.now) at kind a r → FoundIn w s at kind a r
+pub found_in : (w : Walker) (s : State) (at : ℕ) (kind : Kind) (a : ℕ) (r : Option Leaf) → Found w.payload.now w.hot s.objects (word_bytes w.sheet.now) at kind a r → FoundIn w s at kind a r
 found_in w s at kind a (Some r) f = λ tag. f w.sheet.now w.trusted.now w.spaces tag (moved_to at s) (lent_of w) refl refl refl
 found_in w s at kind a None f = tt
 
 -- what holds at a kind holds of what is that kind
-pub found_kind : (p : List ℕ) (hot : HotRing) (objects ts at a : ℕ) (r : Option Leaf) {kind key : ℕ} → kind ≡ key → Found p hot objects ts at key a r → Found p hot objects ts at kind a r
-found_kind p hot objects ts at a r e f = subst (λ (k : ℕ). Found p hot objects ts at k a r) (sym e) f
+pub found_kind : (p : List ℕ) (hot : HotRing) (objects ts at a : ℕ) (r : Option Leaf) {kind key : Kind} → kind ≡ key → Found p hot objects ts at key a r → Found p hot objects ts at kind a r
+found_kind p hot objects ts at a r e f = subst (λ (k : Kind). Found p hot objects ts at k a r) (sym e) f
 
 -- a reference is a slot of one word
 module _ (x : Input) (r : Ref) where
@@ -61,8 +64,17 @@ int_got : (x : Input) (m : Mem) {i : Int} → int_at x.payload m.at ≡ Some i �
 unfolding int
 int_got x m e = rw e
 
+-- an integer that is cut off
+int_no : (x : Input) (m : Mem) → int_at x.payload m.at ≡ None → no 4 (length x.payload) (moved (length x.payload) m) ≡ int x m
+unfolding int
+int_no x m e = rw e
+
+-- what the definition refuses
+pub refused : {A : Type 0} {n q : ℕ} {m : Mem} {o : Out A} → no n q m ≡ o → Refused o
+refused e = rw (← e) tt
+
 -- a reference that was read so, as a leaf
-ref_stands : (x : Input) (tag kind a : ℕ) (s : State) (l : Lent) (r : Ref) (next ts : ℕ) (enters : Bool) → word x ≡ ts
+ref_stands : (x : Input) (tag : ℕ) (kind : Kind) (a : ℕ) (s : State) (l : Lent) (r : Ref) (next ts : ℕ) (enters : Bool) → word x ≡ ts
     → ((inner : Reader SlotValue) → got (IsRef r) (mem (moved_to next s) (hot_is (ring_with enters (IsRef r) l.hot) l)) ≡ by_head x inner tag kind a (mem s l))
     → Stands x tag kind a s l (one_word r next ts enters)
 ref_stands x tag kind a s l r next ts enters ew read =
@@ -72,34 +84,34 @@ narrow_words : {n w : ℕ} → n < 65536 → w ≤ 8 → n * w < 2 ^ 20
 narrow_words h l = let z = mul-le-mul (le_of_lt h) l in omega (arith, z)
 
 module _ (p : List ℕ) (hots : HotRing) (objects ts at : ℕ) where
-  pub root_found : (i : ℕ) → Found p hots objects ts at 10 i (Some (one_word (Root i) at ts false))
+  pub root_found : (i : ℕ) → Found p hots objects ts at RootConstant i (Some (one_word (Root i) at ts false))
   unfolding by_head
   root_found i v tr sp tag s l ew ea eo =
-      ref_stands (input v p sp tr) tag 10 i s (hot_is hots l) (Root i) at ts false ew (λ inner. rw (← ea))
+      ref_stands (input v p sp tr) tag RootConstant i s (hot_is hots l) (Root i) at ts false ew (λ inner. rw (← ea))
 
-  pub hot_found : (place : ℕ) {h : Option Ref} → h ≡ hot_at hots place → (r : Ref) → h ≡ Some r → Found p hots objects ts at 7 place (Some (one_word r at ts false))
+  pub hot_found : (place : ℕ) {h : Option Ref} → h ≡ hot_at hots place → (r : Ref) → h ≡ Some r → Found p hots objects ts at Hot place (Some (one_word r at ts false))
   unfolding by_head
   hot_found place e r k v tr sp tag s l ew ea eo =
-      ref_stands (input v p sp tr) tag 7 place s (hot_is hots l) r at ts false ew (λ inner. rw (← ea) (hot_is_lem (mem s (hot_is hots l)) place e k))
+      ref_stands (input v p sp tr) tag Hot place s (hot_is hots l) r at ts false ew (λ inner. rw (← ea) (hot_is_lem (mem s (hot_is hots l)) place e k))
 
-  pub back_found : (i : Int) (a : ℕ) → int_at p at ≡ Some i → i.value < objects → Found p hots objects ts at 2 a (Some (one_word (Object i.value) (at + i.count) ts true))
+  pub back_found : (i : Int) (a : ℕ) → int_at p at ≡ Some i → i.value < objects → Found p hots objects ts at BackrefKind a (Some (one_word (Object i.value) (at + i.count) ts true))
   unfolding by_head
   back_found i a e b v tr sp tag s l ew ea eo =
       let x = input v p sp tr in
       let m : Mem = mem s (hot_is hots l) in
       let g : got i.value (moved (s.at + i.count) m) ≡ int x m = int_got x m (ap (int_at p) ea ∙ e) in
-      ref_stands x tag 2 a s (hot_is hots l) (Object i.value) (at + i.count) ts true ew
+      ref_stands x tag BackrefKind a s (hot_is hots l) (Object i.value) (at + i.count) ts true ew
       (λ inner. rw (← ea) (then_got backref_to g (backref_in (moved (s.at + i.count) m) i.value (rw eo b))))
 
-  pub root_array_found : (i : Int) (a : ℕ) → int_at p at ≡ Some i → Found p hots objects ts at 9 a (Some (one_word (Root i.value) (at + i.count) ts true))
+  pub root_array_found : (i : Int) (a : ℕ) → int_at p at ≡ Some i → Found p hots objects ts at RootArray a (Some (one_word (Root i.value) (at + i.count) ts true))
   unfolding by_head
   root_array_found i a e v tr sp tag s l ew ea eo =
       let x = input v p sp tr in
       let m : Mem = mem s (hot_is hots l) in
       let g : got i.value (moved (s.at + i.count) m) ≡ int x m = int_got x m (ap (int_at p) ea ∙ e) in
-      ref_stands x tag 9 a s (hot_is hots l) (Root i.value) (at + i.count) ts true ew (λ inner. rw (← ea) (then_got (λ i. refers_hot (Root i)) g refl))
+      ref_stands x tag RootArray a s (hot_is hots l) (Root i.value) (at + i.count) ts true ew (λ inner. rw (← ea) (then_got (λ i. refers_hot (Root i)) g refl))
 
-  pub read_only_found : (c o : Int) (a : ℕ) → int_at p at ≡ Some c → int_at p (at + c.count) ≡ Some o → Found p hots objects ts at 12 a (Some (one_word (RoRef c.value o.value) (at + c.count + o.count) ts false))
+  pub read_only_found : (c o : Int) (a : ℕ) → int_at p at ≡ Some c → int_at p (at + c.count) ≡ Some o → Found p hots objects ts at ReadOnly a (Some (one_word (RoRef c.value o.value) (at + c.count + o.count) ts false))
   unfolding by_head
   read_only_found c o a e g v tr sp tag s l ew ea eo =
       let x = input v p sp tr in
@@ -107,15 +119,79 @@ module _ (p : List ℕ) (hots : HotRing) (objects ts at : ℕ) where
       let m₁ : Mem = moved (s.at + c.count) m in
       let q : got c.value m₁ ≡ int x m = int_got x m (ap (int_at p) ea ∙ e) in
       let q₁ : got o.value (moved (s.at + c.count + o.count) m₁) ≡ int x m₁ = int_got x m₁ (ap (λ (at : ℕ). int_at p (at + c.count)) ea ∙ g) in
-      ref_stands x tag 12 a s (hot_is hots l) (RoRef c.value o.value) (at + c.count + o.count) ts false ew
+      ref_stands x tag ReadOnly a s (hot_is hots l) (RoRef c.value o.value) (at + c.count + o.count) ts false ew
       (λ inner. rw (← ea) (then_got (λ c. λ m. _) q (then_got (λ o. refers (RoRef c.value o)) q₁ refl)))
 
-  pub raw_found : (n end : ℕ) → n < 65536 → raw_at p at (n * ts) ≡ Some end → Found p hots objects ts at 28 n (Some (record { value = IsRaw (record { off = at; len = n * ts; advances = true }); width = n * ts; next = end; enters = false }))
+  pub raw_found : (n end : ℕ) → n < 65536 → raw_at p at (n * ts) ≡ Some end → Found p hots objects ts at FixedRaw n (Some (record { value = IsRaw (record { off = at; len = n * ts; advances = true }); width = n * ts; next = end; enters = false }))
   unfolding by_head place_item
   raw_found n end low e v tr sp tag s l ew ea eo =
       let x = input v p sp tr in
       let m : Mem = mem s (hot_is hots l) in
       record { is = λ inner. rw (← ea, ← ew) (raw_to x (n * word_bytes v) true m refl (rw (ea, ew) e)); width = refl; narrow = λ few. narrow_words low (rw ew at few); kept = λ o done m. refl; waits = refl }
+
+-- ---- where none is found
+
+missing_kind : (p : List ℕ) (hot : HotRing) (objects ts at a : ℕ) {kind key : Kind} → kind ≡ key → Missing p hot objects ts at key a → Missing p hot objects ts at kind a
+missing_kind p hot objects ts at a e f = subst (λ (k : Kind). Missing p hot objects ts at k a) (sym e) f
+
+module _ (p : List ℕ) (hots : HotRing) (objects ts at : ℕ) where
+  pub hot_missing : (place : ℕ) → hot_at hots place ≡ None → Missing p hots objects ts at Hot place
+  unfolding by_head
+  hot_missing place e v tr sp tag s l inner ew ea eo = rw e tt
+
+  pub back_cut : (a : ℕ) → int_at p at ≡ None → Missing p hots objects ts at BackrefKind a
+  unfolding by_head
+  back_cut a e v tr sp tag s l inner ew ea eo =
+      refused (then_no backref_to (int_no (input v p sp tr) (mem s (hot_is hots l)) (ap (int_at p) ea ∙ e)))
+
+  pub back_past : (i : Int) (a : ℕ) → int_at p at ≡ Some i → objects ≤ i.value → Missing p hots objects ts at BackrefKind a
+  unfolding by_head
+  back_past i a e b v tr sp tag s l inner ew ea eo =
+      let x = input v p sp tr in
+      let m : Mem = mem s (hot_is hots l) in
+      let g : got i.value (moved (s.at + i.count) m) ≡ int x m = int_got x m (ap (int_at p) ea ∙ e) in
+      refused (then_got backref_to g (backref_past (moved (s.at + i.count) m) i.value (rw eo b)))
+
+  pub root_array_cut : (a : ℕ) → int_at p at ≡ None → Missing p hots objects ts at RootArray a
+  unfolding by_head
+  root_array_cut a e v tr sp tag s l inner ew ea eo =
+      refused (then_no (λ i. refers_hot (Root i)) (int_no (input v p sp tr) (mem s (hot_is hots l)) (ap (int_at p) ea ∙ e)))
+
+  pub chunk_cut : (a : ℕ) → int_at p at ≡ None → Missing p hots objects ts at ReadOnly a
+  unfolding by_head
+  chunk_cut a e v tr sp tag s l inner ew ea eo =
+      refused (then_no (λ c. λ m. _) (int_no (input v p sp tr) (mem s (hot_is hots l)) (ap (int_at p) ea ∙ e)))
+
+  pub offset_cut : (c : Int) (a : ℕ) → int_at p at ≡ Some c → int_at p (at + c.count) ≡ None → Missing p hots objects ts at ReadOnly a
+  unfolding by_head
+  offset_cut c a e g v tr sp tag s l inner ew ea eo =
+      let x = input v p sp tr in
+      let m : Mem = mem s (hot_is hots l) in
+      let m₁ : Mem = moved (s.at + c.count) m in
+      let q : got c.value m₁ ≡ int x m = int_got x m (ap (int_at p) ea ∙ e) in
+      refused (then_got (λ c. λ m. _) q (then_no (λ o. refers (RoRef c.value o)) (int_no x m₁ (ap (λ (at : ℕ). int_at p (at + c.count)) ea ∙ g))))
+
+  pub raw_missing : (n : ℕ) → raw_at p at (n * ts) ≡ None → Missing p hots objects ts at FixedRaw n
+  unfolding by_head raw_data
+  raw_missing n e v tr sp tag s l inner ew ea eo = let z : raw_at p s.at (n * word_bytes v) ≡ None = rw (ea, ew) e in rw z tt
+
+-- a legacy back-reference
+back_refused : (x : Input) (b : Answer) (m : Mem) → result_ok b ≡ None → Refused (of_backref x b m)
+back_refused x (Ok q) m e = absurd (let z : ◌≡◌ {A = ℕ} 0 1 = cc in omega arith)
+back_refused x (Err Cut) m e = tt
+back_refused x (Err (Unknown next)) m e = tt
+
+pub legacy_missing : (w : Walker) (s : State) (at space : ℕ) {b : Answer} → b ≡ backref_of w.sheet.now w.payload.now w.addresses.now s.addresses s.alignment space at → result_ok b ≡ None → MissingIn w s at LegacyBackref space
+unfolding by_head legacy_reference
+legacy_missing w s at space {b} e k tag inner = rw (← e) (back_refused (input_of w) b (mem (moved_to at s) (lent_of w)) k)
+
+-- what is missing in every sheet is missing in one
+pub missing_in : (w : Walker) (s : State) (at : ℕ) (kind : Kind) (a : ℕ) → Missing w.payload.now w.hot s.objects (word_bytes w.sheet.now) at kind a → MissingIn w s at kind a
+missing_in w s at kind a f tag inner = f w.sheet.now w.trusted.now w.spaces tag (moved_to at s) (lent_of w) inner refl refl refl
+
+-- what begins an item and is no legacy back-reference begins a leaf
+pub item_leaf : (k : Kind) → (k ≡ LegacyBackref → ⊥) → begins_item k ≡ true → begins_leaf k ≡ true
+item_leaf k e b = search rules
 
 -- what an answer has, where it has something
 pub answer_ok : (b : Answer) (r : Backref) → result_ok b ≡ Some r → b ≡ Ok r
@@ -124,24 +200,40 @@ answer_ok (Err q) r e = absurd (let z : ◌≡◌ {A = ℕ} 0 1 = cc in omega ar
 
 -- a legacy back-reference
 pub legacy_found : (w : Walker) (s : State) (ts at space : ℕ) {b : Answer} → ts ≡ word_bytes w.sheet.now → b ≡ backref_of w.sheet.now w.payload.now w.addresses.now s.addresses s.alignment space at → (r : Backref) → b ≡ Ok r
-    → FoundIn w s at 3 space (Some (one_word r.target r.next ts true))
+    → FoundIn w s at LegacyBackref space (Some (one_word r.target r.next ts true))
 unfolding by_head
 legacy_found w s ts at space {b} ew e r k tag =
-    ref_stands (input_of w) tag 3 space (moved_to at s) (lent_of w) r.target r.next ts true (sym ew) (λ inner. legacy_to (input_of w) space (mem (moved_to at s) (lent_of w)) e k)
+    ref_stands (input_of w) tag LegacyBackref space (moved_to at s) (lent_of w) r.target r.next ts true (sym ew) (λ inner. legacy_to (input_of w) space (mem (moved_to at s) (lent_of w)) e k)
 
 -- ---- a leaf as a reference
 
 -- a head at the cursor, read as a reference
 head_read : (w : Walker) (s : State) (l : Lent) (inner : Reader SlotValue) → Heads w.sheet.now w.heads.now → s.at < length w.payload.now → get_or w.payload.now s.at 0 < 256
-    → by_head (input_of w) inner s.at (kind_number (head_at w.heads.now (get_or w.payload.now s.at 0)).kind) (head_at w.heads.now (get_or w.payload.now s.at 0)).argument (mem (moved_to (s.at + 1) s) l) ≡ reference (input_of w) inner (mem s l)
+    → by_head (input_of w) inner s.at (head_at w.heads.now (get_or w.payload.now s.at 0)).kind (head_at w.heads.now (get_or w.payload.now s.at 0)).argument (mem (moved_to (s.at + 1) s) l) ≡ reference (input_of w) inner (mem s l)
 unfolding reference byte
-head_read w s l inner h b c = rw (lt-ltb s.at (length w.payload.now) b, h.kind (get_or w.payload.now s.at 0) c, h.argument (get_or w.payload.now s.at 0) c)
+head_read w s l inner h b c = rw (lt-ltb s.at (length w.payload.now) b, h.each (get_or w.payload.now s.at 0) c)
 
 module _ (w : Walker) (at objects : ℕ) (r : Leaf) (decoded : Heads w.sheet.now w.heads.now) (found : LeafAt w at objects (Some r)) where
   pub leaf_read : (inner : Reader SlotValue) (s : State) (l : Lent) → s.at ≡ at → s.objects ≡ objects → l.hot ≡ w.hot → got r.value (mem (after r s) (hot_is (ring r l.hot) l)) ≡ reference (input_of w) inner (mem s l)
   leaf_read inner s l ea eo eh =
       let stands = rw (← eh) at (found.1 w.sheet.now w.trusted.now w.spaces s.at (moved_to (s.at + 1) s) l refl (ap (λ (i : ℕ). i + 1) ea) eo) in
       stands.is inner ∙ rw (← ea) (head_read w s l inner decoded (rw ea found.0.0) (rw ea found.0.1))
+
+-- where none stands, the definition refuses the reference
+pub leaf_refused : (w : Walker) (s : State) (l : Lent) → l.hot ≡ w.hot → Heads w.sheet.now w.heads.now → (s.at < length w.payload.now) × (get_or w.payload.now s.at 0 < 256) → NoLeafAt w s.at s.objects → (inner : Reader SlotValue)
+    → Refused (reference (input_of w) inner (mem s l))
+leaf_refused w s l eh decoded b f inner =
+    let r = rw (← eh) at (f w.sheet.now w.trusted.now w.spaces s.at (moved_to (s.at + 1) s) l inner refl refl refl) in
+    subst (λ (o : Out SlotValue). Refused o) (head_read w s l inner decoded b.0 b.1) r
+
+-- a reader after one that was refused
+pub refused_then : {A B : Type 0} (o : Out A) (f : A → Reader B) → Refused o → Refused (and_then o f)
+refused_then (no n q m) f e = tt
+refused_then (got a m) f e = absurd e
+
+pub item_refused : (w : Walker) (s : State) (o done : ℕ) → Heads w.sheet.now w.heads.now → (s.at < length w.payload.now) × (get_or w.payload.now s.at 0 < 256) → MissingIn w s (s.at + 1) (kind_at w s.at) (argument_at w s.at) → (inner : Reader SlotValue) → Refused (slot_in (input_of w) (reference (input_of w) inner) o done (mem s (lent_of w)))
+item_refused w s o done decoded b f inner =
+    refused_then _ (place_item (input_of w) o done) (subst (λ (o : Out SlotValue). Refused o) (head_read w s (lent_of w) inner decoded b.0 b.1) (f s.at inner))
 
 -- ---- its slot
 
@@ -159,10 +251,14 @@ slot_kept x o done s l r ew eb ez b es eo =
     let z : s.waiting + 0 ≡ s.waiting = omega arith in
     rw (ew, ← ez, lt-ltb s.slots (room 6 l.slots) b, es, eo, z, eb)
 
+slot_full : (x : Input) (o done : ℕ) (v : SlotValue) (m : Mem) → has_room 6 m.slots ≡ false → no 3 m.at m ≡ keep_item x o done v m
+unfolding keep_item add_slot
+slot_full x o done v m b = rw b
+
 -- a leaf at the cursor as an item of object o
 module _ (w : Walker) (s : State) (r : Leaf) (decoded : Heads w.sheet.now w.heads.now) (in_payload : s.at < length w.payload.now) (small : get_or w.payload.now s.at 0 < 256)
-    (found : FoundIn w s (s.at + 1) (kind_number (head_at w.heads.now (get_or w.payload.now s.at 0)).kind) (head_at w.heads.now (get_or w.payload.now s.at 0)).argument (Some r)) where
-  abbrev is : Stands (input_of w) s.at (kind_number (head_at w.heads.now (get_or w.payload.now s.at 0)).kind) (head_at w.heads.now (get_or w.payload.now s.at 0)).argument (moved_to (s.at + 1) s) (lent_of w) r
+    (found : FoundIn w s (s.at + 1) (head_at w.heads.now (get_or w.payload.now s.at 0)).kind (head_at w.heads.now (get_or w.payload.now s.at 0)).argument (Some r)) where
+  abbrev is : Stands (input_of w) s.at (head_at w.heads.now (get_or w.payload.now s.at 0)).kind (head_at w.heads.now (get_or w.payload.now s.at 0)).argument (moved_to (s.at + 1) s) (lent_of w) r
   is = found s.at
 
   pub item_read : (o done : ℕ) (ot st : List ℕ) (hot : HotRing) → s.slots < room 6 w.slots.now → st ≡ written w.slots.now s.slots (slot_row o ((done + s.skip) / word_bytes w.sheet.now) (fields_of r.value) 0) → ot ≡ counted w.objects.now o → hot ≡ ring r w.hot → (inner : Reader SlotValue)
@@ -174,6 +270,10 @@ module _ (w : Walker) (s : State) (r : Leaf) (decoded : Heads w.sheet.now w.head
       slot_kept (input_of w) o done s (hot_is (ring r w.hot) (lent_of w)) r refl is.width is.waits b es eo in
       rw eh (then_got (place_item (input_of w) o done) read (k ∙ is.kept o done m))
 
--- a record for which there is room is put
-pub room_put : {t : List ℕ} {n : ℕ} {row : List ℕ} {r : Bool} {after : List ℕ} → Put t n row r after → n < room (length row) t → after ≡ written t n row
-room_put {t} {n} {row} p b = p.table ∙ ap (λ b. pick_table b (written t n row) t) (lt-ltb n (room (length row) t) b)
+  -- where its slot has no room, the item is refused
+  pub item_full : (o done : ℕ) → has_room 6 (table w.slots.now s.slots) ≡ false → (inner : Reader SlotValue) → Refused (slot_in (input_of w) (reference (input_of w) inner) o done (mem s (lent_of w)))
+  item_full o done b inner =
+      let m : Mem = mem (after r s) (hot_is (ring r w.hot) (lent_of w)) in
+      let read : got r.value m ≡ reference (input_of w) inner (mem s (lent_of w)) = is.is inner ∙ head_read w s (lent_of w) inner decoded in_payload small in
+      let k : no 3 m.at m ≡ place_item (input_of w) o done r.value m = slot_full (input_of w) o done r.value m b ∙ is.kept o done m in
+      refused (then_got (place_item (input_of w) o done) read k)

@@ -1,20 +1,23 @@
-// The commonest references that hold no other, read without the readers of every reference, so that a slot with one of them costs
-// little: a root, a hot place, a back-reference (in an item a legacy one too), a read-only reference and fixed raw data. What is refused
-// is left to the readers of every reference: a leaf says only None there, and those readers have to say which refusal it is and where
-// the cursor stands. So both read these kinds: a leaf is looked for before its slot has room, with nothing changed, and by places alone;
-// read with a state, as those readers do it, real payloads took several times as long (docs/BENCHMARKS.md).
+//! Leaves: the commonest references that hold no other, read so that a slot with one of them costs
+//! little. They are a root, a hot place, a back-reference by plain index (as an item of an object a
+//! legacy one too), a read-only reference and fixed raw data.
+//!
+//! Where one of these is refused there is no leaf, with nothing changed: the readers of every
+//! reference then read it again, and say which refusal it is and where the cursor stands. Leaves
+//! are read by places alone, since real payloads took several times as long when each step passed
+//! on a whole state (docs/BENCHMARKS.md).
 
-ghost use Rattle.std.specs.Prelude.{◌≡◌, List, ℕ, ◌+◌, ◌*◌, ◌^◌, ◌<◌, length, get_or, IfSome};
+ghost use Rattle.std.specs.Prelude.{◌≡◌, List, ℕ, ◌+◌, ◌*◌, ◌^◌, ◌<◌, length, get_or, true, IfSome, IsNone};
 ghost use Rattle.sheet.specs.Sheet.{word_bytes};
 ghost use Rattle.heads.specs.Heads.{head_at};
-ghost use Rattle.heads.specs.Kinds.{kind_number, backref, hot as hot_kind, root_array, read_only, fixed_raw, legacy_backref};
+ghost use Rattle.heads.specs.declared.kinds.Kind.TheVariants.{Backref, Hot, RootArray, ReadOnly, FixedRaw, LegacyBackref};
 ghost use Rattle.tables.specs.Records.{Countable};
 ghost use Rattle.tables.specs.declared.values.SlotValue.{SlotValue};
 ghost use Rattle.tables.specs.declared.values.SlotValue.TheVariants.{Ref as IsRef};
 ghost use Rattle.backref.specs.declared.hot_ring.HotRing.{HotRing};
 ghost use Rattle.definition.specs.Reference.{reference as referenceOf};
 ghost use Rattle.readers.specs.Lent.{input_of, Kept, Addressed};
-ghost use Rattle.leaves.specs.Leaf.{Found, LeafAt, FoundIn, StaysInOrder, ReadAs, slot_in, ring_with};
+ghost use Rattle.leaves.specs.Leaf.{Found, Missing, LeafAt, LeafByte, NoLeafAt, begins_leaf, RefusedAs, ItemByte, RoomyItem, kind_at, argument_at, FoundIn, MissingIn, StaysInOrder, ReadAs, slot_in, ring_with};
 
 use backref::hot_ring::HotRing;
 use heads::heads::Head;
@@ -29,12 +32,16 @@ use stream::putint::putint;
 use tables::records::{Slot, append_slot};
 use tables::values::{Fields, Raw, Ref, SlotValue};
 
-// A value, its width as an item, the cursor after it, and whether it enters the hot ring.
+/// A reference that was read at a place.
 #[derive(Clone, Copy)]
 pub struct Leaf {
+    /// What it is.
     pub value: SlotValue,
+    /// Its bytes as an item of an object.
     pub width: u64,
+    /// The place after it in the payload.
     pub next: usize,
+    /// It enters the hot ring.
     pub enters: bool,
 }
 
@@ -51,22 +58,21 @@ fn reference(r: Ref, next: usize, word: u64, enters: bool) -> Leaf
 }
 
 // A reference at a place of the hot ring.
+#[tactic(auto, unfolding(backref::specs::HotRing::hot_at))]
 #[inline(always)]
 fn hot_leaf(hot: &HotRing, place: usize, next: usize, word: u64) -> Option<Leaf>
-    ensures { (p : List ℕ) (objects : ℕ) → Found p hot.now objects word next hot_kind place result }
+    ensures some { (p : List ℕ) (objects : ℕ) → Found p hot.now objects word next Hot place result }
+    ensures none { IsNone result → (p : List ℕ) (objects : ℕ) → Missing p hot.now objects word next Hot place }
 {
-    if 8 <= place {
-        return None;
-    }
-    let r = hot.get(place)?;
+    let r = (*hot.places.get(place)?)?;
     Some(reference(r, next, word, false))
 }
 
-// An object by plain index, which enters the ring. It and `root_array_leaf` share all but a test, as `back_ref` and `root_array` of readers
-// do: a closure for the test would be no shorter.
+// An object by plain index, which enters the ring.
 #[inline(always)]
 fn back_leaf(p: &[u8], at: usize, objects: usize, word: u64) -> Option<Leaf>
-    ensures { (hot : HotRing) (i : ℕ) → Found p.now hot objects word at backref i result }
+    ensures some { (hot : HotRing) (i : ℕ) → Found p.now hot objects word at Backref i result }
+    ensures none { IsNone result → (hot : HotRing) (i : ℕ) → Missing p.now hot objects word at Backref i }
 {
     let i = putint(p, at)?;
     if objects as u64 <= i.value as u64 {
@@ -78,7 +84,8 @@ fn back_leaf(p: &[u8], at: usize, objects: usize, word: u64) -> Option<Leaf>
 // A root by integer, which enters the ring.
 #[inline(always)]
 fn root_array_leaf(p: &[u8], at: usize, word: u64) -> Option<Leaf>
-    ensures { (hot : HotRing) (objects i : ℕ) → Found p.now hot objects word at root_array i result }
+    ensures some { (hot : HotRing) (objects i : ℕ) → Found p.now hot objects word at RootArray i result }
+    ensures none { IsNone result → (hot : HotRing) (objects i : ℕ) → Missing p.now hot objects word at RootArray i }
 {
     let i = putint(p, at)?;
     Some(reference(Ref::Root(i.value as u64), at + i.count, word, true))
@@ -87,7 +94,8 @@ fn root_array_leaf(p: &[u8], at: usize, word: u64) -> Option<Leaf>
 // A read-only reference.
 #[inline(always)]
 fn read_only_leaf(p: &[u8], at: usize, word: u64) -> Option<Leaf>
-    ensures { (hot : HotRing) (objects i : ℕ) → Found p.now hot objects word at read_only i result }
+    ensures some { (hot : HotRing) (objects i : ℕ) → Found p.now hot objects word at ReadOnly i result }
+    ensures none { IsNone result → (hot : HotRing) (objects i : ℕ) → Missing p.now hot objects word at ReadOnly i }
 {
     let chunk = putint(p, at)?;
     let next = at + chunk.count;
@@ -104,10 +112,11 @@ fn read_only_leaf(p: &[u8], at: usize, word: u64) -> Option<Leaf>
 // Fixed raw data of n words.
 #[inline(always)]
 fn raw_leaf(p: &[u8], at: usize, n: u64, word: u64) -> Option<Leaf>
-    requires { n < 65536 }
-    ensures { (hot : HotRing) (objects : ℕ) → Found p.now hot objects word at fixed_raw n result }
+    requires { (n < 65536) × (word < 65536) }
+    ensures some { (hot : HotRing) (objects : ℕ) → Found p.now hot objects word at FixedRaw n result }
+    ensures none { IsNone result → (hot : HotRing) (objects : ℕ) → Missing p.now hot objects word at FixedRaw n }
 {
-    let bytes = n.checked_mul(word)?;
+    let bytes = n * word;
     let next = raw(p, at, bytes as usize)?;
     Some(Leaf {
         value: SlotValue::Raw(Raw {
@@ -121,10 +130,11 @@ fn raw_leaf(p: &[u8], at: usize, n: u64, word: u64) -> Option<Leaf>
     })
 }
 
-// The leaf that a head begins, after which the cursor stands.
+// The leaf that a head begins; `at` is the place after the head.
 #[inline(always)]
 fn leaf_of(w: &Walker, head: Head, at: usize, objects: usize) -> Option<Leaf>
-    ensures { Found w.now.payload.now w.now.hot objects (word_bytes w.now.sheet.now) at (kind_number head.kind) head.argument result }
+    ensures some { Found w.now.payload.now w.now.hot objects (word_bytes w.now.sheet.now) at head.kind head.argument result }
+    ensures none { IsNone result → begins_leaf head.kind ≡ true → Missing w.now.payload.now w.now.hot objects (word_bytes w.now.sheet.now) at head.kind head.argument }
 {
     let p = w.payload;
     let word = word_bytes(w.sheet);
@@ -140,29 +150,34 @@ fn leaf_of(w: &Walker, head: Head, at: usize, objects: usize) -> Option<Leaf>
     }
 }
 
-// What stands at a place, where there are so many objects.
+/// The leaf whose head stands at place `at`, where so many objects are listed; no legacy
+/// back-reference is looked for. `None` only where the payload has ended, where the head is of no
+/// leaf's kind, and where the definition refuses the reference (the clause `none`).
 #[inline(always)]
 pub fn leaf_at(w: &Walker, at: usize, objects: usize) -> Option<Leaf>
-    ensures { LeafAt w.now at objects result }
+    ensures some { LeafAt w.now at objects result }
+    ensures none { IsNone result → LeafByte w.now at → NoLeafAt w.now at objects }
 {
     leaf_of(w, w.head_at(at)?, at + 1, objects)
 }
 
-// A legacy back-reference to a space, which enters the ring. The cursor stands after its head.
+// A legacy back-reference to a space, which enters the ring; `at` is the place after its head.
 #[inline(always)]
 fn legacy_leaf(w: &Walker, s: State, at: usize, space: u64) -> Option<Leaf>
     requires addressed { Addressed w.now s.addresses }
-    ensures { FoundIn w.now s at legacy_backref space result }
+    ensures some { FoundIn w.now s at LegacyBackref space result }
+    ensures none { IsNone result → MissingIn w.now s at LegacyBackref space }
 {
     let b = find_backref(w, s, space, at).ok()?;
     Some(reference(b.target, b.next, word_bytes(w.sheet), true))
 }
 
-// What stands at the cursor, a legacy back-reference too.
+// The leaf at the cursor, a legacy back-reference too.
 fn any_leaf(w: &Walker, s: State) -> Option<Leaf>
     requires addressed { Addressed w.now s.addresses }
     ensures there { IfSome result (λ _. (s.at < length w.now.payload.now) × (get_or w.now.payload.now s.at 0 < 256)) }
-    ensures found { FoundIn w.now s (s.at + 1) (kind_number (head_at w.now.heads.now (get_or w.now.payload.now s.at 0)).kind) (head_at w.now.heads.now (get_or w.now.payload.now s.at 0)).argument result }
+    ensures found { FoundIn w.now s (s.at + 1) (kind_at w.now s.at) (argument_at w.now s.at) result }
+    ensures none { IsNone result → ItemByte w.now s.at → MissingIn w.now s (s.at + 1) (kind_at w.now s.at) (argument_at w.now s.at) }
 {
     let head = w.head_at(s.at)?;
     match head.kind {
@@ -172,7 +187,7 @@ fn any_leaf(w: &Walker, s: State) -> Option<Leaf>
     }
 }
 
-// The ring after a leaf.
+/// Puts the leaf into the hot ring, if it is one that enters it.
 #[inline(always)]
 pub fn enter(hot: &mut HotRing, leaf: Leaf)
     ensures { hot.new ≡ ring_with leaf.enters leaf.value hot.old }
@@ -184,9 +199,11 @@ pub fn enter(hot: &mut HotRing, leaf: Leaf)
     }
 }
 
-// A leaf at the cursor as a reference that is read.
+/// Reads the leaf at the cursor as a reference: its value, and the state after it. `None` as in
+/// `leaf_at`; then nothing is changed.
 pub fn take_leaf(w: &mut Walker, s: State) -> Option<(SlotValue, State)>
     ensures read { IfSome result (ReadAs w.old s w.new (referenceOf (input_of w.old))) }
+    ensures none { IsNone result → LeafByte w.old s.at → RefusedAs w.old s (referenceOf (input_of w.old)) }
     ensures order { StaysInOrder w.old s result w.new }
     ensures kept { Kept w.old w.new }
 {
@@ -196,11 +213,17 @@ pub fn take_leaf(w: &mut Walker, s: State) -> Option<(SlotValue, State)>
     Some((leaf.value, t))
 }
 
-// A leaf at the cursor as an item of the object that is read at depth d: the bytes read then. None where no leaf stands there, where its
-// slot record or the bytes read then have no room, and at the last level, where a reference is refused; then nothing is changed.
+/// Reads the leaf at the cursor as an item of the object that is read at depth `d`: the bytes of
+/// the object that have been read then, and the state after the item. Legacy back-references are
+/// leaves here.
+///
+/// `None` only at depth 64, where no head of these kinds stands at the cursor, where the definition
+/// refuses the item (its slot's room included), and where the sum of its bytes could pass 2^64;
+/// then nothing is changed.
 pub fn place_leaf(w: &mut Walker, s: State, d: usize, level: Level) -> Option<(u64, State)>
     requires { Countable w.old.objects.now level.object × Addressed w.old s.addresses }
     ensures read { IfSome result (λ r. (d < 64) × ReadAs w.old s w.new (λ inner. slot_in (input_of w.old) (referenceOf (input_of w.old) inner) level.object level.done) r) }
+    ensures none { IsNone result → d < 64 → ItemByte w.old s.at → RoomyItem w.old s level → RefusedAs w.old s (λ inner. slot_in (input_of w.old) (referenceOf (input_of w.old) inner) level.object level.done) }
     ensures order { StaysInOrder w.old s result w.new }
     ensures kept { Kept w.old w.new }
 {

@@ -1,6 +1,6 @@
--- What is known of an object that becomes a slot. Assumes nothing.
-use Rattle.std.specs.Prelude.{◌≡◌, ℕ, ◌+◌, ◌/◌, ◌%◌, ◌^◌, ◌<◌}
-use Rattle.std.proofs.Common.{arith}
+-- What is known of an object that becomes a slot.
+use Rattle.std.specs.Prelude.{◌≡◌, ℕ, ◌+◌, ◌/◌}
+use Rattle.std.proofs.Common.{sym}
 use Rattle.tables.specs.declared.values.SlotValue.TheVariants.{Ref as IsRef}
 use Rattle.tables.specs.declared.values.Ref.TheVariants.{Object}
 use Rattle.tables.specs.declared.values.Fields.{Fields}
@@ -11,27 +11,18 @@ use Rattle.readers.specs.declared.state.State.{State}
 use Rattle.readers.specs.Views.{Lent, mem}
 use Rattle.objects.specs.Item.{slot_of}
 
--- the index and the bytes read then, where they fit
-pub fits : (done skip word : ℕ) → done + skip + word < 2 ^ 64 → ((done + skip) % 2 ^ 64 / word ≡ (done + skip) / word) × (((done + skip) % 2 ^ 64 + word) % 2 ^ 64 ≡ done + skip + word)
-fits done skip word f =
-    let e : (done + skip) % 2 ^ 64 ≡ done + skip = omega (arith, f) in
-    (rw e, rw e (omega (arith, f)))
-
 -- the state without the with-skip amount
 abbrev unskipped : State → State
 unskipped s =
     record { at = s.at; objects = s.objects; slots = s.slots; values = s.values; addresses = s.addresses; pending = s.pending; waiting = s.waiting; skip = 0; alignment = s.alignment }
 
 -- the slot of an object, from what the slot record's reader answered
-module _ (x : Input) (o done child : ℕ) (s t : State) (l l' : Lent) {w i : ℕ} {f : Fields} (ew : word x ≡ w) (ei : i ≡ (done + s.skip) % 2 ^ 64 / w) (ef : f ≡ fields_of (IsRef (Object child))) (small : done + s.skip + word x < 2 ^ 64) where
-  index_is : i ≡ (done + s.skip) / word x
-  index_is = rw (ei, ← ew) (fits done s.skip (word x) small).0
-
+module _ (x : Input) (o done child : ℕ) (s t : State) (l l' : Lent) {i : ℕ} {f : Fields} (index_is : i ≡ (done + s.skip) / word x) (fields_are : f ≡ fields_of (IsRef (Object child))) where
   pub put_no : {n q : ℕ} → no n q (mem t l') ≡ slot_of o i f 0 (mem s l) → no n q (mem t l') ≡ place_item x o done (IsRef (Object child)) (mem s l)
   unfolding place_item keep_item
-  put_no e = rw (← index_is, ← ef, ← e)
+  put_no e = rw (← index_is, ← fields_are, ← e)
 
   pub put_is : {k : ℕ} → got k (mem t l') ≡ slot_of o i f 0 (mem s l)
-      → got (((done + s.skip) % 2 ^ 64 + w) % 2 ^ 64) (mem (unskipped t) l') ≡ place_item x o done (IsRef (Object child)) (mem s l)
+      → got (done + s.skip + word x) (mem (unskipped t) l') ≡ place_item x o done (IsRef (Object child)) (mem s l)
   unfolding place_item keep_item
-  put_is e = rw (← index_is, ← ef, ← e, ← ew, (fits done s.skip (word x) small).1)
+  put_is e = rw (← index_is, ← fields_are, ← e)

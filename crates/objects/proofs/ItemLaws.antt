@@ -1,4 +1,5 @@
--- Slots and items of an object: what is there after a record was added, and the places of pending numbers with it. Assumes nothing.
+-- Slots and items of an object: what is there after a record was added, and the places of pending
+-- numbers with it. Assumes nothing.
 use mathlib.Core.Path.{◌≡◌, refl, sym, ap}
 use mathlib.Core.Bool.{Bool, true, false}
 use mathlib.Core.List.{List}

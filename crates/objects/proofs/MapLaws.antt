@@ -129,7 +129,8 @@ stepped t =
     record
     { at = t.at + 2; objects = t.objects; slots = t.slots; values = t.values; addresses = t.addresses; pending = t.pending; waiting = t.waiting; skip = t.skip; alignment = t.alignment }
 
--- what holds at the head of the loop: the fuel left is enough, and what is left gives what the whole gives
+-- what holds at the head of the loop: the fuel left is enough, and what is left gives what the
+-- whole gives
 pub record Changes (w₀ : Walker) (space : ℕ) (s : State) (w : Walker) (t : State) : Type 0 where
   pub fuel : ℕ
   pub enough : length w₀.payload.now ≤ t.at + fuel

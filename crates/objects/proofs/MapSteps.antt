@@ -1,5 +1,5 @@
--- An object's map and head in the steps that the code takes: the map's own reading and then what follows it; the head and then the body.
--- Assumes nothing.
+-- An object's map and head in the steps that the code takes: the map's own reading and then what
+-- follows it; the head and then the body. Assumes nothing.
 use mathlib.Core.Path.{◌≡◌, refl}
 use mathlib.Core.Bool.{Bool, true, false, ◌&&◌}
 use Prim.Native.Nat.{ℕ, ◌+◌, ◌-◌, ◌*◌}

@@ -1,4 +1,5 @@
--- Which slot waits under each number after a slot record is added and after one is filled, and the index with it. Assumes nothing.
+-- Which slot waits under each number after a slot record is added and after one is filled, and the
+-- index with it. Assumes nothing.
 use mathlib.Core.Path.{◌≡◌, refl, sym, subst, ◌∙◌}
 use mathlib.Core.Bool.{Bool, true, false}
 use mathlib.Core.List.{List}

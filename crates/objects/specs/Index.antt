@@ -1,5 +1,5 @@
--- The index from pending numbers to waiting slots, and that of legacy addresses, where a reader went on. Assumes nothing: these are
--- definitions.
+-- The index from pending numbers to waiting slots, and that of legacy addresses, where a reader
+-- went on. Assumes nothing: these are definitions.
 use Rattle.std.specs.Prelude.{◌≡◌, List, ℕ, suc, ◌<◌, ◌≤◌, length, get_or, Option, Some, None, Ok, Err}
 use Rattle.tables.specs.Records.{room}
 use Rattle.address_index.specs.Links.{Linked}
@@ -14,7 +14,8 @@ abbrev pub counted : Option ℕ → ℕ
 counted (Some i) = suc i
 counted None = 0
 
--- k is right for a number: where one of the first `count` slots waits under it, k is that slot, counted from 1; else k may be anything
+-- k is right for a number: where one of the first `count` slots waits under it, k is that slot,
+-- counted from 1; else k may be anything
 abbrev pub Entry : List ℕ → ℕ → ℕ → ℕ → Type 0
 Entry slots count n k = 0 < waiter slots n count → k ≡ waiter slots n count
 

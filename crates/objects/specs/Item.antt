@@ -15,7 +15,8 @@ use Rattle.objects.specs.declared.item.Level.{Level}
 abbrev pub slot_of : ℕ → ℕ → Fields → ℕ → Reader ℕ
 slot_of o index f waits = add_slot o index f waits in_slot
 
--- an item with this value can be added to its object: the object has its record, and none of the sums overflows
+-- an item with this value can be added to its object: the object has its record, and none of the
+-- sums overflows
 pub record ItemFits (w : Walker) (s : State) (l : Level) (v : SlotValue) : Type 0 where
   pub listed : l.object < room 4 w.objects.now
   pub slots : Countable w.objects.now l.object

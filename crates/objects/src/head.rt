@@ -1,11 +1,11 @@
-// An object's head: its size, and its record.
+//! An object's head: its size, and its record.
 
 ghost use Rattle.std.specs.Prelude.{true, false, ◌≡◌, ◌^◌, ◌<◌, IfSome, IsNone};
 ghost use Rattle.sheet.specs.Sheet.{usable};
-ghost use Rattle.heads.specs.Kinds.{kind_number, new_object};
+ghost use Rattle.heads.specs.declared.kinds.Kind.TheVariants.{NewObject as NewObjectKind};
 ghost use Rattle.readers.specs.Views.{mem, seen, Below};
 ghost use Rattle.readers.specs.Lent.{input_of, lent_of, Kept};
-ghost use Rattle.objects.specs.Head.{recording, opening, opens_at, NewAt};
+ghost use Rattle.objects.specs.Head.{recording, opening, OpensAt, NewAt};
 
 use heads::heads::Head;
 use heads::kinds::Kind;
@@ -16,19 +16,21 @@ use refusals::refusal::Refusal;
 use sheet::numbers::{lo_space, six_x, word_bytes};
 use tables::records::add_object;
 
-// A new object: where its head stands, and its space. That the space is below 256 stands in clauses (`Heads` gives it, which no walker
-// promises): a ghost field would be asked of `new_object_at`.
+/// A new object, by its head. That the space is below 256 stands in the clauses of those that need
+/// it, since it follows from the sheet's heads, which a walker doesn't promise.
 #[derive(Clone, Copy)]
 pub struct NewObject {
+    /// The place of its head in the payload.
     pub tag: usize,
+    /// Its space, in a legacy sheet.
     pub space: u64,
 }
 
 impl NewObject {
-    // The new object that a head at a place begins.
+    /// The new object that a head at place `at` begins; `None` exactly where the head is another.
     pub fn of(at: usize, head: Head) -> Option<NewObject>
-        ensures some { IfSome result (λ new. (kind_number head.kind ≡ new_object) × (new ≡ record { tag = at; space = head.argument })) }
-        ensures none { IsNone result → kind_number head.kind ≡ new_object → ⊥ }
+        ensures some { IfSome result (λ new. (head.kind ≡ NewObjectKind) × (new ≡ record { tag = at; space = head.argument })) }
+        ensures none { IsNone result → head.kind ≡ NewObjectKind → ⊥ }
     {
         if head.kind != Kind::NewObject {
             return None;
@@ -40,15 +42,17 @@ impl NewObject {
     }
 }
 
-// The new object whose head stands at a place.
+/// The new object whose head stands at place `at`; `None` exactly where none stands there.
 pub fn new_object_at(w: &Walker, at: usize) -> Option<NewObject>
     ensures some { IfSome result (NewAt w.now at) }
-    ensures none { IsNone result → opens_at w.now at ≡ false }
+    ensures none { IsNone result → OpensAt w.now at → ⊥ }
 {
     NewObject::of(at, w.head_at(at)?)
 }
 
-// The size in words of an object after whose head the cursor stands; its record is added. A 6.x large object has one more byte.
+/// Reads the size of a new object after whose head the cursor stands, and adds its record: the size
+/// in words. In 6.x a large object has one byte more. Refused (docs/FORMAT.md, "Refusals") where
+/// the payload ends and where the record has no room.
 pub fn open_object(w: &mut Walker, s: State, new: NewObject) -> Answer<u64>
     requires { usable w.old.sheet.now ≡ true }
     ensures is { seen result (lent_of w.new) ≡ opening (input_of w.old) new.space new.tag (mem s (lent_of w.old)) }
@@ -63,7 +67,7 @@ pub fn open_object(w: &mut Walker, s: State, new: NewObject) -> Answer<u64>
     add_record(w, u, new.tag, words)
 }
 
-// The object's record, if there is room, as `push_value` adds a value's, but in another table; the words again.
+// The object's record, if there is room; the words again.
 #[tactic(auto, unfolding(definition::specs::Object::add_object))]
 fn add_record(w: &mut Walker, s: State, tag: usize, words: u64) -> Answer<u64>
     requires { (usable w.old.sheet.now ≡ true) × (words < 2 ^ 30) }

@@ -1,4 +1,4 @@
-// Slots and items of an object.
+//! Slots and items of an object (docs/FORMAT.md, "Slot items").
 
 ghost use Rattle.std.specs.Prelude.{◌≡◌, ◌^◌, ◌<◌, ◌≤◌, IsTrue};
 ghost use Rattle.std.specs.Int.{from_bool};
@@ -19,16 +19,21 @@ use sheet::numbers::{word_bytes, words_in};
 use tables::records::{Slot, append_slot, slot_at};
 use tables::values::{Fields, SlotValue, width};
 
-// An object that is being read: its number, its bytes and how many of them have been read, and where its head stands.
+/// An object that is being read.
 #[derive(Clone, Copy, Default)]
 pub struct Level {
+    /// Its number, the place of its record among the objects.
     pub object: usize,
+    /// Its declared bytes.
     pub size: u64,
+    /// How many of them have been read.
     pub done: u64,
+    /// The place of its head in the payload.
     pub tag: usize,
 }
 
-// A slot record of object o, if there is room, and the object's slot count with it: the record's number.
+/// Appends a slot record of object `o`, at an index in words, and counts it in the object's slot
+/// count: the record's number. Refused where there is no room for the record.
 #[tactic(auto, unfolding(definition::specs::Slots::add_slot))]
 pub fn push_slot(
     w: &mut Walker,
@@ -59,7 +64,8 @@ pub fn push_slot(
     Ok((n, t))
 }
 
-// The value of the previous slot: a function of its own, since what `w` lends for a call is known afterwards by its length alone.
+// The value of the previous slot. The walker is only read here: of a table that a call was lent,
+// the proof knows the length alone.
 fn previous(w: &Walker, s: State) -> Fields
     requires { (0 < s.slots) × (s.slots ≤ room 6 w.now.slots.now) }
     ensures { result ≡ previous (table w.now.slots.now s.slots) }
@@ -77,7 +83,8 @@ fn keep_previous(w: &mut Walker, s: State) -> Answer<u64>
     push_value(w, s, value)
 }
 
-// An item that becomes a slot, after the with-skip amount that stands: the bytes read then.
+// An item that becomes a slot, after the with-skip amount that stands: the bytes of the object that
+// have been read then.
 #[tactic(auto, unfolding(definition::specs::Slots::keep_item))]
 #[inline(always)]
 fn keep_item(w: &mut Walker, s: State, level: Level, v: SlotValue) -> Answer<u64>
@@ -106,7 +113,9 @@ fn waits_of(v: SlotValue) -> bool
     matches!(v, SlotValue::PendingRef(_))
 }
 
-// An item of an object: the bytes read then.
+/// An item of an object, from the value that was read: the bytes of the object that have been read
+/// then. A skip moves on by its bytes, stream bytes by none, a repeat of the previous slot becomes
+/// a value record first, and every other value becomes a slot. Refused where a record has no room.
 #[tactic(auto, unfolding(definition::specs::Slots::place_item))]
 pub fn place_item(w: &mut Walker, s: State, level: Level, v: SlotValue) -> Answer<u64>
     requires fits { ItemFits w.old s level v }

@@ -1,4 +1,5 @@
-// What is read of an object beside references: its head, items, map and resolves.
+//! What is read of an object beside references (docs/FORMAT.md, "Objects"): its head, its items,
+//! what follows its map, and the resolves.
 #![tactic(auto)]
 
 pub mod head;

@@ -1,4 +1,5 @@
-// What follows an object's map: legacy allocation, the flag of a trusted map, and slot 0.
+//! What follows an object's map: legacy allocation (docs/FORMAT.md, "Legacy allocation"), the flag
+//! of a trusted map, and slot 0.
 
 ghost use Rattle.std.specs.Prelude.{true, ◌≡◌, List, ℕ, ◌+◌, ◌-◌, ◌*◌, ◌^◌, ◌<◌, ◌≤◌, length, get_or, OnOk, OnErr, IfErr, IfSome, IsNone};
 ghost use Rattle.sheet.specs.Sheet.{usable};
@@ -49,8 +50,10 @@ fn enter_record(w: &mut Walker, n: usize)
     }
 }
 
-// Address record n and its entry in the index: the alignment that is pending then. Refused, nothing changes. `LegacyAlloc::allocate` does the
-// like by value, as the order wants it; the walk lends its counters (docs/DECISIONS.md).
+/// Appends address record `n` and its entry in the index of legacy addresses: the alignment that is
+/// pending then, in bytes. Where it is refused (no room, or an address too large), nothing changes.
+/// `LegacyAlloc::allocate` does the same with counters by value; the walk lends its own
+/// (docs/DECISIONS.md).
 pub fn allocate_record(w: &mut Walker, n: usize, want: Request) -> Result<u64, Refusal>
     requires { (want.space < 256) × (want.word ≤ 8) × Linked w.old.addresses.now n w.old.index.now }
     ensures is { allocated want.alignment result w.new.alloc w.new.addresses.now ≡ allocate_of w.old.addresses.now n w.old.spaces want w.old.alloc }
@@ -69,8 +72,8 @@ pub fn allocate_record(w: &mut Walker, n: usize, want: Request) -> Result<u64, R
     Ok(placed.alignment)
 }
 
-// An address record of object o, and its entry in the index. Refused, nothing changes. Space, bytes and object are a `Request` once alignment
-// and word are known: a struct of these three would be made at each call for this one.
+/// Appends an address record of object `o` of so many bytes in a space, and its entry in the index,
+/// and takes the alignment that is pending. Where it is refused, nothing changes.
 #[inline(always)]
 pub fn allocate_object(w: &mut Walker, s: State, space: u64, bytes: u64, o: u64) -> Answer<()>
     requires sheet_value { (usable w.old.sheet.now ≡ true) × (space < 256) × (bytes < 2 ^ 33) }
@@ -96,8 +99,7 @@ pub fn allocate_object(w: &mut Walker, s: State, space: u64, bytes: u64, o: u64)
     Ok(((), t))
 }
 
-// Chunk changes at the cursor, as long as they name this space: a `while` over the cursor, which an iterator over pairs would have to count
-// again.
+// Chunk changes at the cursor, as long as they name this space.
 fn chunk_changes(w: &mut Walker, s: State, space: u64) -> State
     requires { (space < 256) × (s.at ≤ length w.old.payload.now) × (get_or w.old.alloc.cur space 0 ≤ s.at) × (length w.old.payload.now ≤ 16777216) }
     ensures is { got tt (mem result (lent_of w.new)) ≡ chunk_changes (input_of w.old) space (length w.old.payload.now - s.at) (mem s (lent_of w.old)) }
@@ -115,7 +117,8 @@ fn chunk_changes(w: &mut Walker, s: State, space: u64) -> State
     t
 }
 
-// After a map that comes first: the alignment of a prefix at the cursor, or the one that stood before the map.
+// After a map that comes first: the alignment of a prefix at the cursor, or the one that stood
+// before the map.
 #[tactic(auto, using(crate::proofs::MapLaws::prefix_there))]
 fn pass_prefix(w: &Walker, s: State, before: u64) -> State
     requires { (usable w.now.sheet.now ≡ true) × (s.at ≤ length w.now.payload.now) }
@@ -135,8 +138,10 @@ fn pass_prefix(w: &Walker, s: State, before: u64) -> State
     }
 }
 
-// After an object's map: where the map comes first, alignment, chunk changes and allocation; in other legacy sheets allocation. The
-// alignment that stood before a map that comes first is not the map's.
+/// What follows the map of object `o`, of so many bytes in a space: where the map comes first, an
+/// alignment prefix, chunk changes and allocation; in other legacy sheets allocation; else nothing.
+/// `before` is the alignment that was pending before the map: where the map comes first it is the
+/// object's. Refused as an allocation is.
 pub fn after_map(
     w: &mut Walker,
     s: State,
@@ -162,7 +167,7 @@ pub fn after_map(
     allocate_object(w, u, space, bytes, o)
 }
 
-// A map that is a root which the trusted list flags.
+/// `v` is a root that the trusted list flags: its place in the list is not 0.
 pub fn is_flagged(trusted: &[u8], v: SlotValue) -> bool
     ensures { (sh p : List ℕ) (sp : ℕ) → result ≡ is_flagged (input sh p sp trusted.now) v }
 {
@@ -185,7 +190,8 @@ fn flag_object(w: &mut Walker, o: usize, v: SlotValue)
     }
 }
 
-// Slot 0 is the map, and the object is flagged where the map is trusted.
+/// Keeps the map of object `o` as its slot 0, and flags the object where the map is trusted.
+/// Refused where the slot has no room.
 #[tactic(auto, unfolding(definition::specs::Object::keep_map, definition::specs::Slots::add_slot))]
 pub fn keep_map(w: &mut Walker, s: State, o: usize, v: SlotValue) -> Answer<()>
     requires { (o < room 4 w.old.objects.now) × (field 4 w.old.objects.now o 3 < 2 ^ 62) × (s.waiting < 2 ^ 63) }

@@ -1,5 +1,6 @@
-// Pending forward references: their places in scratch, the search, and the resolves after an object's map. No map from numbers to slots,
-// since the library has no heap.
+//! Pending forward references: their places in scratch, the search, and the resolves after an
+//! object's map (docs/FORMAT.md, "Pending forward references"). The places for pending numbers name
+//! the slot that waits under each number; a number past them is searched for in the slots.
 
 ghost use Rattle.std.specs.Prelude.{true, ◌≡◌, ℕ, ◌-◌, ◌<◌, ◌≤◌, length, set};
 ghost use Rattle.sheet.specs.Sheet.{usable};
@@ -19,7 +20,7 @@ use sheet::tests::is_tag;
 use stream::bytes::peek;
 use tables::records::{fill_slot, slot_at};
 
-// x at place i of the places for pending numbers, where there is that place. (std does not say what a slice ends as after `get_mut`.)
+/// Puts `x` at place `i` of the places for pending numbers; nothing where there is no such place.
 pub fn note(pending: &mut [u64], i: u64, x: u64)
     ensures { pending.new ≡ set pending.old i x }
 {
@@ -45,8 +46,8 @@ fn find_waiter(slots: &[u64], number: u64, n: usize) -> Option<usize>
     (0..n).rev().find(|k| waits_for(slots, number, *k))
 }
 
-// The same, from k, which stands under the number in scratch. Where no slot waits under it, k may be anything; so it counts only if the
-// slot that it names waits.
+// The same, from k, which stands under the number in scratch. Where no slot waits under the number,
+// k may be anything, so it counts only if the slot that it names waits.
 #[tactic(auto, using(crate::proofs::WaiterLaws::waiter_low, crate::proofs::WaiterLaws::confirmed_test))]
 fn confirmed(slots: &[u64], number: u64, n: usize, k: u64) -> Option<usize>
     requires { (n ≤ room 6 slots.now) × Entry slots.now n number k }
@@ -60,8 +61,8 @@ fn confirmed(slots: &[u64], number: u64, n: usize, k: u64) -> Option<usize>
     waits_for(slots, number, slot).then_some(slot)
 }
 
-// The same, by scratch where it has a place; and with no search under a number that was not given out, or where no slot waits. The length is
-// asked before the place, since what is past it is searched for.
+// The same, by scratch where it has a place for the number, and with no search where the number was
+// not given out or no slot waits.
 fn lookup(w: &Walker, s: State, number: u64) -> Option<usize>
     requires { Waiting w.now s }
     ensures { counted result ≡ waiter w.now.slots.now number s.slots }
@@ -105,7 +106,8 @@ fn resolve(w: &mut Walker, s: State, number: u64, o: u64) -> State
     with_waiting(s, s.waiting - 1)
 }
 
-// Resolves as long as they stand at the cursor: the step is what was read, so that a `for` would be no plainer.
+/// Resolves, as long as they stand at the cursor after the map of object `o`: the slot that waits
+/// under each number becomes a reference to `o`. Refused where the payload ends in a number.
 #[inline(always)]
 pub fn resolves(w: &mut Walker, s: State, o: u64) -> Answer<()>
     requires usable { (usable w.old.sheet.now ≡ true) × (s.at ≤ length w.old.payload.now) }

@@ -1,6 +1,6 @@
 -- An object whose map is a leaf: its head, its map, its address and its slot 0. Assumes nothing.
 use Rattle.std.specs.Prelude.{◌≡◌, refl, Bool, true, false, List, ℕ, ◌+◌, ◌*◌, ◌^◌, ◌<◌, ltb, eqb}
-use Rattle.std.proofs.Common.{arith, ap}
+use Rattle.std.proofs.Common.{arith, ap, subst, lt-ltb}
 use Rattle.sheet.specs.Sheet.{is_legacy, word_bytes}
 use Rattle.heads.specs.Heads.{Heads}
 use Rattle.tables.specs.declared.values.Fields.{Fields}
@@ -11,7 +11,7 @@ use Rattle.tables.proofs.RecordLaws.{written_same}
 use Rattle.alloc.specs.declared.legacy_alloc.LegacyAlloc.{LegacyAlloc}
 use Rattle.alloc.specs.Allocation.{Outcome, allocate_of}
 use Rattle.backref.specs.declared.hot_ring.HotRing.{HotRing}
-use Rattle.definition.specs.Memory.{Input, word, Table, table, Mem, got, int, Reader, choose, refuse, change, with_alloc, ◌>>=◌, ◌>>◌, give}
+use Rattle.definition.specs.Memory.{Input, word, Table, table, Mem, Out, got, and_then, int, Reader, choose, refuse, change, with_alloc, ◌>>=◌, ◌>>◌, give}
 use Rattle.definition.specs.Slots.{add_slot}
 use Rattle.definition.specs.Object.{add_object, allocate, flags, flag_object, map_then_allocate, read_map, keep_map}
 use Rattle.definition.specs.Reference.{reference}
@@ -25,9 +25,9 @@ use Rattle.objects.specs.Map.{AddressAlone}
 use Rattle.objects.specs.Index.{Indexed}
 use Rattle.objects.proofs.WaiterLaws.{indexed_plain}
 use Rattle.leaves.specs.declared.leaf.Leaf.{Leaf}
-use Rattle.leaves.specs.Leaf.{ring, after}
-use Rattle.leaves.proofs.LeafLaws.{leaf_read}
-use Rattle.opened_leaves.specs.Opening.{opened, MapAt, Given}
+use Rattle.leaves.specs.Leaf.{ring, after, Refused, NoLeafAt}
+use Rattle.leaves.proofs.LeafLaws.{leaf_read, leaf_refused, refused_then}
+use Rattle.opened_leaves.specs.Opening.{opened, MapAt, MapByte, Given}
 
 -- ---- the address
 
@@ -39,7 +39,8 @@ by_outcome : (b : Bool) (t : Table) (a : ℕ) (c : LegacyAlloc) (k : ℕ) (m : M
 by_outcome true t a c k m e = (refl, (cc))
 by_outcome false t a c k m e = absurd (let z : ◌≡◌ {A = ℕ} 0 1 = cc in omega arith)
 
--- where an address was given, it is also given in every other memory with these addresses, this alignment and these counters
+-- where an address was given, it is also given in every other memory with these addresses, this
+-- alignment and these counters
 module _ (x : Input) (space bytes o : ℕ) (m : Mem) {m' : Mem} where
   carried : (b : Bool) → got tt m' ≡ choose b (allocate x space bytes o) (give tt) m
       → (m' ≡ allocated m' m) × ((n : Mem) → n.addresses ≡ m.addresses → n.alignment ≡ m.alignment → n.alloc ≡ m.alloc → got tt (allocated m' n) ≡ choose b (allocate x space bytes o) (give tt) n)
@@ -80,13 +81,29 @@ slot_kept x o v s l f b eo es =
     let z : s.waiting + 0 ≡ s.waiting = omega arith in
     rw (f, b, eo, es, z)
 
--- ---- the whole
+-- ---- where no leaf is the map
 
 -- the state after the object's record, the integer before the map having so many bytes
 abbrev recorded : ℕ → State → State
 recorded count s =
     record
     { at = s.at + count; objects = s.objects + 1; slots = s.slots; values = s.values; addresses = s.addresses; pending = s.pending; waiting = s.waiting; skip = s.skip; alignment = s.alignment }
+
+pub map_refused : (w : Walker) (s : State) (count : ℕ) (space tag : ℕ) → Heads w.sheet.now w.heads.now → MapByte w s count → NoLeafAt w (s.at + count) (s.objects + 1) → s.objects < room 4 w.objects.now → (inner : Reader SlotValue)
+    → Refused (opened (input_of w) (reference (input_of w) inner) space tag s.objects (mem s (lent_of w)))
+unfolding int add_object
+map_refused w s count space tag decoded b missing roomy inner =
+    let x : Input = input_of w in
+    let bytes : ℕ = b.words * word x in
+    let l : Lent = objects_is (written w.objects.now s.objects (object_row bytes tag)) (lent_of w) in
+    let m₁ : Mem = mem (recorded count s) l in
+    let head : got b.words m₁ ≡ opening x space tag (mem s (lent_of w)) = rw (← b.sized, b.no_large_byte, lt-ltb s.objects (room 4 w.objects.now) roomy) refl in
+    let r : Refused (reference x inner m₁) = leaf_refused w (recorded count s) l refl decoded b.leaf.0 missing inner in
+    let map : Refused (read_map x (reference x inner) space bytes s.objects m₁) = rw (b.not_first, b.no_address) r in
+    let rest : ℕ → Reader ℕ = λ words. read_map x (reference x inner) space (words * word x) s.objects >>= keep_map x s.objects >> give (words * word x) in
+    subst (λ (o : Out ℕ). Refused (and_then o rest)) head (refused_then _ (λ (u : Unit {0}). give bytes) (refused_then _ (keep_map x s.objects) map))
+
+-- ---- the whole
 
 -- the state after the map's slot, from the one before all and the one after the address
 abbrev opened_state : Leaf → State → State → State

@@ -1,5 +1,6 @@
--- An object whose map is a leaf, opened without the readers of every reference. Assumes nothing: these are definitions.
-use Rattle.std.specs.Prelude.{◌≡◌, false, List, ℕ, ◌+◌, ◌*◌, ◌^◌, ◌<◌, Option, Some, None}
+-- An object whose map is a leaf, opened without the readers of every reference. Assumes nothing:
+-- these are definitions.
+use Rattle.std.specs.Prelude.{◌≡◌, true, false, List, ℕ, ◌+◌, ◌*◌, ◌^◌, ◌<◌, Option, Some, None}
 use Rattle.stream.specs.PutInt.{int_at}
 use Rattle.sheet.specs.Sheet.{is_six_x, is_map_first, is_legacy}
 use Rattle.tables.specs.declared.values.SlotValue.{SlotValue}
@@ -11,7 +12,7 @@ use Rattle.readers.specs.declared.walker.Walker.{Walker}
 use Rattle.readers.specs.Views.{input, mem}
 use Rattle.readers.specs.Lent.{input_of, lent_of, Untouched}
 use Rattle.leaves.specs.declared.leaf.Leaf.{Leaf}
-use Rattle.leaves.specs.Leaf.{LeafAt}
+use Rattle.leaves.specs.Leaf.{LeafAt, LeafByte}
 use Rattle.objects.specs.Head.{opening}
 use Rattle.objects.specs.Map.{AddressAlone}
 
@@ -21,8 +22,8 @@ opened x r space tag o =
     opening x space tag
     >>= (λ words. read_map x r space (words * word x) o >>= keep_map x o >> give (words * word x))
 
--- the size stands at the cursor and the map after it, a leaf that sets no flag; no byte of a large object stands between them, and nothing
--- but an allocation follows the map, no resolve either
+-- the size stands at the cursor and the map after it, a leaf that sets no flag; no byte of a large
+-- object stands between them, and nothing but an allocation follows the map, no resolve either
 pub record MapAt (w : Walker) (s : State) (words : ℕ) (map : Leaf) : Type 0 where
   pub no_large_byte : is_six_x w.sheet.now ≡ false
   pub not_first : is_map_first w.sheet.now ≡ false
@@ -32,7 +33,19 @@ pub record MapAt (w : Walker) (s : State) (words : ℕ) (map : Leaf) : Type 0 wh
   pub leaf : LeafAt w (s.at + count) (s.objects + 1) (Some map)
   pub unflagged : (sh q : List ℕ) (sp : ℕ) → flags (input sh q sp w.trusted.now) map.value ≡ false
 
--- in a legacy sheet an address record of object o, which is in the index then; in others nothing changes, and where it is refused neither
+-- the size stands at the cursor, and after it the head of what may be a leaf; nothing but the map
+-- follows, and no root is flagged
+pub record MapByte (w : Walker) (s : State) (count : ℕ) : Type 0 where
+  pub no_large_byte : is_six_x w.sheet.now ≡ false
+  pub not_first : is_map_first w.sheet.now ≡ false
+  pub no_address : is_legacy w.sheet.now ≡ false
+  pub words : ℕ
+  pub sized : Some (record { value = words; count = count }) ≡ int_at w.payload.now s.at
+  pub leaf : LeafByte w (s.at + count)
+  pub unflagged : (v : SlotValue) (sh q : List ℕ) (sp : ℕ) → flags (input sh q sp w.trusted.now) v ≡ false
+
+-- in a legacy sheet an address record of object o, which is in the index then; in others nothing
+-- changes, and where it is refused neither
 pub record Given (w : Walker) (s : State) (space bytes o : ℕ) (t : State) (w' : Walker) : Type 0 where
   pub alone : AddressAlone w w'
   pub given : got tt (mem t (lent_of w')) ≡ choose (is_legacy w.sheet.now) (allocate (input_of w) space bytes o) (give tt) (mem s (lent_of w))
@@ -40,4 +53,4 @@ pub record Given (w : Walker) (s : State) (space bytes o : ℕ) (t : State) (w' 
 
 abbrev pub AddressGiven : Walker → State → ℕ → ℕ → ℕ → Option State → Walker → Type 0
 AddressGiven w s space bytes o (Some t) w' = Given w s space bytes o t w'
-AddressGiven w s space bytes o None w' = AddressAlone w w' × Untouched w w'
+AddressGiven w s space bytes o None w' = AddressAlone w w' × Untouched w w' × (is_legacy w.sheet.now ≡ true)

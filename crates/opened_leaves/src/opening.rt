@@ -1,14 +1,14 @@
-// Objects whose map is a leaf, opened without the readers of every reference.
+//! Objects whose map is a leaf, with their head, their map and their address.
 
-ghost use Rattle.std.specs.Prelude.{true, ◌≡◌, ◌+◌, ◌*◌, ◌^◌, ◌<◌, ◌≤◌, IfSome, IsNone};
+ghost use Rattle.std.specs.Prelude.{true, false, ℕ, ◌≡◌, ◌+◌, ◌*◌, ◌^◌, ◌<◌, ◌≤◌, IfSome, IsNone};
 ghost use Rattle.sheet.specs.Sheet.{usable};
 ghost use Rattle.tables.specs.Records.{room};
 ghost use Rattle.address_index.specs.Links.{Linked};
 ghost use Rattle.definition.specs.Reference.{reference};
 ghost use Rattle.readers.specs.Lent.{input_of, PendingKept, Untouched};
 ghost use Rattle.objects.specs.Index.{Indexed};
-ghost use Rattle.leaves.specs.Leaf.{ReadAs};
-ghost use Rattle.opened_leaves.specs.Opening.{opened, MapAt, AddressGiven};
+ghost use Rattle.leaves.specs.Leaf.{NoLeafAt, ReadAs, RefusedAs};
+ghost use Rattle.opened_leaves.specs.Opening.{opened, MapAt, MapByte, AddressGiven};
 
 use leaves::leaf::{Leaf, enter, leaf_at};
 use objects::head::NewObject;
@@ -20,13 +20,14 @@ use stream::putint::putint;
 use tables::records::{OBJECT_FIELDS, SLOT_FIELDS, Slot, add_object, append_slot, has_room};
 use tables::values::Fields;
 
-// The size in words and the map of an object after whose head the cursor stands, where the map is a leaf that is not flagged. Where a large
-// object has a byte after its size, and where its map comes first, it is left to others. The address is `open_leaf`'s, and the resolves are
-// the caller's.
+// The size in words and the map of an object after whose head the cursor stands, where the map is a
+// leaf that the trusted list does not flag. Sheets in which a large object has a byte after its
+// size or the map comes before the address are left to the readers of every object.
 #[inline(always)]
 fn map_at(w: &Walker, s: State) -> Option<(u64, Leaf)>
     requires { s.objects < 2 ^ 63 }
-    ensures { IfSome result (λ r. MapAt w.now s r.0 r.1) }
+    ensures some { IfSome result (λ r. MapAt w.now s r.0 r.1) }
+    ensures none { IsNone result → (count : ℕ) → MapByte w.now s count → NoLeafAt w.now (s.at + count) (s.objects + 1) }
 {
     if six_x(w.sheet) || map_first(w.sheet) {
         return None;
@@ -39,8 +40,8 @@ fn map_at(w: &Walker, s: State) -> Option<(u64, Leaf)>
     Some((size.value as u64, map))
 }
 
-// In a legacy sheet an address record of object o of so many bytes; in others an object has none. Where it is refused, nothing is changed,
-// and the object is read again by the readers of every object, which say what is refused.
+// In a legacy sheet an address record of object o of so many bytes; in others an object has none.
+// Where it is refused, nothing is changed, and the readers of every object say which refusal it is.
 fn give_address(w: &mut Walker, s: State, space: u64, bytes: u64, o: u64) -> Option<State>
     requires { (usable w.old.sheet.now ≡ true) × (space < 256) × (bytes < 2 ^ 33) × Linked w.old.addresses.now s.addresses w.old.index.now }
     ensures { AddressGiven w.old s space bytes o result w.new }
@@ -52,17 +53,24 @@ fn give_address(w: &mut Walker, s: State, space: u64, bytes: u64, o: u64) -> Opt
     Some(t)
 }
 
-// There is room for one more object and one more slot. A function of the walker, since of a table that is lent by itself only the length is
-// known afterwards.
+// There is room for one more object and one more slot. The walker is only read here: of a table
+// that a call was lent, the proof knows the length alone.
 #[inline(always)]
 fn records_fit(w: &Walker, s: State) -> bool
-    ensures { result ≡ true → (s.objects < room 4 w.now.objects.now) × (s.slots < room 6 w.now.slots.now) }
+    ensures fit { result ≡ true → (s.objects < room 4 w.now.objects.now) × (s.slots < room 6 w.now.slots.now) }
+    ensures full { result ≡ false → s.objects < room 4 w.now.objects.now → s.slots < room 6 w.now.slots.now → ⊥ }
 {
     has_room(w.objects, OBJECT_FIELDS, s.objects) && has_room(w.slots, SLOT_FIELDS, s.slots)
 }
 
-// The object after whose head the cursor stands, with its map in slot 0 and its address: its bytes. None where `map_at` finds none, where a
-// record has no room or the address is refused, and at the last level, where a map is refused; then nothing is changed.
+/// Opens the object after whose head the cursor stands, at depth `d`, where its map is a leaf: its
+/// record, its map in slot 0 and its address. Gives its declared bytes, and the state after its
+/// map; resolves that follow are the caller's.
+///
+/// `None` only at depth 64, where no size with a leaf's head after it stands there, where a root is
+/// flagged, where a record has no room, where the definition refuses, and in legacy sheets; then
+/// nothing is changed. What the function finds in a legacy sheet is left free: there an address is
+/// given too, and the walk's answer is the same either way.
 #[inline(always)]
 pub fn open_leaf(w: &mut Walker, s: State, d: usize, new: NewObject) -> Option<(u64, State)>
     requires usable { (usable w.old.sheet.now ≡ true) × (new.space < 256) × (s.objects < 2 ^ 63) }
@@ -71,6 +79,7 @@ pub fn open_leaf(w: &mut Walker, s: State, d: usize, new: NewObject) -> Option<(
     ensures linked { IfSome result (λ r. Linked w.new.addresses.now r.1.addresses w.new.index.now) }
     ensures indexed { IfSome result (λ r. Indexed w.old.slots.now s.slots w.old.pending.now → Indexed w.new.slots.now r.1.slots w.new.pending.now) }
     ensures none { IsNone result → Untouched w.old w.new }
+    ensures found { IsNone result → d < 64 → (count : ℕ) → MapByte w.old s count → s.objects < room 4 w.old.objects.now → s.slots < room 6 w.old.slots.now → RefusedAs w.old s (λ inner. opened (input_of w.old) (reference (input_of w.old) inner) new.space new.tag s.objects) }
     ensures rest { PendingKept w.old w.new }
 {
     if DEEPEST <= d {

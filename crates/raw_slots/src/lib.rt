@@ -1,4 +1,4 @@
-// The bytes of a raw slot.
+//! The view of a raw slot: which bytes of the payload it stands for.
 #![tactic(auto)]
 
 pub mod view;

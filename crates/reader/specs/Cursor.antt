@@ -1,4 +1,5 @@
--- Where the cursor stands after a read, and the bytes of a raw range. Assumes nothing: these are definitions.
+-- Where the cursor stands after a read, and the bytes of a raw range. Assumes nothing: these are
+-- definitions.
 use Rattle.std.specs.Prelude.{cond, Bool, true, false, List, [], ℕ, ◌+◌, length, take, drop, ltb, eqb, Option, Some, None}
 use Rattle.stream.specs.Bytes.{peek_at}
 use Rattle.stream.specs.declared.putint.Int.{Int}
@@ -30,7 +31,7 @@ abbrev pub past_raw : Option ℕ → ℕ → ℕ
 past_raw (Some end) at = end
 past_raw None at = at
 
--- the bytes of a raw range: that part of the payload itself, and none where it passes the payload's end
+-- the bytes of a raw range; none where it passes the payload's end
 abbrev pub bytes_of : List ℕ → ℕ → ℕ → Option ℕ → List ℕ
 bytes_of p at n (Some end) = take n (drop at p)
 bytes_of p at n None = []

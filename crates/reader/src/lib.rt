@@ -1,22 +1,47 @@
-// The reading half of a walk: the payload, borrowed, and a cursor in it.
+//! The reading half of a walk: the payload, borrowed, and a cursor in it.
+//!
+//! | Function | What it gives | Where the cursor stands then |
+//! |---|---|---|
+//! | `Reader::new(payload, at)` | a reader at that place | `at`, which need not lie in the payload |
+//! | `peek(self)` | the byte at the cursor (`Cursor.byte_at`) | the caller's copy stays |
+//! | `view(self, n)` | the `n` bytes at the cursor, of the payload itself | the caller's copy stays |
+//! | `byte(&mut self)` | the byte at the cursor | after the byte (`Cursor.past_byte`) |
+//! | `putint(&mut self)` | the integer (`PutInt.int_at`), below 2^30 | after it (`Cursor.past_int`) |
+//! | `raw(&mut self, n)` | where a raw range of `n` bytes ends | at that end (`Cursor.past_raw`) |
+//! | `size_after_tag(payload, at)` | the integer at `at + 1` | there is none |
+//!
+//! No function has a `requires`: where bytes are missing the answer is `None`, and `view`'s is
+//! empty, and the cursor stays. This differs from crate `readers`, where a refusal's place is the
+//! payload's end.
+//!
+//! `Reader` is a struct that holds a slice at its own lifetime: it is made, passed by value as
+//! `self`, returned, and lent as `&mut`. The toolchain covers all of these forms, so there is no
+//! proof by hand here and no proofs/: the check finds each proof from std's lemmas on tests and
+//! from the definitions of `stream` that the attributes name.
+//!
+//! The crates of the walk (`readers`, `walker`, `graph`) take payload and state as parameters, and
+//! do not use `Reader`.
 #![tactic(auto, using(std::proofs::lemmas::Bool::Decides::nat_tests), unfolding(stream::specs::Bytes::raw_at, stream::specs::PutInt::int_at))]
 
-ghost use Rattle.std.specs.Prelude.{◌≡◌, ◌+◌};
-ghost use Rattle.stream.specs.Bytes.{raw_at};
+ghost use Rattle.std.specs.Prelude.{◌≡◌, ◌+◌, OnSome};
+ghost use Rattle.stream.specs.Bytes.{raw_at, LiesAt};
 ghost use Rattle.stream.specs.PutInt.{int_at, Small};
 ghost use Rattle.reader.specs.Cursor.{byte_at, moved_to, past_byte, past_int, past_raw, bytes_of};
 
 use stream::bytes::raw;
 use stream::putint::{Int, putint};
 
+/// A payload and a cursor in it.
 #[derive(Clone, Copy)]
 pub struct Reader<'a> {
+    /// The bytes that are read.
     pub payload: &'a [u8],
+    /// The cursor: bytes from the payload's start. It may pass the payload's end.
     pub at: usize,
 }
 
 impl<'a> Reader<'a> {
-    // A reader of a payload, at a place that need not lie in it.
+    /// A reader of a payload, at a place that need not lie in it.
     pub fn new(payload: &'a [u8], at: usize) -> Self
         ensures payload { result.payload ≡ payload.entry }
         ensures at { result.at ≡ at }
@@ -24,7 +49,7 @@ impl<'a> Reader<'a> {
         Self { payload, at }
     }
 
-    // The byte at the cursor; none where none is left.
+    /// The byte at the cursor; `None` where none is left.
     #[tactic(auto, unfolding(stream::specs::Bytes::peek_at))]
     pub fn peek(self) -> Option<u8>
         ensures { result ≡ byte_at self.entry.payload.now self.entry.at }
@@ -32,9 +57,15 @@ impl<'a> Reader<'a> {
         self.payload.get(self.at).copied()
     }
 
-    // The n bytes at the cursor, of the payload itself; none where they pass its end.
+    /// The `n` bytes at the cursor: that part of the payload itself, in its memory.
+    ///
+    /// Where they pass the payload's end the slice is empty, and its memory is not said. `raw`
+    /// tells this from a range of no bytes.
     pub fn view(self, n: usize) -> &'a [u8]
-        ensures { result.now ≡ bytes_of self.entry.payload.now self.entry.at n (raw_at self.entry.payload.now self.entry.at n) }
+        ensures bytes { let end = raw_at self.entry.payload.now self.entry.at n
+            in result.now ≡ bytes_of self.entry.payload.now self.entry.at n end }
+        ensures memory { let end = raw_at self.entry.payload.now self.entry.at n
+            in OnSome end (LiesAt result self.entry.payload self.entry.at) }
     {
         match raw(self.payload, self.at, n) {
             Some(end) => &self.payload[self.at..end],
@@ -42,7 +73,8 @@ impl<'a> Reader<'a> {
         }
     }
 
-    // The byte at the cursor; none where none is left. The cursor moves past the byte.
+    /// The byte at the cursor, which moves past it; `None` where none is left, and then the cursor
+    /// stays.
     #[tactic(auto, using(std::proofs::lemmas::Bool::Decides::nat_tests), unfolding(stream::specs::Bytes::peek_at))]
     pub fn byte(&mut self) -> Option<u8>
         ensures value { result ≡ byte_at self.old.payload.now self.old.at }
@@ -53,7 +85,8 @@ impl<'a> Reader<'a> {
         Some(byte)
     }
 
-    // The end of a raw range of n bytes at the cursor; none where it passes the payload's end. The cursor moves to that end.
+    /// The end of a raw range of `n` bytes at the cursor, which moves there; `None` where the range
+    /// passes the payload's end, and then the cursor stays.
     pub fn raw(&mut self, n: usize) -> Option<usize>
         ensures value { result ≡ raw_at self.old.payload.now self.old.at n }
         ensures cursor { self.new ≡ moved_to self.old (past_raw result self.old.at) }
@@ -63,7 +96,8 @@ impl<'a> Reader<'a> {
         Some(end)
     }
 
-    // The integer at the cursor; none where the payload ends before it does. The cursor moves past it.
+    /// The integer at the cursor, which moves past it; `None` where the payload ends before the
+    /// integer does, and then the cursor stays.
     pub fn putint(&mut self) -> Option<Int>
         ensures value { result ≡ int_at self.old.payload.now self.old.at }
         ensures small { Small result }
@@ -75,7 +109,8 @@ impl<'a> Reader<'a> {
     }
 }
 
-// The size integer of a new object whose tag stands at a place.
+/// The size integer, in words, of a new object whose head byte stands at a place; `None` where the
+/// payload ends before the integer does.
 pub fn size_after_tag(payload: &[u8], at: usize) -> Option<Int>
     ensures { result ≡ int_at payload.now (at + 1) }
 {

@@ -1,5 +1,4 @@
 pub mod ViewLaws
 pub mod IntLaws
 pub mod SimpleLaws
-pub mod HeadFacts
 pub mod PrefixLaws

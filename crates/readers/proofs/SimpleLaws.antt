@@ -7,8 +7,7 @@ use borrow.Author.Tests.{lt-ltb, le-ltb}
 use Rattle.std.specs.Prelude.{Option, Some, Ok}
 use Rattle.stream.specs.Bytes.{raw_at}
 use Rattle.heads.specs.declared.kinds.Kind.{Kind}
-use Rattle.heads.specs.declared.kinds.Kind.TheVariants.{LegacyBackrefWithSkip, HotWithSkip, RootConstantWithSkip, Api}
-use Rattle.heads.specs.Kinds.{kind_number, off_heap_target}
+use Rattle.heads.specs.declared.kinds.Kind.TheVariants.{LegacyBackrefWithSkip, HotWithSkip, RootConstantWithSkip, Api, OffHeapTarget}
 use Rattle.std.proofs.Common.{rules}
 use Rattle.tables.specs.declared.values.Ref.{Ref}
 use Rattle.tables.specs.declared.values.Ref.TheVariants.{Object, RoRef}
@@ -55,7 +54,7 @@ product_small h l = mul-le-mul (le_of_lt h) (le_of_lt l)
 -- ---- what a head is that none of a match's arms has
 
 module _ (x : Input) (a : ℕ) (m : Mem) where
-  pub skipped_target : (k : Kind) → (k ≡ LegacyBackrefWithSkip → ⊥) → (k ≡ HotWithSkip → ⊥) → (k ≡ RootConstantWithSkip → ⊥) → (k ≡ Api → ⊥) → (int x >> refers (RoRef (2 ^ 32 - 5) 0)) m ≡ skipped_to x (kind_number k) a m
+  pub skipped_target : (k : Kind) → (k ≡ LegacyBackrefWithSkip → ⊥) → (k ≡ HotWithSkip → ⊥) → (k ≡ RootConstantWithSkip → ⊥) → (k ≡ Api → ⊥) → (int x >> refers (RoRef (2 ^ 32 - 5) 0)) m ≡ skipped_to x k a m
   skipped_target k e f g h = search rules
 
 -- ---- heads whose readers the definition groups from the left
@@ -67,5 +66,5 @@ module _ (x : Input) (m : Mem) {o : Out SlotValue} where
   pub embedder_grouped : o ≡ read_ints (λ a b. StreamBytes b) x m → o ≡ (int x >> int x >>= (λ n. give (StreamBytes n))) m
   embedder_grouped h = regrouped (int x m) (λ _. int x) (λ n. give (StreamBytes n)) h
 
-  pub target_grouped : (a : ℕ) → o ≡ read_skipped x off_heap_target a m → o ≡ (skip_amount x >> int x >> refers (RoRef (2 ^ 32 - 5) 0)) m
+  pub target_grouped : (a : ℕ) → o ≡ read_skipped x OffHeapTarget a m → o ≡ (skip_amount x >> int x >> refers (RoRef (2 ^ 32 - 5) 0)) m
   target_grouped a h = regrouped (skip_amount x m) (λ _. int x) (λ _. refers (RoRef (2 ^ 32 - 5) 0)) h

@@ -1,4 +1,5 @@
--- An answer as an `Out`, once its variant is known, what a reader that goes on from it gives, and records put into tables. Assumes nothing.
+-- An answer as an `Out`, once its variant is known, what a reader that goes on from it gives, and
+-- records put into tables. Assumes nothing.
 use mathlib.Core.Path.{◌≡◌, sym, ap, ◌∙◌}
 use mathlib.Core.Bool.{Bool, true, false}
 use mathlib.Core.List.{List, []}

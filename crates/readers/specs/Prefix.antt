@@ -1,7 +1,9 @@
--- What stands before another reference, as data: how the value that follows is held. Assumes nothing: these are definitions.
+-- What stands before another reference, as data: how the value that follows is held. Assumes
+-- nothing: these are definitions.
 use Rattle.std.specs.Prelude.{◌≡◌, ℕ, Ok, Err}
 use Rattle.refusals.specs.Numbers.{number_of}
-use Rattle.heads.specs.Kinds.{next_chunk, alignment, weak_prefix, pointer_prefix, fixed_repeat, fixed_repeat_root, variable_repeat, variable_repeat_root}
+use Rattle.heads.specs.declared.kinds.Kind.{Kind}
+use Rattle.heads.specs.declared.kinds.Kind.TheVariants.{NextChunk, Alignment, WeakPrefix, PointerPrefix, FixedRepeat, FixedRepeatRoot, VariableRepeat, VariableRepeatRoot}
 use Rattle.tables.specs.declared.values.Ref.TheVariants.{Root}
 use Rattle.tables.specs.declared.values.SlotValue.{SlotValue}
 use Rattle.tables.specs.declared.values.SlotValue.TheVariants.{Ref as IsRef}
@@ -21,23 +23,24 @@ held Weak v = weak_of v
 held (Repeated n) v = repeat_of n v
 
 -- none of the heads that hold another reference or a repeated root
-pub record Holdless (kind : ℕ) : Type 0 where
-  pub no_chunk : kind ≡ next_chunk → ⊥
-  pub no_alignment : kind ≡ alignment → ⊥
-  pub no_weak : kind ≡ weak_prefix → ⊥
-  pub no_pointer : kind ≡ pointer_prefix → ⊥
-  pub no_repeat : kind ≡ fixed_repeat → ⊥
-  pub no_root : kind ≡ fixed_repeat_root → ⊥
-  pub no_count : kind ≡ variable_repeat → ⊥
-  pub no_counted : kind ≡ variable_repeat_root → ⊥
+pub record Holdless (kind : Kind) : Type 0 where
+  pub no_chunk : kind ≡ NextChunk → ⊥
+  pub no_alignment : kind ≡ Alignment → ⊥
+  pub no_weak : kind ≡ WeakPrefix → ⊥
+  pub no_pointer : kind ≡ PointerPrefix → ⊥
+  pub no_repeat : kind ≡ FixedRepeat → ⊥
+  pub no_root : kind ≡ FixedRepeatRoot → ⊥
+  pub no_count : kind ≡ VariableRepeat → ⊥
+  pub no_counted : kind ≡ VariableRepeatRoot → ⊥
 
--- what a prefix asks, after the reading of which the state is t: that of the reference whose inner reference r reads; or the head is no prefix
-abbrev pub Asks : Input → ℕ → ℕ → ℕ → State → Lent → Prefix → State → Lent → Type 0
+-- what a prefix asks, after the reading of which the state is t: that of the reference whose inner
+-- reference r reads; or the head is no prefix
+abbrev pub Asks : Input → ℕ → Kind → ℕ → State → Lent → Prefix → State → Lent → Type 0
 Asks x tag kind a s l (Inner h) t l' = (r : Reader SlotValue) → (r >>= held h) (mem t l') ≡ by_head x r tag kind a (mem s l)
 Asks x tag kind a s l (RootHeld h i) t l' = (r : Reader SlotValue) → held h (IsRef (Root i)) (mem t l') ≡ by_head x r tag kind a (mem s l)
 Asks x tag kind a s l Other t l' = Holdless kind × (t ≡ s) × (l' ≡ l)
 
-abbrev pub Begins : Input → ℕ → ℕ → ℕ → State → Lent → Answer Prefix → Lent → Type 0
+abbrev pub Begins : Input → ℕ → Kind → ℕ → State → Lent → Answer Prefix → Lent → Type 0
 Begins x tag kind a s l (Ok r) l' = Asks x tag kind a s l r.0 r.1 l'
 Begins x tag kind a s l (Err e) l' = (r : Reader SlotValue) → no (number_of e.refusal) e.place (mem e.state l') ≡ by_head x r tag kind a (mem s l)
 

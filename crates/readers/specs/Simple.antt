@@ -1,16 +1,13 @@
 -- What single heads read, and which heads are simple. Assumes nothing: these are definitions.
-use Rattle.std.specs.Prelude.{◌≡◌, Bool, true, false, ℕ, ◌^◌, ◌-◌, ◌<◌, eqb}
-use Rattle.heads.specs.Kinds.{new_object, legacy_backref_with_skip, hot, hot_with_skip, root_constant_with_skip, api}
+use Rattle.std.specs.Prelude.{◌≡◌, ℕ, ◌^◌, ◌-◌, ◌<◌}
+use Rattle.heads.specs.declared.kinds.Kind.{Kind}
+use Rattle.heads.specs.declared.kinds.Kind.TheVariants.{NewObject, LegacyBackrefWithSkip, Hot, HotWithSkip, RootConstantWithSkip, Api}
 use Rattle.tables.specs.declared.values.Ref.TheVariants.{Root, RoRef}
 use Rattle.tables.specs.declared.values.SlotValue.{SlotValue}
 use Rattle.sheet.specs.Sheet.{raw_advances}
-use Rattle.definition.specs.Memory.{Input, Reader, ◌>>=◌, ◌>>◌, choose, give, int}
+use Rattle.definition.specs.Memory.{Input, Reader, ◌>>=◌, ◌>>◌, give, int}
 use Rattle.definition.specs.Reference.{skip_amount, refers, outside, refers_hot, backref_to, hot_place, legacy_reference, raw_data, raw_bytes}
 use Rattle.readers.specs.Prefix.{Holdless}
-
-abbrev pub pick_value : Bool → SlotValue → SlotValue → SlotValue
-pick_value true a b = a
-pick_value false a b = b
 
 -- a call may give the value f of what it is called with, and no other
 abbrev pub Makes : (ℕ → SlotValue) → (ℕ → SlotValue → Type 0) → Type 0
@@ -36,20 +33,20 @@ abbrev pub read_raw : Input → Reader SlotValue
 read_raw x = int x >>= (λ n. raw_data x (raw_bytes x n) (raw_advances x.sheet))
 
 -- after a with-skip amount; the last is kOffHeapTarget
-abbrev pub skipped_to : Input → ℕ → ℕ → Reader SlotValue
-skipped_to x kind a =
-    choose (eqb kind legacy_backref_with_skip) (legacy_reference x a)
-    (choose (eqb kind hot_with_skip) (hot_place a)
-    (choose (eqb kind root_constant_with_skip) (refers (Root a))
-    (choose (eqb kind api) (outside x 4) (int x >> refers (RoRef (2 ^ 32 - 5) 0)))))
+abbrev pub skipped_to : Input → Kind → ℕ → Reader SlotValue
+skipped_to x LegacyBackrefWithSkip a = legacy_reference x a
+skipped_to x HotWithSkip a = hot_place a
+skipped_to x RootConstantWithSkip a = refers (Root a)
+skipped_to x Api a = outside x 4
+skipped_to x kind a = int x >> refers (RoRef (2 ^ 32 - 5) 0)
 
-abbrev pub read_skipped : Input → ℕ → ℕ → Reader SlotValue
+abbrev pub read_skipped : Input → Kind → ℕ → Reader SlotValue
 read_skipped x kind a = skip_amount x >> skipped_to x kind a
 
 -- a head that holds no other reference, with an argument that it can have
-pub record Simple (kind a : ℕ) : Type 0 where
-  pub no_object : kind ≡ new_object → ⊥
+pub record Simple (kind : Kind) (a : ℕ) : Type 0 where
+  pub no_object : kind ≡ NewObject → ⊥
   pub holdless : Holdless kind
-  pub place : kind ≡ hot → a < 8
-  pub skip_place : kind ≡ hot_with_skip → a < 8
+  pub place : kind ≡ Hot → a < 8
+  pub skip_place : kind ≡ HotWithSkip → a < 8
   pub small : a < 65536

@@ -1,5 +1,5 @@
--- What the code holds, as the definition's `Mem`, and what it answers, as an `Out`. Nobody listens to code. Assumes nothing: these are
--- definitions.
+-- What the code holds, as the definition's `Mem`, and what it answers, as an `Out`. Nobody listens
+-- to code. Assumes nothing: these are definitions.
 use Rattle.std.specs.Prelude.{List, ℕ, ◌<◌, Result, Ok, Err}
 use Rattle.refusals.specs.declared.refusal.Refusal.{Refusal}
 use Rattle.refusals.specs.declared.refusal.Refusal.TheVariants.{PayloadEnds}

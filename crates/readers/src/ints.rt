@@ -1,5 +1,5 @@
-// A byte, an integer and a with-skip amount at the cursor. What needs the payload alone takes it and the state, which is passed by value,
-// and no `Walker`; and `Below` is a clause, since no type has the bound 2 ^ 30.
+//! A byte, an integer and a with-skip amount at the cursor, of the payload `p`. Each is refused as
+//! cut off where the payload ends in it.
 ghost use Rattle.std.specs.Prelude.{List, ◌≡◌, ℕ, ◌^◌, ◌<◌};
 ghost use Rattle.definition.specs.Memory as Memory;
 ghost use Rattle.definition.specs.Reference.{skip_amount};
@@ -8,6 +8,7 @@ ghost use Rattle.readers.specs.Views.{Lent, input, mem, seen, Below};
 use crate::state::{Answer, State};
 use stream::putint::putint;
 
+/// A byte (the Rust's `byte`).
 #[tactic(auto, unfolding(definition::specs::Memory::byte))]
 pub fn read_byte(p: &[u8], s: State) -> Answer<u64>
     ensures by_index { (v tr : List ℕ) (sp : ℕ) (l : Lent) → seen result l ≡ Memory.byte (input v p.now sp tr) (mem s l) }
@@ -17,6 +18,7 @@ pub fn read_byte(p: &[u8], s: State) -> Answer<u64>
     Ok((u64::from(byte), State { at: s.at + 1, ..s }))
 }
 
+/// An integer, which is below 2 ^ 30 (the Rust's `putint`; docs/FORMAT.md, "Integers").
 #[tactic(auto, using(crate::proofs::IntLaws::int_ends), unfolding(definition::specs::Memory::int))]
 pub fn read_int(p: &[u8], s: State) -> Answer<u64>
     ensures by_index { (v tr : List ℕ) (sp : ℕ) (l : Lent) → seen result l ≡ Memory.int (input v p.now sp tr) (mem s l) }
@@ -31,7 +33,8 @@ pub fn read_int(p: &[u8], s: State) -> Answer<u64>
     Ok((i.value as u64, t))
 }
 
-// A with-skip amount: it stands until the next slot item has been read.
+/// A with-skip amount, in bytes: it is added to the state's, which stands until the next slot item
+/// has been read.
 #[tactic(auto, using(crate::proofs::IntLaws::skip_is))]
 pub fn read_skip(p: &[u8], s: State) -> Answer<()>
     requires { s.skip < 2 ^ 63 }

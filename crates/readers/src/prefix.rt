@@ -1,6 +1,6 @@
-// What stands before another reference: chunk changes, alignment, weak and pointer prefixes, repeats.
+//! What stands before another reference: chunk changes, alignment, weak and pointer prefixes,
+//! repeats (docs/FORMAT.md, "Head bytes" and "Repeats").
 ghost use Rattle.std.specs.Prelude.{◌≡◌, List, ℕ, ◌-◌, ◌^◌, ◌<◌, get_or};
-ghost use Rattle.heads.specs.Kinds.{kind_number};
 ghost use Rattle.definition.specs.Slots.{add_value as addValue};
 ghost use Rattle.readers.specs.Views.{Lent, input, mem, seen};
 ghost use Rattle.readers.specs.Lent.{input_of, lent_of, Kept};
@@ -15,7 +15,7 @@ use refusals::refusal::Refusal;
 use tables::records::add_value;
 use tables::values::{Fields, SlotValue};
 
-// How the value of a reference is held: as it is, weak, or repeated so many times.
+/// How the value of a reference is held: as it is, weak, or repeated so many times.
 #[derive(Clone, Copy)]
 pub enum Held {
     Plain,
@@ -23,7 +23,8 @@ pub enum Held {
     Repeated(u32),
 }
 
-// What a prefix asks: that the value of the next reference is held, or this root; or a head that is no prefix.
+/// What a prefix asks: that the value of the next reference is held, or that of this root, given by
+/// number; or a head that is no prefix.
 #[derive(Clone, Copy)]
 pub enum Prefix {
     Inner(Held),
@@ -31,11 +32,12 @@ pub enum Prefix {
     Other,
 }
 
-// The head of a reference that holds another, or of a repeated root.
+/// What stands after the head of a reference that holds another, or of a repeated root: what it
+/// asks. With any other head nothing is read.
 #[tactic(auto, unfolding(definition::specs::Reference::by_head))]
 pub fn begin(w: &mut Walker, s: State, head: Head) -> Answer<Prefix>
     requires { (i : ℕ) → get_or w.old.alloc.cur i 0 < 2 ^ 32 - 1 }
-    ensures begins { (tag : ℕ) → Begins (input_of w.old) tag (kind_number head.kind) head.argument s (lent_of w.old) result (lent_of w.new) }
+    ensures begins { (tag : ℕ) → Begins (input_of w.old) tag head.kind head.argument s (lent_of w.old) result (lent_of w.new) }
     ensures kept { Kept w.old w.new }
 {
     let p = w.payload;
@@ -78,7 +80,8 @@ fn repeat_root(p: &[u8], s: State, n: u32) -> Answer<Prefix>
     Ok((Prefix::Root(Held::Repeated(n), i), t))
 }
 
-// A value record, if there is room: its number.
+/// A value record, whose number is the answer. Refused with `NoRoom` where the table has no room
+/// for it.
 #[tactic(auto, unfolding(definition::specs::Slots::add_value))]
 pub fn push_value(w: &mut Walker, s: State, f: Fields) -> Answer<u64>
     ensures is { seen result (lent_of w.new) ≡ addValue f (mem s (lent_of w.old)) }
@@ -90,7 +93,8 @@ pub fn push_value(w: &mut Walker, s: State, f: Fields) -> Answer<u64>
     Ok((n as u64, t))
 }
 
-// The value that a reference held: as it is, or as a value record.
+/// The value of a reference as it is held: itself, or the number of a value record. Refused with
+/// `NoRoom` where the table has no room for one.
 #[tactic(auto, using(crate::proofs::ViewLaws::then_no, crate::proofs::ViewLaws::then_got))]
 #[inline(always)]
 pub fn hold(w: &mut Walker, s: State, held: Held, v: SlotValue) -> Answer<SlotValue>

@@ -1,6 +1,6 @@
-// References that hold no other.
+//! References that hold no other (docs/FORMAT.md, "Head bytes").
 ghost use Rattle.std.specs.Prelude.{◌≡◌, List, ℕ, ◌^◌, ◌<◌};
-ghost use Rattle.heads.specs.Kinds.{kind_number, hot_with_skip};
+ghost use Rattle.heads.specs.declared.kinds.Kind.TheVariants.{HotWithSkip};
 ghost use Rattle.definition.specs.Memory.{Reader};
 ghost use Rattle.backref.specs.Legacy.{backref_of};
 ghost use Rattle.definition.specs.Reference.{refers_hot, legacy_reference, raw_data, pending_reference, hot_place, by_head};
@@ -41,8 +41,7 @@ fn back_ref(w: &mut Walker, s: State) -> Answer<SlotValue>
     enter(w, t, Ref::Object(i))
 }
 
-// kRootArray: a root by integer, which enters the ring. It and `back_ref`, like their leaves, share what they do but for one test: a
-// closure for the test would be no shorter.
+// kRootArray: a root by integer, which enters the ring.
 fn root_array(w: &mut Walker, s: State) -> Answer<SlotValue>
     ensures is { seen result (lent_of w.new) ≡ read_root (input_of w.old) (mem s (lent_of w.old)) }
     ensures kept { Kept w.old w.new }
@@ -60,7 +59,7 @@ fn hot_ref(w: &Walker, s: State, place: usize) -> Answer<SlotValue>
     Ok((SlotValue::Ref(r), s))
 }
 
-// The back-reference to a space that stands at a place.
+/// The back-reference to a space that stands at a place, the one after its head byte.
 #[inline(always)]
 pub fn find_backref(w: &Walker, s: State, space: u64, at: usize) -> Result<Backref, BackrefError>
     requires { Addressed w.now s.addresses }
@@ -81,7 +80,8 @@ pub fn find_backref(w: &Walker, s: State, space: u64, at: usize) -> Result<Backr
     reader.backref_at(at)
 }
 
-// A legacy back-reference to a space.
+/// A legacy back-reference to a space, which enters the ring. Refused as cut off where the payload
+/// ends in it, and with `NoSuchNumber` at the place after it where its number has no entry.
 #[tactic(auto, unfolding(definition::specs::Reference::legacy_reference))]
 pub fn legacy_ref(w: &mut Walker, s: State, space: u64) -> Answer<SlotValue>
     requires { Addressed w.old s.addresses }
@@ -130,7 +130,8 @@ fn variable_raw(sheet: &[u16], p: &[u8], s: State) -> Answer<SlotValue>
     raw_data(p, t, bytes.max(1), raw_advances(sheet))
 }
 
-// The chunks of what stands off the heap are the caller's numbers, as `outside` has them (crates/definition/specs/Reference.antt).
+// What stands off the heap is given as a read-only reference with one of these chunks (`outside` in
+// crates/definition/specs/Reference.antt).
 const CACHE: u64 = 4294967295;
 
 const BUILTIN: u64 = 4294967294;
@@ -180,12 +181,11 @@ fn pending_ref(s: State) -> Answer<SlotValue>
     Ok((SlotValue::PendingRef(s.pending), t))
 }
 
-// A head with a with-skip amount before what it is. Which of five it is, is asked after the amount: a closure for the rest would be no
-// shorter, and one `match` of these and the heads of `simple_ref` would ask the kind once more, for the amount.
+// A head with a with-skip amount before what it is. Which of five it is, is asked after the amount.
 fn with_skip(w: &mut Walker, s: State, head: Head) -> Answer<SlotValue>
     requires addressed { Addressed w.old s.addresses × (s.skip < 2 ^ 63) }
-    requires place { kind_number head.kind ≡ hot_with_skip → head.argument < 8 }
-    ensures is { seen result (lent_of w.new) ≡ read_skipped (input_of w.old) (kind_number head.kind) head.argument (mem s (lent_of w.old)) }
+    requires place { head.kind ≡ HotWithSkip → head.argument < 8 }
+    ensures is { seen result (lent_of w.new) ≡ read_skipped (input_of w.old) head.kind head.argument (mem s (lent_of w.old)) }
     ensures kept { Kept w.old w.new }
 {
     let p = w.payload;
@@ -201,12 +201,13 @@ fn with_skip(w: &mut Walker, s: State, head: Head) -> Answer<SlotValue>
     }
 }
 
-// A reference by its head, of a head that holds no other reference. The head stands at `tag`.
+/// A reference by its head, which holds no other reference and stands at the place `tag`: its value
+/// (the branches of the Rust's `parse_ref_inner` that call no reader of references).
 #[tactic(auto, using(crate::proofs::SimpleLaws::target_grouped, crate::proofs::SimpleLaws::product_small), unfolding(definition::specs::Reference::by_head))]
 pub fn simple_ref(w: &mut Walker, s: State, tag: usize, head: Head) -> Answer<SlotValue>
     requires addressed { Addressed w.old s.addresses × (s.skip < 2 ^ 63) × (s.pending < 2 ^ 63) }
-    requires simple { Simple (kind_number head.kind) head.argument }
-    ensures is { (inner : Reader SlotValue) → seen result (lent_of w.new) ≡ by_head (input_of w.old) inner tag (kind_number head.kind) head.argument (mem s (lent_of w.old)) }
+    requires simple { Simple head.kind head.argument }
+    ensures is { (inner : Reader SlotValue) → seen result (lent_of w.new) ≡ by_head (input_of w.old) inner tag head.kind head.argument (mem s (lent_of w.old)) }
     ensures kept { Kept w.old w.new }
 {
     let p = w.payload;

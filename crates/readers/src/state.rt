@@ -1,11 +1,12 @@
-// What a reader has, in numbers, and what it answers. What is lent beside it stands in a `Walker`.
+//! What a reader has, in numbers, and what it answers. What is lent beside it stands in a `Walker`.
 ghost use Rattle.std.specs.Prelude.{◌≡◌, length};
 ghost use Rattle.readers.specs.Views.{refused_at, cut_at};
 
 use refusals::refusal::Refusal;
 
-// The cursor, the four record counts, the next pending number and how many slots wait, the with-skip amount that stands, and the pending
-// alignment.
+/// The cursor `at`, as a place in the payload; how many records each of the four tables has; the
+/// next pending number and how many slots wait for one; the with-skip amount that stands, in bytes;
+/// and the alignment that is pending (crates/alloc/src/fill.rt).
 #[derive(Clone, Copy, Default)]
 pub struct State {
     pub at: usize,
@@ -19,7 +20,7 @@ pub struct State {
     pub alignment: u64,
 }
 
-// A refusal with its place and the state that it left.
+/// A refusal with its place in the payload and the state that it left.
 #[derive(Clone, Copy)]
 pub struct Refused {
     pub refusal: Refusal,
@@ -27,11 +28,11 @@ pub struct Refused {
     pub state: State,
 }
 
-// What a reader answers: a value and the state after it, or a refusal.
+/// What a reader answers: a value and the state after it, or a refusal.
 pub type Answer<T> = Result<(T, State), Refused>;
 
 impl State {
-    // A refusal at a place.
+    /// A refusal at a place.
     pub fn refused_at(self, place: usize, refusal: Refusal) -> Refused
         ensures { result ≡ refused_at refusal place self }
     {
@@ -42,14 +43,14 @@ impl State {
         }
     }
 
-    // A refusal at the cursor.
+    /// A refusal at the cursor.
     pub fn refused(self, refusal: Refusal) -> Refused
         ensures { result ≡ refused_at refusal self.at self }
     {
         self.refused_at(self.at, refusal)
     }
 
-    // The payload ends where a byte is needed: the cursor moves there.
+    /// The refusal of a payload that ends where a byte is needed: the cursor moves to its end.
     pub fn cut(self, p: &[u8]) -> Refused
         ensures { result ≡ cut_at (length p.now) self }
     {

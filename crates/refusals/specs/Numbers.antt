@@ -1,4 +1,5 @@
--- The numbers of document 01's refusals. Assumes nothing: these are definitions.
+-- The numbers of the refusals (docs/FORMAT.md, "Refusals"). Assumes nothing: these are
+-- definitions.
 use Rattle.std.specs.Prelude.{ℕ}
 use Rattle.refusals.specs.declared.refusal.Refusal.{Refusal}
 use Rattle.refusals.specs.declared.refusal.Refusal.TheVariants.{NoEntry, UnusableSheet, TooLong, NoRoom, PayloadEnds, NoObjectFirst, TooDeep, RawPastEnd, NoSuchObject, EmptyHotPlace, NoMeaning, MetaMap, SizeDiffers, NoSynchronize, NoPadding, NoSuchNumber, AddressTooLarge, NoView}

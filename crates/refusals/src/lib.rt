@@ -1,4 +1,4 @@
-// The refusals and their numbers.
+//! Why a call is refused, and the number that each refusal is answered with.
 #![tactic(auto)]
 
 pub mod refusal;

@@ -9,10 +9,6 @@ use lib.Dec.{leb, eqb}
 use lib.ListN.{length, get_or}
 use borrow.Author.Tests.{leb-true, eqb-true, eqb-false, not-true}
 use Rattle.std.proofs.lemmas.Bool.{and_parts, or_cases}
-use Rattle.std.proofs.lemmas.Bool.{and_parts, or_cases}
-use Rattle.std.proofs.lemmas.Bool.{and_parts, or_cases}
-use Rattle.std.proofs.lemmas.Bool.{and_parts, or_cases}
-use Rattle.std.proofs.lemmas.Bool.{and_parts, or_cases}
 use Rattle.sheet.specs.Names.{k_new_object, k_backref, k_hot_object, k_root_array_constants, k_fixed_raw_data, k_alignment_prefix, k_hot_object_with_skip, k_root_array_constants_with_skip, k_fixed_repeat, k_fixed_repeat_root, k_backref_with_skip}
 use Rattle.sheet.specs.Sheet.{number, present, number_of_spaces, root_mask, word_bytes, page_size_bits, space_tag_size, is_legacy, is_six_x, has_length, has_word_size, within, all_within, has_required, numbers_fit, between, space_tag_size_fits, page_size_bits_fits, six_x_is_legacy, span_fits, spans_fit, legacy_spans_fit, usable}
 use Rattle.sheet.specs.Usable.{SpanFits, Usable}

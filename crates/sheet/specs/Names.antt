@@ -1,4 +1,5 @@
--- The places of the version sheet's numbers (docs/SHEET.md). Assumes nothing: these are definitions.
+-- The places of the version sheet's numbers (docs/FORMAT.md, "The version sheet"). Assumes nothing:
+-- these are definitions.
 use Rattle.std.specs.Prelude.{ℕ}
 
 abbrev pub k_new_object : ℕ

@@ -1,4 +1,5 @@
--- The version sheet of document 01: its numbers, their defaults, and which sheets are usable and plain. Assumes nothing: these are definitions.
+-- The version sheet: its numbers, their defaults, and which sheets are usable and plain
+-- (docs/FORMAT.md, "The version sheet"). Assumes nothing: these are definitions.
 use Rattle.std.specs.Prelude.{cond, Bool, true, false, not, ◌&&◌, ◌||◌, List, ℕ, zero, suc, ◌+◌, leb, eqb, length, get_or, Option, Some, None}
 use Rattle.sheet.specs.Names.{k_new_object, k_backref, k_hot_object, k_root_array_constants, k_fixed_raw_data, k_alignment_prefix, k_hot_object_with_skip, k_root_array_constants_with_skip, k_skip, k_fixed_repeat, k_fixed_repeat_root, k_new_meta_map, k_deferred, k_number_of_spaces, k_map_space, k_lo_space, k_root_array_constants_mask, k_space_tag_size, k_page_size_bits, k_space_mask, k_backref_with_skip, tagged_size, var_raw_advances}
 
@@ -51,7 +52,8 @@ word_bytes v = number v tagged_size
 abbrev pub raw_advances : List ℕ → Bool
 raw_advances v = not (eqb (number v var_raw_advances) 0)
 
--- kSpaceMask present means legacy (difference D43: V8 8.7 lacks the name, though its stream is legacy)
+-- kSpaceMask present means legacy (difference D43: V8 8.7 lacks the name, though its stream is
+-- legacy)
 abbrev pub is_legacy : List ℕ → Bool
 is_legacy v = present v k_space_mask
 
@@ -79,7 +81,7 @@ unfoldable pub all_within : List ℕ → ℕ → Bool → ℕ → ℕ → Bool
 all_within v most absent at zero = true
 all_within v most absent at (suc n) = within most absent (number v at) && all_within v most absent (at + 1) n
 
--- the nine names that `parse_with` lists are present; they come first in the sheet
+-- the nine names that every sheet has to have are present; they come first in it
 abbrev pub has_required : List ℕ → Bool
 has_required v = all_within v 65534 false 0 9
 
@@ -124,7 +126,7 @@ legacy_spans_fit v =
     && span_fits v k_backref (number_of_spaces v)
     && span_fits v k_backref_with_skip (number_of_spaces v))
 
--- a *usable* sheet of document 01 (else refusal 1)
+-- a *usable* sheet (else refusal 1)
 unfoldable pub usable : List ℕ → Bool
 usable v =
     has_length v
@@ -137,7 +139,7 @@ usable v =
     && spans_fit v
     && legacy_spans_fit v
 
--- a *plain* sheet of document 01: usable, and none of these six names
+-- a *plain* sheet: usable, and none of these six names
 unfoldable pub plain : List ℕ → Bool
 plain v =
     usable v

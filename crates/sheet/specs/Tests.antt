@@ -1,4 +1,5 @@
--- What objects and the closing section test before a reference's head. A byte of 256 is none (the payload's end). Assumes nothing: these are definitions.
+-- What objects and the closing section test before a reference's head. A byte of 256 is none (the
+-- payload's end). Assumes nothing: these are definitions.
 use Rattle.std.specs.Prelude.{Bool, true, false, not, ◌&&◌, List, ℕ, zero, suc, ◌+◌, ◌-◌, ltb, leb, eqb, Option, Some, None}
 use Rattle.sheet.specs.Names.{k_new_object, k_backref, k_synchronize, k_nop, k_next_chunk, k_alignment_prefix, k_resolve_pending_forward_ref, k_deferred, k_new_meta_map}
 use Rattle.sheet.specs.Sheet.{pick_ℕ, number, present, number_of_spaces, is_legacy}
@@ -9,7 +10,8 @@ use Rattle.sheet.specs.declared.tests.Closing.TheVariants.{Synchronize, Alignmen
 abbrev pub in_span : List ℕ → ℕ → ℕ → ℕ → Bool
 in_span v k n b = leb (number v k) b && ltb b (number v k + n)
 
--- the payload's first byte opens an object (else refusal 5): kNewObject up to below kBackref, in legacy too (difference D20)
+-- the payload's first byte opens an object (else refusal 5): kNewObject up to below kBackref, in
+-- legacy too (difference D20)
 abbrev pub opens : List ℕ → ℕ → Bool
 opens v b = leb (number v k_new_object) b && ltb b (number v k_backref)
 

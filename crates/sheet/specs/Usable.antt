@@ -1,9 +1,11 @@
--- What a usable sheet gives, clause by clause. `usable_gives` in proofs/UsableSheet.antt proves it from `usable v ≡ true`. Assumes nothing: these are definitions.
+-- What a usable sheet gives, clause by clause. `usable_gives` in proofs/UsableSheet.antt proves it
+-- from `usable v ≡ true`. Assumes nothing: these are definitions.
 use Rattle.std.specs.Prelude.{◌≡◌, true, List, ◌⊎◌, ℕ, ◌+◌, ◌<◌, ◌≤◌, length}
 use Rattle.sheet.specs.Names.{k_new_object, k_backref, k_hot_object, k_root_array_constants, k_fixed_raw_data, k_alignment_prefix, k_hot_object_with_skip, k_root_array_constants_with_skip, k_fixed_repeat, k_fixed_repeat_root, k_backref_with_skip}
 use Rattle.sheet.specs.Sheet.{number, present, number_of_spaces, root_mask, space_tag_size, page_size_bits, word_bytes, is_legacy, is_six_x}
 
--- the first byte after the span of n bytes of the name at place k is at most 255, where the name is present
+-- the first byte after the span of n bytes of the name at place k is at most 255, where the name
+-- is present
 abbrev pub SpanFits : List ℕ → ℕ → ℕ → Type 0
 SpanFits v k n = present v k ≡ true → number v k + n ≤ 255
 

@@ -1,4 +1,7 @@
-// The version sheet: its numbers, and what objects and the closing section test by them.
+//! The version sheet: its numbers, and what objects and the closing section test by them.
+//!
+//! A sheet is a slice of 58 numbers of 16 bits (docs/FORMAT.md, "The version sheet"). It need not
+//! be usable here: a place past its end counts as absent.
 #![tactic(auto)]
 
 pub mod names;

@@ -1,4 +1,6 @@
-// What objects and the closing section test before a reference's head. A byte of 256 is none: the payload has ended.
+//! What objects and the closing section test a byte for, before a reference's head.
+//!
+//! A byte is a number from 0 to 255, or 256 where the payload has ended (`peek` of `stream`).
 ghost use Rattle.std.specs.Prelude.{◌≡◌, ◌≤◌, eqb};
 ghost use Rattle.sheet.specs.Sheet as Sheet;
 ghost use Rattle.sheet.specs.Tests as Tests;
@@ -6,16 +8,20 @@ ghost use Rattle.sheet.specs.Tests as Tests;
 use crate::names::{K_ALIGNMENT_PREFIX, K_BACKREF, K_NEW_META_MAP, K_NEW_OBJECT, K_SYNCHRONIZE};
 use crate::numbers::{legacy, number, number_of_spaces, present};
 
-// An entry of the closing section.
+/// What the closing section takes a byte for.
 #[derive(Clone, Copy)]
 pub enum Closing {
+    /// kSynchronize, which ends the section.
     Synchronize,
+    /// An alignment prefix, from 1 to 3.
     Alignment(u64),
+    /// A deferred entry of a legacy payload, with its space.
     Deferred(u64),
+    /// Any other byte: a reference begins.
     Reference,
 }
 
-// A byte is the tag at place k: of kResolvePendingForwardRef, kDeferred, kNextChunk, kNop, kSynchronize.
+/// Whether a byte is the tag at place `k` of the sheet.
 pub fn is_tag(sheet: &[u16], k: usize, b: u64) -> bool
     ensures { result ≡ eqb (Sheet.number sheet.now k) b }
 {
@@ -31,14 +37,14 @@ fn in_span(sheet: &[u16], k: usize, n: u64, b: u64) -> bool
     (first..first + n).contains(&b)
 }
 
-// The payload's first byte opens an object.
+/// Whether the payload's first byte opens an object: kNewObject up to below kBackref.
 pub fn opens(sheet: &[u16], b: u64) -> bool
     ensures { result ≡ Tests.opens sheet.now b }
 {
     (number(sheet, K_NEW_OBJECT)..number(sheet, K_BACKREF)).contains(&b)
 }
 
-// An alignment prefix: 1 to 3; none where the byte is none.
+/// The alignment of an alignment prefix, from 1 to 3; `None` where the byte is no such prefix.
 #[tactic(auto, unfolding(crate::specs::Tests::alignment_of))]
 pub fn alignment(sheet: &[u16], b: u64) -> Option<u64>
     ensures { result ≡ Tests.unless_zero (Tests.alignment_of sheet.now b) }
@@ -55,7 +61,8 @@ fn is_entry(sheet: &[u16], b: u64) -> bool
         && in_span(sheet, K_NEW_OBJECT, number_of_spaces(sheet), b)
 }
 
-// What the closing section takes a byte for: kSynchronize, alignment, deferred entry, reference, in this order.
+/// What the closing section takes a byte for: kSynchronize, alignment prefix, deferred entry and
+/// reference are tested in this order.
 #[tactic(auto, unfolding(crate::specs::Tests::alignment_of, crate::specs::Tests::closing_of))]
 pub fn closing_entry(sheet: &[u16], b: u64) -> Closing
     ensures { result ≡ Tests.closing_of sheet.now b }

@@ -1,5 +1,7 @@
--- Bytes, little-endian numbers and raw ranges of a payload. Assumes nothing: these are definitions.
-use Rattle.std.specs.Prelude.{Bool, true, false, List, ℕ, zero, suc, ◌+◌, ◌*◌, ◌^◌, length, get_or, ltb, Option, Some, None}
+-- Bytes, little-endian numbers and raw ranges of a payload. Assumes nothing: these are
+-- definitions.
+use denote.Ref.{Bor}
+use Rattle.std.specs.Prelude.{◌≡◌, Bool, true, false, List, ℕ, zero, suc, ◌+◌, ◌*◌, ◌^◌, length, get_or, ltb, Option, Some, None}
 
 -- the byte at a cursor, or 256 where none is left
 unfoldable pub peek_at : List ℕ → ℕ → ℕ
@@ -14,6 +16,11 @@ abbrev pub pick_range : Bool → Option ℕ → Option ℕ → Option ℕ
 pick_range true a b = a
 pick_range false a b = b
 
--- a raw range of n bytes at a cursor (`raw range` of document 01): where it ends; none where it passes the payload's end (refusal 7)
+-- where a raw range of n bytes at a cursor ends; none where it passes the payload's end
+-- (refusal 7)
 unfoldable pub raw_at : List ℕ → ℕ → ℕ → Option ℕ
 raw_at p at n = pick_range (ltb (length p) (at + n)) None (Some (at + n))
+
+-- a slice is that part of the payload itself: in the payload's memory, so many bytes after its start
+abbrev pub LiesAt : Bor (List ℕ) → Bor (List ℕ) → ℕ → Type 0
+LiesAt part payload offset = part.ref_ptr ≡ (payload.ref_ptr.0, payload.ref_ptr.1 + offset)

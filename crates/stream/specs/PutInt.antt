@@ -1,4 +1,5 @@
--- The variable-length integer of document 01 (PutUint30, in older versions PutInt). Assumes nothing: these are definitions.
+-- The integer of one to four bytes (V8's PutUint30, in older versions PutInt; docs/FORMAT.md,
+-- "Integers"). Assumes nothing: these are definitions.
 use Rattle.std.specs.Prelude.{Bool, true, false, List, ℕ, ◌+◌, ◌-◌, ◌/◌, ◌%◌, ◌^◌, ◌<◌, length, get_or, ltb, leb, Option, Some, None}
 use Rattle.stream.specs.declared.putint.Int.{Int}
 use Rattle.stream.specs.Bytes.{little_endian}
@@ -11,7 +12,8 @@ pick_int false a b = b
 unfoldable pub int_length : List ℕ → ℕ → ℕ
 int_length p at = get_or p at 0 % 4 + 1
 
--- an integer: that many bytes, little-endian, shifted right by 2; a payload that ends before it does has none (refusal 4)
+-- an integer: that many bytes, little-endian, shifted right by 2; a payload that ends before it
+-- does has none (refusal 4)
 unfoldable pub int_at : List ℕ → ℕ → Option Int
 int_at p at =
     pick_int (leb (length p) at) None

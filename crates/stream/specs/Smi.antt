@@ -1,4 +1,5 @@
--- Smi words of document 01. Assumes nothing: these are definitions.
+-- Small integers in words (docs/FORMAT.md, "Small integers"). Assumes nothing: these are
+-- definitions.
 use Rattle.std.specs.Prelude.{Bool, true, false, List, ℕ, suc, ◌-◌, ◌/◌, ◌%◌, ◌^◌, ℤ, pos, negsuc, length, ltb, eqb, Option, Some, None}
 use Rattle.std.specs.Int.Signed.{shr_z}
 use Rattle.stream.specs.Bytes.{little_endian}

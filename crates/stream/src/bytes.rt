@@ -1,9 +1,11 @@
-// Bytes, little-endian numbers and raw ranges at a place of the payload. Payload and place go apart, since the walk keeps its place in a
-// state that goes by value; `Reader` (crate `reader`) is both in one.
+//! Bytes, little-endian numbers and raw ranges at a place of a payload.
+//!
+//! Payload and place are two parameters, since the walk keeps its place in a state that it passes
+//! by value. `Reader` of crate `reader` holds both.
 ghost use Rattle.std.specs.Prelude.{◌≡◌, ℕ, ◌+◌, ◌<◌, ◌≤◌, length, get_or};
 ghost use Rattle.stream.specs.Bytes.{little_endian, peek_at, raw_at};
 
-// The byte at a place.
+/// The byte at a place below the payload's length, as a number from 0 to 255.
 pub fn byte(p: &[u8], at: usize) -> u64
     requires { at < length p.now }
     ensures { (result ≡ get_or p.now at 0) × (result < 256) }
@@ -11,8 +13,8 @@ pub fn byte(p: &[u8], at: usize) -> u64
     u64::from(p[at])
 }
 
-// The byte at a place, or 256 where none is left, as the definition has it (`peek_at`): no tag has that value, so that a test for a tag needs
-// none for the end; `is_tag` and `closing_entry` take any number, and an Option would ask more of callers.
+/// The byte at a place, or 256 where none is left. No tag has the value 256, so a test for a tag
+/// needs no test for the payload's end.
 #[tactic(auto, unfolding(crate::specs::Bytes::peek_at))]
 pub fn peek(p: &[u8], at: usize) -> u64
     ensures { result ≡ peek_at p.now at }
@@ -20,7 +22,7 @@ pub fn peek(p: &[u8], at: usize) -> u64
     p.get(at).map_or(256, |b| u64::from(*b))
 }
 
-// n bytes as a number, the first byte lowest: by shifts and or, as the order has the integer of variable length.
+/// The `n` bytes from a place on as one number, the first byte lowest; `n` is at most 8.
 pub fn little_endian(p: &[u8], at: usize, n: usize) -> u64
     requires { (at + n ≤ length p.now) × (n ≤ 8) }
     ensures { result ≡ little_endian p.now at n }
@@ -32,7 +34,8 @@ pub fn little_endian(p: &[u8], at: usize, n: usize) -> u64
     raw
 }
 
-// Where a raw range of n bytes at a cursor ends; none where it passes the payload's end.
+/// The place where a raw range of `n` bytes that begins at `at` ends; `None` where it passes the
+/// payload's end.
 pub fn raw(p: &[u8], at: usize, n: usize) -> Option<usize>
     ensures { result ≡ raw_at p.now at n }
 {

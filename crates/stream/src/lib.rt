@@ -1,4 +1,7 @@
-// Bytes and integers at a place of the payload, and Smi words.
+//! Bytes, integers and raw ranges at a place of a payload, and small integers in words.
+//!
+//! A payload is a `&[u8]`, and a place in it counts bytes from its start. docs/FORMAT.md has the
+//! rules: "Integers", "Raw data" and "Small integers".
 #![tactic(auto)]
 
 pub mod bytes;

@@ -1,17 +1,23 @@
-// The variable-length integer (PutUint30 in V8).
+//! The integer of one to four bytes, written by V8's `PutUint30` (`PutInt` in older versions).
+//!
+//! The low two bits of the first byte plus 1 say how many bytes it has. These bytes are one
+//! little-endian number, and the value is that number shifted right by 2 (docs/FORMAT.md,
+//! "Integers").
 ghost use Rattle.std.specs.Prelude.{◌≡◌, length};
 ghost use Rattle.stream.specs.PutInt.{int_at, Small};
 
 use crate::bytes::{byte, little_endian};
 
-// An integer's value and its byte count.
+/// An integer's value and its byte count.
 #[derive(Clone, Copy)]
 pub struct Int {
+    /// Below 2^30.
     pub value: u32,
+    /// From 1 to 4.
     pub count: usize,
 }
 
-// The integer at a place; none where the payload ends before it does.
+/// The integer at a place; `None` where the payload ends before it does.
 pub fn putint(p: &[u8], at: usize) -> Option<Int>
     ensures value { result ≡ int_at p.now at }
     ensures small { Small result }

@@ -1,4 +1,4 @@
-// Small integers as V8 keeps them in a word.
+//! Small integers (Smi) as V8 keeps them in a tagged word (docs/FORMAT.md, "Small integers").
 ghost use Rattle.std.specs.Prelude.{◌≡◌, ◌<◌, ◌^◌, length};
 ghost use Rattle.stream.specs.Smi.{signed, smi_of};
 
@@ -13,7 +13,10 @@ fn signed32(n: u64) -> i64
     i64::from((n as u32).cast_signed())
 }
 
-// Eight bytes with a zero lower half hold the upper half; four bytes, even, hold half; all else is no Smi.
+/// The small integer in the bytes of a word, which are little-endian.
+///
+/// Eight bytes whose lower half is zero give the upper half as a signed number. Four bytes that
+/// are an even number give half of it, signed. `None` for all other bytes.
 pub fn decode_smi_bytes(d: &[u8]) -> Option<i64>
     ensures { result ≡ smi_of d.now }
 {

@@ -1,5 +1,6 @@
--- What a write into a table leaves in the fields of its records, over their width. `stored_same` and `stored_else` speak of any run of
--- fields of one record; a whole record, a filled slot and a single field are cases of it. Assumes nothing.
+-- What a write into a table leaves in the fields of its records, over their width. `stored_same`
+-- and `stored_else` speak of any run of fields of one record; a whole record, a filled slot and a
+-- single field are cases of it. Assumes nothing.
 use mathlib.Core.Path.{◌≡◌, refl, ◌∙◌}
 use mathlib.Core.Logic.{◌≢◌}
 use mathlib.Core.List.{List, [], ◌∷◌}

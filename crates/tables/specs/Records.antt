@@ -1,4 +1,5 @@
--- The four tables of document 01, as flat lists of numbers. Assumes nothing: these are definitions.
+-- The four tables, as flat lists of numbers (docs/FORMAT.md, "The tables"). Assumes nothing: these
+-- are definitions.
 use Rattle.std.specs.Prelude.{◌≡◌, Bool, true, false, List, [], ◌∷◌, ℕ, ◌+◌, ◌*◌, ◌/◌, ◌^◌, ◌<◌, length, get_or, set, ltb}
 use Rattle.std.proofs.lemmas.List.Edits.{sets}
 use Rattle.tables.specs.declared.values.Fields.{Fields}

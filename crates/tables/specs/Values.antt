@@ -1,4 +1,5 @@
--- The values of slots: document 01's kinds, their two numbers, and how wide an item with such a value is. Assumes nothing: these are definitions.
+-- The values of slots: their kinds and two numbers, and how wide an item with such a value is
+-- (docs/FORMAT.md, "The tables"). Assumes nothing: these are definitions.
 use Rattle.std.specs.Prelude.{Bool, true, false, ℕ, ◌*◌}
 use Rattle.tables.specs.declared.values.Ref.{Ref}
 use Rattle.tables.specs.declared.values.Ref.TheVariants.{Object, Root, RoRef, Attached}
@@ -8,7 +9,7 @@ use Rattle.tables.specs.declared.values.ValueKind.{ValueKind}
 use Rattle.tables.specs.declared.values.ValueKind.TheVariants.{Object as KObject, Root as KRoot, ReadOnly as KReadOnly, Attached as KAttached, Raw as KRaw, RawInPlace as KRawInPlace, Repeat as KRepeat, RepeatPrevious as KRepeatPrevious, Skip as KSkip, StreamBytes as KStreamBytes, ClearedWeak as KClearedWeak, Weak as KWeak, Pending as KPending}
 use Rattle.tables.specs.declared.values.Fields.{Fields}
 
--- document 01's numbers of the kinds
+-- the numbers of the kinds
 abbrev pub kind_number : ValueKind → ℕ
 kind_number KObject = 1
 kind_number KRoot = 2
@@ -37,8 +38,9 @@ abbrev pub raw_kind : Bool → ℕ
 raw_kind true = 5
 raw_kind false = 6
 
--- kind, a and b of document 01: 1 object, 2 root, 3 read-only, 4 attached, 5 raw that advances, 6 raw that does not, 7 repeat (count,
--- value number), 8 repeat-previous, 9 skip, 10 stream bytes, 11 cleared weak, 12 weak (value number), 13 pending (its number)
+-- kind, a and b: 1 object, 2 root, 3 read-only, 4 attached, 5 raw that advances, 6 raw that does
+-- not, 7 repeat (count, value number), 8 repeat-previous, 9 skip, 10 stream bytes, 11 cleared weak,
+-- 12 weak (value number), 13 pending (its number)
 abbrev pub fields_of : SlotValue → Fields
 fields_of (IsRef r) = ref_fields r
 fields_of (IsRaw r) = triple (raw_kind r.advances) r.off r.len
@@ -54,8 +56,8 @@ abbrev pub pick_ℕ : Bool → ℕ → ℕ → ℕ
 pick_ℕ true a b = a
 pick_ℕ false a b = b
 
--- width of an item, with words of ts bytes: raw its length, or 0 if it does not advance; repeats count times a word; skip its bytes;
--- stream bytes 0; all else one word
+-- width of an item, with words of ts bytes: raw its length, or 0 if it does not advance; repeats
+-- count times a word; skip its bytes; stream bytes 0; all else one word
 abbrev pub width_of : ℕ → SlotValue → ℕ
 width_of ts (IsRef r) = ts
 width_of ts (IsRaw r) = pick_ℕ r.advances r.len 0

@@ -1,39 +1,57 @@
-// References and slot values.
+//! References and the values of slots.
 ghost use Rattle.std.specs.Prelude.{◌≡◌, ◌≤◌};
 ghost use Rattle.tables.specs.Values.{triple, kind_number, ref_fields, fields_of, width_of};
 
-// What a reference stands for.
+/// What a reference stands for.
 #[derive(Clone, Copy)]
 pub enum Ref {
+    /// The object of this number.
     Object(u64),
+    /// The root of this index.
     Root(u64),
+    /// A read-only object: the page's number, and the offset in it.
     RoRef(u64, u64),
+    /// The attached reference of this index.
     Attached(u64),
 }
 
-// A range of the payload; `advances` is whether it moves on in the object.
+/// A raw range of the payload.
 #[derive(Clone, Copy)]
 pub struct Raw {
+    /// The place of its first byte in the payload.
     pub off: u64,
+    /// How many bytes it has.
     pub len: u64,
+    /// Whether it takes bytes of its object.
     pub advances: bool,
 }
 
-// The value of a slot. A repeat and a weak reference name a value record by its number, since a Box would need heap.
+/// The value of a slot. A repeat and a weak reference name the value that they hold by the number
+/// of its value record, so that no value needs memory of its own.
 #[derive(Clone, Copy)]
 pub enum SlotValue {
+    /// A reference.
     Ref(Ref),
+    /// The value of a value record, so many times: the count and the record's number.
     Repeat(u32, u64),
+    /// The slot before, so many times (6.x).
     RepeatPrev(u32),
+    /// So many bytes that are passed over.
     Skip(u32),
+    /// So many bytes of the payload that take no bytes of the object (6.x).
     StreamBytes(u32),
+    /// A raw range.
     Raw(Raw),
+    /// A weak reference that was cleared.
     ClearedWeak,
+    /// A weak reference to the value of this value record.
     WeakRef(u64),
+    /// A pending forward reference of this number.
     PendingRef(u64),
 }
 
-// The kinds of values, with the numbers that the order fixes: `Raw` moves on in its object, and `RawInPlace` does not.
+/// The kinds of values, with their numbers in a record: `Raw` takes bytes of its object, and
+/// `RawInPlace` does not.
 #[derive(Clone, Copy, PartialEq, Eq)]
 pub enum ValueKind {
     Object = 1,
@@ -51,7 +69,8 @@ pub enum ValueKind {
     Pending = 13,
 }
 
-// A value as a record has it: the kind, a and b that the order fixes. The kind is the number of a `ValueKind`, as C reads it.
+/// A value as a record has it (docs/FORMAT.md, "The tables"). The kind is the number of a
+/// `ValueKind`; a number that the kind does not use is 0.
 #[derive(Clone, Copy)]
 pub struct Fields {
     pub kind: u64,
@@ -71,7 +90,7 @@ impl Fields {
     }
 }
 
-// The kind and the two numbers of a reference.
+/// The kind and the two numbers of a reference.
 impl From<Ref> for Fields {
     ghost from_gives = { λ r f. f ≡ ref_fields r };
 
@@ -85,7 +104,7 @@ impl From<Ref> for Fields {
     }
 }
 
-// The kind and the two numbers of a value.
+/// The kind and the two numbers of a value.
 impl From<SlotValue> for Fields {
     ghost from_gives = { λ v f. f ≡ fields_of v };
 
@@ -105,7 +124,8 @@ impl From<SlotValue> for Fields {
     }
 }
 
-// How many bytes of its object an item with this value takes, `ts` bytes to a word.
+/// How many bytes of its object an item with this value takes, `ts` bytes to a word; `ts` is at
+/// most 8.
 pub fn width(v: SlotValue, ts: u64) -> u64
     requires { ts ≤ 8 }
     ensures { result ≡ width_of ts v }

@@ -1,4 +1,4 @@
-// Whether a version sheet is usable, and whether it is plain.
+//! Whether a version sheet is usable, and whether it is plain.
 #![tactic(auto)]
 
 pub mod usable;

@@ -1,4 +1,4 @@
-// Which sheets are usable and plain.
+//! Which sheets are usable and plain (docs/FORMAT.md, "The version sheet").
 ghost use Rattle.std.specs.Prelude.{◌≡◌, ◌<◌};
 ghost use Rattle.sheet.specs.Sheet as Sheet;
 
@@ -13,7 +13,7 @@ use sheet::numbers::{
     word_bytes,
 };
 
-// At most so much, or absent where that may be: `<=` is as plain as `contains` of a range.
+// At most so much, or absent where that may be.
 fn within(most: u64, absent: bool, x: u64) -> bool
     ensures { result ≡ Sheet.within most absent x }
 {
@@ -41,7 +41,7 @@ fn span_fits(sheet: &[u16], k: usize, n: u64) -> bool
     !present(sheet, k) || number(sheet, k) + n <= 255
 }
 
-// A name a line, as the definition has them: a list of names and spans to go through would be no plainer.
+// The spans of every family.
 fn spans_fit(sheet: &[u16]) -> bool
     ensures { result ≡ Sheet.spans_fit sheet.now }
 {
@@ -56,6 +56,7 @@ fn spans_fit(sheet: &[u16]) -> bool
         && span_fits(sheet, K_ALIGNMENT_PREFIX, 3)
 }
 
+// The spans of legacy sheets.
 fn legacy_spans_fit(sheet: &[u16]) -> bool
     ensures { result ≡ Sheet.legacy_spans_fit sheet.now }
 {
@@ -66,7 +67,9 @@ fn legacy_spans_fit(sheet: &[u16]) -> bool
             && span_fits(sheet, K_BACKREF_WITH_SKIP, spaces))
 }
 
-// A usable sheet.
+/// Whether a sheet is usable: 58 numbers, words of 4 or 8 bytes, the nine required names, present
+/// tags and constants of at most 255, kSpaceTagSize and kPageSizeBits in their bounds, 6.x only with
+/// legacy, and each span's end at most 255. A call with another sheet is refused with 1.
 #[tactic(auto, unfolding(sheet::specs::Sheet::usable))]
 pub fn usable(sheet: &[u16]) -> bool
     ensures { result ≡ Sheet.usable sheet.now }
@@ -83,7 +86,8 @@ pub fn usable(sheet: &[u16]) -> bool
         && legacy_spans_fit(sheet)
 }
 
-// A plain sheet.
+/// Whether a sheet is plain: usable, and without kSpaceMask, kBackrefWithSkip, kHotObjectWithSkip,
+/// kRootArrayConstantsWithSkip, kSkip and kDeferred.
 #[tactic(auto, unfolding(sheet::specs::Sheet::plain))]
 pub fn plain(sheet: &[u16]) -> bool
     ensures { result ≡ Sheet.plain sheet.now }

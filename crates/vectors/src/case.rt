@@ -1,4 +1,4 @@
-// One case: its call, and what is frozen of the answer.
+//! One case: its call, and what is frozen of the answer.
 ghost use Rattle.std.specs.Prelude.{◌≡◌, ◌≢◌, ◌≤◌, ◌↔◌, [], ◌∷◌, IsTrue, IfOk, vec_len};
 ghost use Rattle.std.specs.Option.{unwrap_or};
 ghost use Rattle.cache_graph.specs.Promise.{entered, rooms_of, answer, Reads};
@@ -11,9 +11,10 @@ use cache_graph::parse::{Call, Graph, Refused, Tables, parse_with};
 use std::alloc::{AllocError, Global};
 use std::iter::repeat;
 
-// What a case lends.
+/// What a case enters and lends.
 #[derive(Drop)]
 pub struct Case {
+    /// The number of its family.
     pub family: u64,
     sheet: Vec<u16>,
     payload: Vec<u8>,
@@ -25,15 +26,19 @@ pub struct Case {
     addresses: Vec<u64>,
 }
 
-// The refusal's number or 0, as the frozen file has it; then the four record counts and the cursor at the finish, or the refusal's place.
+/// The outcome of a call, as the file of cases has it.
 #[derive(Clone, Copy, PartialEq, Eq)]
 pub struct Outcome {
+    /// The refusal's number, or 0.
     pub number: u64,
+    /// The four record counts; 0 after a refusal.
     pub objects: u64,
     pub slots: u64,
     pub values: u64,
     pub addresses: u64,
+    /// The cursor at the finish; 0 after a refusal.
     pub end: u64,
+    /// The refusal's place; 0 where the call accepted.
     pub place: u64,
 }
 
@@ -64,8 +69,8 @@ impl From<Result<Graph, Refused>> for Outcome {
     }
 }
 
-// So many numbers of a sheet in the file of sheets, which has 59 of two bytes for each; zeros where it ends. Sheet 500 and later are sheet
-// 0: a sheet, and no sign of none.
+// So many numbers of a sheet in the file of sheets, which has 59 of two bytes for each; zeros where
+// it ends. Sheet 500 and later are read as sheet 0.
 fn sheet(alloc: Global, sheets: &[u8], which: u64, len: usize) -> Result<Vec<u16>, AllocError>
     ensures { IfOk result (λ v. vec_len v ≡ len) }
 {
@@ -84,7 +89,7 @@ fn table(alloc: Global, numbers: &mut Numbers<'_>) -> Result<Vec<u64>, AllocErro
     vec![in alloc; 7u64; numbers.length(2048)]
 }
 
-// The frozen number, counts, `end` and place.
+/// Reads the frozen outcome.
 pub fn read_outcome(cases: &mut Numbers<'_>) -> Outcome
     ensures fields { result.number ∷ result.objects ∷ result.slots ∷ result.values ∷ result.addresses ∷ result.end ∷ result.place ∷ [] ≡ numbers 7 cases.old.0.now }
     ensures rest { cases.new.0.now ≡ after_numbers 7 cases.old.0.now }
@@ -100,8 +105,8 @@ pub fn read_outcome(cases: &mut Numbers<'_>) -> Outcome
     }
 }
 
-// A call, with scratch of 512 numbers. What that holds before could be the number of a slot or of a record. The tables come apart, since a
-// `Case` has them as vectors: the `Tables` are made here.
+// A call, with scratch of 512 numbers. What that holds before could be the number of a slot or of a
+// record.
 fn called(
     call: Call<'_>,
     objects: &mut [u64],
@@ -123,7 +128,7 @@ fn called(
 }
 
 impl Case {
-    // Reads what stands before the frozen answer.
+    /// Reads what stands before the frozen outcome. An error is memory that was refused.
     pub fn read(numbers: &mut Numbers<'_>, alloc: Global, sheets: &[u8]) -> Result<Case, AllocError>
         ensures family { IfOk result (λ c. c.family ≡ unwrap_or (first_number numbers.old.0.now) 0) }
         ensures sheet { IfOk result (λ c. vec_len c.sheet ≤ 59) }
@@ -147,6 +152,7 @@ impl Case {
         })
     }
 
+    /// Calls the reader on the case's tables.
     pub fn call(&mut self) -> Outcome
         ensures { Called self.old result self.new }
     {
@@ -165,7 +171,7 @@ impl Case {
         )
     }
 
-    // Holds what the call gave to what is frozen.
+    /// Compares what the call gave with what is frozen, whose tables are read from `numbers`.
     pub fn differences(&self, o: Outcome, frozen: Outcome, numbers: &mut Numbers<'_>) -> Differences
         ensures outcome { IsTrue result.outcome ↔ (o ≢ frozen) }
         ensures objects { IsTrue result.objects ↔ ¬ IsFrozen numbers.old.0.now (places frozen.objects 4) self.now.objects.items }

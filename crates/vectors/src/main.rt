@@ -1,5 +1,5 @@
-// Runs the frozen vectors (docs/VECTORS.md), compares all that the call gives with what is frozen, and prints how many cases of each
-// family and outcome there were and how many differed.
+//! Runs the frozen vectors (docs/VECTORS.md), compares all that the call gives with what is frozen,
+//! and prints how many cases of each family and outcome there were and how many differed.
 #![tactic(auto)]
 
 mod case;

@@ -1,4 +1,4 @@
-// The numbers of the file of cases.
+//! The numbers of the file of cases (docs/VECTORS.md).
 ghost use Rattle.std.specs.Prelude.{◌≡◌, ◌≤◌, ◌↔◌, min, IsTrue, IfOk, length, vec_len};
 ghost use Rattle.std.specs.Int.{from_le_bytes};
 ghost use Rattle.std.specs.Iterator.{at_most};
@@ -8,11 +8,11 @@ ghost use Rattle.vectors.specs.Numbers.{IsFrozen, after_number, after_numbers, a
 
 use std::alloc::{AllocError, Global};
 
-// The bytes that are not read yet.
+/// The bytes that are not read yet.
 #[derive(Drop)]
 pub struct Numbers<'a>(pub &'a [u8]);
 
-// The bytes as a number, the first byte lowest, by the kit's function: a program is held to no form, as `stream` is by the order.
+// The bytes as a number, the first byte lowest.
 fn little_endian(bytes: &[u8]) -> u64
     requires { length bytes.now ≤ 8 }
     ensures { result ≡ from_le_bytes w64 bytes.now }
@@ -48,7 +48,7 @@ impl Iterator for Numbers<'_> {
 }
 
 impl Numbers<'_> {
-    // The next number, 0 where none is left: a file that is cut short has cases that differ, and the clauses say what is read of it.
+    /// The next number; 0 where none is left, so a file that is cut short has cases that differ.
     pub fn number(&mut self) -> u64
         ensures value { result ≡ unwrap_or (first_number self.old.0.now) 0 }
         ensures rest { self.new.0.now ≡ after_number self.old.0.now }
@@ -56,7 +56,7 @@ impl Numbers<'_> {
         self.next().unwrap_or(0)
     }
 
-    // The next number, or `most` where it is greater.
+    /// The next number, or `most` where it is greater.
     pub fn length(&mut self, most: usize) -> usize
         ensures value { result ≡ min (unwrap_or (first_number self.old.0.now) 0) most }
         ensures rest { self.new.0.now ≡ after_number self.old.0.now }
@@ -64,7 +64,8 @@ impl Numbers<'_> {
         usize::try_from(self.number()).unwrap_or(most).min(most)
     }
 
-    // Numbers with their length before them. At most `most` are read, and one that T can't hold counts as 0.
+    /// Numbers with their length before them. At most `most` are read, and one that `T` can't hold
+    /// counts as 0.
     pub fn list<T: TryFrom<u64> + Default>(
         &mut self,
         alloc: Global,
@@ -93,8 +94,8 @@ impl Numbers<'_> {
         same
     }
 
-    // Whether a table has the frozen records, so many of some fields, and zeros after them. 100,000 records or more count as none: an empty
-    // table is meant, and no sign of none.
+    /// Whether a table has the frozen records, `count` of so many fields, and zeros after them. A
+    /// count of 100,000 or more is read as 0.
     pub fn is_frozen(&mut self, table: &[u64], count: u64, fields: u64) -> bool
         ensures same { IsTrue result ↔ IsFrozen self.old.0.now (places count fields) table.now }
         ensures rest { self.new.0.now ≡ after_table self.old.0.now (places count fields) table.now }

@@ -1,12 +1,14 @@
-// What is printed.
+//! What is printed: the parts in which a case differs, and how many cases there were.
 ghost use Rattle.std.specs.Prelude.{◌≡◌, ◌||◌, ◌+◌, ◌<◌, ◌≤◌, nat_lt, if◌then◌else◌, IsTrue};
 
 use std::fmt;
 
-// Which parts of a case differ from what is frozen.
+/// Which parts of a case differ from what is frozen.
 #[derive(Clone, Copy)]
 pub struct Differences {
+    /// The outcome: a refusal and its place, or the record counts and the cursor at the finish.
     pub outcome: bool,
+    /// The object table, and so for the other three.
     pub objects: bool,
     pub slots: bool,
     pub values: bool,
@@ -14,6 +16,7 @@ pub struct Differences {
 }
 
 impl Differences {
+    /// Whether any part differs.
     pub fn any(&self) -> bool
         ensures { result ≡ (self.now.outcome || self.now.objects || self.now.slots || self.now.values || self.now.addresses) }
     {
@@ -42,7 +45,7 @@ impl fmt::Display for Differences {
 
 // What the families are called, by their numbers in cases.bin.
 const FAMILIES: [&str; 8] = [
-    "document 01",
+    "examples",
     "modern",
     "legacy",
     "map-first",
@@ -55,7 +58,7 @@ const FAMILIES: [&str; 8] = [
 // No count goes further.
 const MOST: u64 = 1000000;
 
-// How many cases there were of each family and of each frozen number, and how many differed.
+/// How many cases there were of each family and of each frozen number, and how many differed.
 #[derive(Clone, Copy, Default)]
 pub struct Tally {
     families: [u64; 8],
@@ -81,6 +84,7 @@ fn count_at(counts: &mut [u64], k: u64) {
 }
 
 impl Tally {
+    /// Counts a case: its family, its frozen refusal's number or 0, and whether it differs.
     pub fn add(&mut self, family: u64, outcome: u64, differs: bool)
         ensures counted { IsTrue differs → 0 < self.new.differ }
         ensures kept { self.old.differ ≤ self.new.differ }

@@ -106,7 +106,7 @@ module _ (x : Input) where
   place_item_ground o done (WeakRef k) m = keep_ground o done (WeakRef k) m
   place_item_ground o done (PendingRef n) m = keep_ground o done (PendingRef n) m
 
--- ---- scratch, after a reader of slots: the places of pending numbers by the reader's promise, the rest because it is as it was
+-- ---- scratch after a reader of slots: the places of pending numbers are promised, the rest stays
 
 abbrev PendingOut : {A : Type 0} → Out A → List ℕ → Type 0
 PendingOut (got v m) part = Indexed m.slots.rows m.slots.count part

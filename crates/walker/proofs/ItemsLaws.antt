@@ -1,4 +1,5 @@
--- The items of an object in the steps that the code takes: one item, what it keeps, and the rest after it. Assumes nothing.
+-- The items of an object in the steps that the code takes: one item, what it keeps, and the rest
+-- after it. Assumes nothing.
 use mathlib.Core.Path.{◌≡◌, refl, sym, subst, ◌∙◌}
 use mathlib.Core.Bool.{Bool, true, false}
 use mathlib.Core.List.{List}

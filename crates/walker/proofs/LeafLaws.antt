@@ -1,4 +1,5 @@
--- A leaf as a reference one level down, or as an item: what its readers leave, also where they found none. Assumes nothing.
+-- A leaf as a reference one level down, or as an item: what its readers leave, also where they
+-- found none. Assumes nothing.
 use mathlib.Core.Path.{◌≡◌, sym, subst}
 use Prim.Native.Nat.{ℕ, suc, ◌-◌, ◌<◌}
 use native.Mathlib.Omega.{arith}

@@ -1,4 +1,5 @@
--- The readers of an object's map and of its items at each way out, as the code holds what they read. Assumes nothing.
+-- The readers of an object's map and of its items at each way out, as the code holds what they
+-- read. Assumes nothing.
 use mathlib.Core.Path.{◌≡◌, refl, sym, ap, subst, ◌∙◌}
 use Prim.Native.Nat.{ℕ, suc, ◌+◌, ◌-◌, ◌%◌, ◌^◌, ◌<◌, ◌≤◌}
 use native.Mathlib.Omega.{arith}

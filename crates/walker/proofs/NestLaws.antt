@@ -1,5 +1,5 @@
--- Objects within objects, as the loop of `parse_items` reads them: what is left to read at each level, and what holds at the head of the
--- loop. Assumes nothing.
+-- Objects within objects, as the loop of `parse_items` reads them: what is left to read at each
+-- level, and what holds at the head of the loop. Assumes nothing.
 use mathlib.Core.Path.{◌≡◌, refl, sym, ap, subst, ◌∙◌}
 use mathlib.Core.Bool.{true, false}
 use mathlib.Core.List.{List, [], ◌∷◌, ◌++◌}
@@ -46,7 +46,8 @@ use Rattle.walker.proofs.ReferenceLaws.{ref_object, space_low}
 
 -- ---- what is left to read
 
--- of the objects ls, the outermost of which stands at depth d, where a reference in the innermost gave this
+-- of the objects ls, the outermost of which stands at depth d, where a reference in the innermost
+-- gave this
 unfoldable pub resumed : Input → ℕ → List Level → Out SlotValue → Out SlotValue
 resumed x d [] u = u
 resumed x d (l ∷ ls) u = filled x (ref_at x (64 - d)) l (and_then (resumed x (suc d) ls u) (place_item x l.object l.done))
@@ -105,7 +106,8 @@ module _ (w₀ : Walker) (s₀ : State) (d : ℕ) (first : Level) where
   abbrev inner : Input → List Level → Reader SlotValue
   inner x ls = ref_at x (64 - (d + length ls))
 
-  -- the objects ls, the outermost first, around what gives this then: what is left to read gives what the whole gives
+  -- the objects ls, the outermost first, around what gives this then: what is left to read gives
+  -- what the whole gives
   pub record Inside (ls : List Level) (u : Input → Out SlotValue) (w : Walker) (t : State) : Type 0 where
     pub fixed : Fixed w₀ w
     pub ready : Ready w t
@@ -266,32 +268,26 @@ module _ {w₀ : Walker} {s₀ : State} {d : ℕ} {first : Level} {ls : List Lev
   -- ---- an object that is full, in the innermost of those around it
 
   module _ (e : l.done ≡ l.size) (ls₁ : List Level) (around : Level) (z : ls ≡ ls₁ ++ around ∷ []) where
-    -- what `put_object` says of its answer
-    abbrev Put : Out ℕ → Type 0
-    Put o =
-        (x : Input) → word x ≡ word_bytes w.sheet.now → around.done + t.skip + word x < 2 ^ 64 → o ≡ place_item x around.object around.done (Ref (Object l.object)) m
-
     parts : All (Around m) ls₁ × Around m around
     parts = All-pop (Around m) ls ls₁ (Some around) z n.inside.outer
 
-    put : {o : Out ℕ} → Put o → o ≡ place_item x around.object around.done (Ref (Object l.object)) m
-    put f =
+    pub put_fits : around.done + t.skip + word_bytes w.sheet.now < 2 ^ 64
+    put_fits =
         let g = n.inside.ready in
-        f x refl (omega (arith, parts.1.0.small, parts.1.1, word_low g.proper, g.sound.skip_low, g.sound.within, g.proper.short))
+        omega (arith, parts.1.0.small, parts.1.1, word_low g.proper, g.sound.skip_low, g.sound.within, g.proper.short)
 
     left : resumed x d ls₁ (filled x (ref_at x (64 - (d + length ls₁))) around (place_item x around.object around.done (Ref (Object l.object)) m)) ≡ whole
     left = let f = full e in sym (resumed_inner x d ls₁ around (got (Ref (Object l.object)) m) refl) ∙ rw z at f
 
-    pub nest_roomless : {k q : ℕ} {m1 : Mem} → Put (no k q m1) → no k q m1 ≡ whole
-    nest_roomless f = resumed_no x d ls₁ (filled_no x (ref_at x (64 - (d + length ls₁))) around (put f)) ∙ left
+    pub nest_roomless : {k q : ℕ} {m1 : Mem} → no k q m1 ≡ place_item x around.object around.done (Ref (Object l.object)) m → no k q m1 ≡ whole
+    nest_roomless f = resumed_no x d ls₁ (filled_no x (ref_at x (64 - (d + length ls₁))) around f) ∙ left
 
-    pub nest_ends : {k : ℕ} {y : State} {w₁ : Walker} → Put (got k (mem y (lent_of w₁))) → Kept w w₁ → Nest w₀ s₀ d first ls₁ (done_is k around) w₁ y × (t.at ≤ y.at)
+    pub nest_ends : {k : ℕ} {y : State} {w₁ : Walker} → got k (mem y (lent_of w₁)) ≡ place_item x around.object around.done (Ref (Object l.object)) m → Kept w w₁ → Nest w₀ s₀ d first ls₁ (done_is k around) w₁ y × (t.at ≤ y.at)
     nest_ends {k} {y} {w₁} f a =
         let g = order_of n.inside.ready in
         let q = parts in
-        let p = put f in
-        let r = place_went g.sound g.counted g.numbered g.ascending g.proper around.object around.done q.1.0.below (Ref (Object l.object)) (omega (arith, word_low g.proper)) tt p in
+        let r = place_went g.sound g.counted g.numbered g.ascending g.proper around.object around.done q.1.0.below (Ref (Object l.object)) (omega (arith, word_low g.proper)) tt f in
         let u = r.kept.onward in
-        let i = object_index x around.object around.done l.object m (scratch_of w) g.index p in
-        let s : resumed x d ls₁ (filled x (ref_at x (64 - (d + length ls₁))) around (got k (mem y (lent_of w₁)))) ≡ whole = rw (← p) at left in
+        let i = object_index x around.object around.done l.object m (scratch_of w) g.index f in
+        let s : resumed x d ls₁ (filled x (ref_at x (64 - (d + length ls₁))) around (got k (mem y (lent_of w₁)))) ≡ whole = rw (← f) at left in
         (record { inside = inside_on n.inside ls₁ (omega (arith, n.inside.deep, ap length z, length_push ls₁ around)) q.0 a.0 (order_after g r.kept r.numbered r.ascending (rw (same_scratch w w₁ a.1) i)) u _ s; held = held_on u q.1.0; most = omega (arith, r.more.bound, q.1.1, g.sound.skip_low, g.sound.within, g.proper.short) }, u.at_up)

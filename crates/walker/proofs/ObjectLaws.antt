@@ -1,4 +1,5 @@
--- An object's head and its map with what follows it, at each way out of the code, and what holds there. Assumes nothing.
+-- An object's head and its map with what follows it, at each way out of the code, and what holds
+-- there. Assumes nothing.
 use mathlib.Core.Path.{◌≡◌, refl, sym, ap, subst, ◌∙◌}
 use mathlib.Core.Bool.{Bool, true, false, ◌&&◌}
 use mathlib.Core.List.{List}

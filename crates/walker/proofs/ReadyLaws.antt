@@ -1,5 +1,5 @@
--- What holds at the start of a reader, after one of them went: the pure part by the laws of the definition, the index by the code's
--- answers. Assumes nothing.
+-- What holds at the start of a reader, after one of them went: the pure part by the laws of the
+-- definition, the index by the code's answers. Assumes nothing.
 use mathlib.Core.Path.{◌≡◌, sym, subst}
 use mathlib.Core.List.{List}
 use Prim.Native.Nat.{ℕ, ◌+◌, ◌-◌, ◌%◌, ◌<◌}

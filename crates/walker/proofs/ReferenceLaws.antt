@@ -1,18 +1,19 @@
--- A reference at each of its ways out: what its head byte gives, what holds where an inner reference starts, and that heads that open no
--- object change no slot. Assumes nothing.
+-- A reference at each of its ways out: what its head byte gives, what holds where an inner
+-- reference starts, and that heads that open no object change no slot. Assumes nothing.
 use mathlib.Core.Path.{◌≡◌, refl, sym, ap, subst, ◌∙◌}
 use mathlib.Core.Bool.{Bool}
 use Prim.Native.Nat.{ℕ, suc, ◌+◌, ◌-◌, ◌^◌, ◌<◌, ◌≤◌}
 use native.Mathlib.Omega.{arith}
-use borrow.Author.Tests.{lt-ltb, le-ltb, eqb-true}
-use lib.Dec.{ltb, eqb}
+use borrow.Author.Tests.{lt-ltb, le-ltb}
+use lib.Dec.{ltb}
 use lib.ListN.{length, get_or}
 use Rattle.std.specs.Prelude.{Option, Some, None, Ok, Err, IfSome, IsNone}
 use Rattle.std.specs.Option.{ok_or}
 use Rattle.stream.specs.Bytes.{raw_at}
 use Rattle.stream.specs.declared.putint.Int.{Int}
 use Rattle.stream.specs.PutInt.{int_at}
-use Rattle.heads.specs.Kinds.{kind_number, new_object, backref, legacy_backref, legacy_backref_with_skip, next_chunk, alignment, hot, hot_with_skip, root_array, root_constant, root_constant_with_skip, read_only, attached, builtin, external, api, internal, deoptimizer, stream_bytes, embedder_fields, off_heap_target, cache, register_pending, cleared_weak, weak_prefix, pointer_prefix, dispatch_entry, fixed_raw, variable_raw, skip, fixed_repeat, fixed_repeat_root, repeat_previous, variable_repeat, variable_repeat_previous, variable_repeat_root, meta_map}
+use Rattle.heads.specs.declared.kinds.Kind.{Kind}
+use Rattle.heads.specs.declared.kinds.Kind.TheVariants.{NoMeaning, NewObject as NewObjectKind, Backref, LegacyBackref, LegacyBackrefWithSkip, NextChunk, Alignment, Hot, HotWithSkip, RootArray, RootConstant, RootConstantWithSkip, ReadOnly, Attached, Builtin, External, Api, Internal, Deoptimizer, StreamBytes, EmbedderFields, OffHeapTarget, Cache, RegisterPending, ClearedWeak, WeakPrefix, PointerPrefix, DispatchEntry, FixedRaw, VariableRaw, Skip, FixedRepeat, FixedRepeatRoot, RepeatPrevious, VariableRepeat, VariableRepeatPrevious, VariableRepeatRoot, MetaMap}
 use Rattle.heads.specs.Heads.{head_of}
 use Rattle.tables.specs.declared.values.Ref.{Ref}
 use Rattle.tables.specs.declared.values.Ref.TheVariants.{Root}
@@ -23,7 +24,7 @@ use Rattle.tables.specs.Values.{fields_of}
 use Rattle.backref.specs.HotRing.{hot_at}
 use Rattle.backref.specs.declared.legacy.BackrefError.TheVariants.{Cut, Unknown}
 use Rattle.backref.specs.Legacy.{Answer as Found, backref_of}
-use Rattle.definition.specs.Memory.{Input, Table, Mem, Out, got, no, Reader, and_then, ◌>>=◌, ◌>>◌, choose, change, moved, aligned, after_int, byte, int, has_room}
+use Rattle.definition.specs.Memory.{Input, Table, Mem, Out, got, no, Reader, and_then, ◌>>=◌, ◌>>◌, change, moved, aligned, after_int, byte, int, has_room}
 use Rattle.definition.specs.Slots.{add_value}
 use Rattle.definition.specs.Object.{change_chunk, object}
 use Rattle.definition.specs.Reference.{skip_amount, backref_to, of_hot, hot_place, of_backref, legacy_reference, pending_reference, after_raw, raw_data, weak_of, repeat_of, repeat_root, by_head, reference, ref_at}
@@ -46,7 +47,7 @@ use Rattle.objects.specs.Head.{NewAt}
 use Rattle.readers.specs.Simple.{Simple}
 use Rattle.readers.specs.Prefix.{held, Holdless, Begins}
 use Rattle.readers.proofs.ViewLaws.{then_got, then_no}
-use Rattle.readers.proofs.HeadFacts.{head_fits, head_simple}
+use Rattle.heads.proofs.Rules.{Argued, head_argued}
 use Rattle.heads.specs.declared.heads.Head.{Head as CodeHead}
 use Rattle.walker.specs.Ready.{Ready, After}
 use Rattle.objects.proofs.AnswerLaws.{fixed_on, same_input}
@@ -144,51 +145,48 @@ none_still x m = refl
 
 -- ---- by the head
 
-module _ (x : Input) (r : Reader SlotValue) (s : Still r) (tag kind a : ℕ) (other : kind ≡ new_object → ⊥) where
-  by_head_still : Still (by_head x r tag kind a)
+-- a head that opens no object
+module _ (x : Input) (r : Reader SlotValue) (s : Still r) (tag : ℕ) where
+  by_head_still : (kind : Kind) (a : ℕ) → (kind ≡ NewObjectKind → ⊥) → Still (by_head x r tag kind a)
   unfolding by_head
-  by_head_still m =
-      by new_object _ _ (λ e. absurd (other e))
-      (by backref _ _ (λ _. then_leaves records_of (int x) _ (int_still x) backref_to_still m)
-      (by legacy_backref _ _ (λ _. legacy_still x a m)
-      (by legacy_backref_with_skip _ _ (λ _. next_leaves records_of (skip_amount x) _ (amount_still x) (legacy_still x a) m)
-      (by next_chunk _ _ (λ _. next_leaves records_of (byte x >>= (λ space. change (change_chunk x space))) r (then_leaves records_of (byte x) (λ space. change (change_chunk x space)) (byte_still x) (λ space m. refl)) s m)
-      (by alignment _ _ (λ _. next_leaves records_of (change (aligned a)) r (λ m. refl) s m)
-      (by hot _ _ (λ _. hot_still a m)
-      (by hot_with_skip _ _ (λ _. next_leaves records_of (skip_amount x) _ (amount_still x) (hot_still a) m)
-      (by root_array _ _ (λ _. then_leaves records_of (int x) _ (int_still x) (λ i m. refl) m)
-      (by root_constant _ _ (λ _. refl)
-      (by root_constant_with_skip _ _ (λ _. next_leaves records_of (skip_amount x) _ (amount_still x) (λ m. refl) m)
-      (by read_only _ _ (λ _. then_leaves records_of (int x) _ (int_still x) (λ c. then_leaves records_of (int x) _ (int_still x) (λ o m. refl)) m)
-      (by attached _ _ (λ _. then_leaves records_of (int x) _ (int_still x) (λ i m. refl) m)
-      (by builtin _ _ (λ _. then_leaves records_of (int x) _ (int_still x) (λ i m. refl) m)
-      (by external _ _ (λ _. then_leaves records_of (int x) _ (int_still x) (λ i m. refl) m)
-      (by api _ _ (λ _. next_leaves records_of (skip_amount x) _ (amount_still x) (then_leaves records_of (int x) _ (int_still x) (λ i m. refl)) m)
-      (by internal _ _ (λ _. next_leaves records_of (int x >> int x) _ (next_leaves records_of (int x) (int x) (int_still x) (int_still x)) (λ m. refl) m)
-      (by deoptimizer _ _ (λ _. next_leaves records_of (int x) _ (int_still x) (λ m. refl) m)
-      (by stream_bytes _ _ (λ _. then_leaves records_of (int x) _ (int_still x) (λ n m. refl) m)
-      (by embedder_fields _ _ (λ _. then_leaves records_of (int x >> int x) _ (next_leaves records_of (int x) (int x) (int_still x) (int_still x)) (λ n m. refl) m)
-      (by off_heap_target _ _ (λ _. next_leaves records_of (skip_amount x >> int x) _ (next_leaves records_of (skip_amount x) (int x) (amount_still x) (int_still x)) (λ m. refl) m)
-      (by cache _ _ (λ _. then_leaves records_of (int x) _ (int_still x) (λ i m. refl) m)
-      (by register_pending _ _ (λ _. pending_still m)
-      (by cleared_weak _ _ (λ _. refl)
-      (by weak_prefix _ _ (λ _. then_leaves records_of r _ s weak_still m)
-      (by pointer_prefix _ _ (λ _. s m)
-      (by dispatch_entry _ _ (λ _. next_leaves records_of (int x) _ (int_still x) (λ m. refl) m)
-      (by fixed_raw _ _ (λ _. raw_still x _ _ m)
-      (by variable_raw _ _ (λ _. then_leaves records_of (int x) _ (int_still x) (λ n. raw_still x _ _) m)
-      (by skip _ _ (λ _. then_leaves records_of (int x) _ (int_still x) (λ n m. refl) m)
-      (by fixed_repeat _ _ (λ _. then_leaves records_of r _ s (repeat_still a) m)
-      (by fixed_repeat_root _ _ (λ _. root_still x a m)
-      (by repeat_previous _ _ (λ _. refl)
-      (by variable_repeat _ _ (λ _. then_leaves records_of (int x) _ (int_still x) (λ n. then_leaves records_of r _ s (repeat_still (n + 18))) m)
-      (by variable_repeat_previous _ _ (λ _. then_leaves records_of (int x) _ (int_still x) (λ n m. refl) m)
-      (by variable_repeat_root _ _ (λ _. then_leaves records_of (int x) _ (int_still x) (λ n. root_still x (n + 18)) m)
-      (by meta_map _ _ (λ _. refl)
-      refl))))))))))))))))))))))))))))))))))))
-    where
-      by : (k : ℕ) (f g : Reader SlotValue) → (kind ≡ k → Idle m (f m)) → Idle m (g m) → Idle m (choose (eqb kind k) f g m)
-      by k f g h j = same_choose records_of (eqb kind k) f g m (λ e. h (eqb-true kind k e)) j
+  by_head_still NewObjectKind a n m = absurd (n refl)
+  by_head_still Backref a n m = then_leaves records_of (int x) _ (int_still x) backref_to_still m
+  by_head_still LegacyBackref a n m = legacy_still x a m
+  by_head_still LegacyBackrefWithSkip a n m = next_leaves records_of (skip_amount x) _ (amount_still x) (legacy_still x a) m
+  by_head_still NextChunk a n m = next_leaves records_of (byte x >>= (λ space. change (change_chunk x space))) r (then_leaves records_of (byte x) (λ space. change (change_chunk x space)) (byte_still x) (λ space m. refl)) s m
+  by_head_still Alignment a n m = next_leaves records_of (change (aligned a)) r (λ m. refl) s m
+  by_head_still Hot a n m = hot_still a m
+  by_head_still HotWithSkip a n m = next_leaves records_of (skip_amount x) _ (amount_still x) (hot_still a) m
+  by_head_still RootArray a n m = then_leaves records_of (int x) _ (int_still x) (λ i m. refl) m
+  by_head_still RootConstant a n m = refl
+  by_head_still RootConstantWithSkip a n m = next_leaves records_of (skip_amount x) _ (amount_still x) (λ m. refl) m
+  by_head_still ReadOnly a n m = then_leaves records_of (int x) _ (int_still x) (λ c. then_leaves records_of (int x) _ (int_still x) (λ o m. refl)) m
+  by_head_still Attached a n m = then_leaves records_of (int x) _ (int_still x) (λ i m. refl) m
+  by_head_still Builtin a n m = then_leaves records_of (int x) _ (int_still x) (λ i m. refl) m
+  by_head_still External a n m = then_leaves records_of (int x) _ (int_still x) (λ i m. refl) m
+  by_head_still Api a n m = next_leaves records_of (skip_amount x) _ (amount_still x) (then_leaves records_of (int x) _ (int_still x) (λ i m. refl)) m
+  by_head_still Internal a n m = next_leaves records_of (int x >> int x) _ (next_leaves records_of (int x) (int x) (int_still x) (int_still x)) (λ m. refl) m
+  by_head_still Deoptimizer a n m = next_leaves records_of (int x) _ (int_still x) (λ m. refl) m
+  by_head_still StreamBytes a n m = then_leaves records_of (int x) _ (int_still x) (λ n m. refl) m
+  by_head_still EmbedderFields a n m = then_leaves records_of (int x >> int x) _ (next_leaves records_of (int x) (int x) (int_still x) (int_still x)) (λ n m. refl) m
+  by_head_still OffHeapTarget a n m = next_leaves records_of (skip_amount x >> int x) _ (next_leaves records_of (skip_amount x) (int x) (amount_still x) (int_still x)) (λ m. refl) m
+  by_head_still Cache a n m = then_leaves records_of (int x) _ (int_still x) (λ i m. refl) m
+  by_head_still RegisterPending a n m = pending_still m
+  by_head_still ClearedWeak a n m = refl
+  by_head_still WeakPrefix a n m = then_leaves records_of r _ s weak_still m
+  by_head_still PointerPrefix a n m = s m
+  by_head_still DispatchEntry a n m = next_leaves records_of (int x) _ (int_still x) (λ m. refl) m
+  by_head_still FixedRaw a n m = raw_still x _ _ m
+  by_head_still VariableRaw a n m = then_leaves records_of (int x) _ (int_still x) (λ n. raw_still x _ _) m
+  by_head_still Skip a n m = then_leaves records_of (int x) _ (int_still x) (λ n m. refl) m
+  by_head_still FixedRepeat a n m = then_leaves records_of r _ s (repeat_still a) m
+  by_head_still FixedRepeatRoot a n m = root_still x a m
+  by_head_still RepeatPrevious a n m = refl
+  by_head_still VariableRepeat a n m = then_leaves records_of (int x) _ (int_still x) (λ n. then_leaves records_of r _ s (repeat_still (n + 18))) m
+  by_head_still VariableRepeatPrevious a n m = then_leaves records_of (int x) _ (int_still x) (λ n m. refl) m
+  by_head_still VariableRepeatRoot a n m = then_leaves records_of (int x) _ (int_still x) (λ n. root_still x (n + 18)) m
+  by_head_still MetaMap a n m = refl
+  by_head_still NoMeaning a n m = refl
 
 -- so is scratch, after a step that left them
 module _ (m : Mem) (sc : Scratch) (i : Index m.slots m.addresses sc) where
@@ -222,41 +220,42 @@ module _ (x : Input) (d : ℕ) (m : Mem) where
     unfolding reference byte
     ref_byte l b e = rw (← ref_on, lt-ltb m.at (length x.payload) l, e)
 
-head-object : (x : Input) (r : Reader SlotValue) (tag kind a : ℕ) (m : Mem) → kind ≡ new_object → object x r a tag m ≡ by_head x r tag kind a m
+head-object : (x : Input) (r : Reader SlotValue) (tag : ℕ) (kind : Kind) (a : ℕ) (m : Mem) → kind ≡ NewObjectKind → object x r a tag m ≡ by_head x r tag kind a m
 unfolding by_head
 head-object x r tag kind a m e = rw e
 
 -- the head byte's kind and argument
 module _ {w : Walker} {s : State} (g : Ready w s) {head : CodeHead} (r : HeadAt w s.at head) where
-  ref_head : (d : ℕ) → d ≤ 64 → by_head (input_of w) (ref_at (input_of w) (64 - d)) s.at (kind_number head.kind) head.argument (mem (moved_to (s.at + 1) s) (lent_of w)) ≡ ref_at (input_of w) (65 - d) (mem s (lent_of w))
+  ref_head : (d : ℕ) → d ≤ 64 → by_head (input_of w) (ref_at (input_of w) (64 - d)) s.at head.kind head.argument (mem (moved_to (s.at + 1) s) (lent_of w)) ≡ ref_at (input_of w) (65 - d) (mem s (lent_of w))
   ref_head d low =
       let b : ℕ = get_or w.payload.now s.at 0 in
-      rw (r.is, g.decoded.kind b r.low, g.decoded.argument b r.low) (ref_byte (input_of w) d (mem s (lent_of w)) low r.inside b refl)
+      rw (r.is, g.decoded.each b r.low) (ref_byte (input_of w) d (mem s (lent_of w)) low r.inside b refl)
 
-  module _ (other : kind_number head.kind ≡ new_object → ⊥) where
-    is_simple : Holdless (kind_number head.kind) → Simple (kind_number head.kind) head.argument
+  module _ (other : head.kind ≡ NewObjectKind → ⊥) where
+    is_simple : Holdless head.kind → Simple head.kind head.argument
     is_simple k =
         let b : ℕ = get_or w.payload.now s.at 0 in
-        let z : kind_number head.kind ≡ (head_of w.sheet.now b).kind = rw r.is (g.decoded.kind b r.low) in
-        rw (z, r.is, g.decoded.argument b r.low) (head_simple w.sheet.now b r.low (λ e. other (z ∙ e)) (rw z at k))
+        let argued : Argued head = rw (r.is, g.decoded.each b r.low) (head_argued w.sheet.now b r.low) in
+        record { no_object = other; holdless = k; place = argued.place; skip_place = argued.skip_place; small = omega (arith, argued.bound) }
 
     abbrev m : Mem
     m = mem (moved_to (s.at + 1) s) (lent_of w)
 
     -- what the head gives leaves the slots as they were, where its inner reference does
-    head-idle : Idle m (by_head (input_of w) (ref_at (input_of w) 0) s.at (kind_number head.kind) head.argument m)
+    head-idle : Idle m (by_head (input_of w) (ref_at (input_of w) 0) s.at head.kind head.argument m)
     head-idle = by_head_still (input_of w) (ref_at (input_of w) 0) (none_still (input_of w)) s.at _ _ other m
 
-    head_indexed : {o : Out SlotValue} → o ≡ by_head (input_of w) (ref_at (input_of w) 0) s.at (kind_number head.kind) head.argument m → OutIndex o (scratch_of w)
+    head_indexed : {o : Out SlotValue} → o ≡ by_head (input_of w) (ref_at (input_of w) 0) s.at head.kind head.argument m → OutIndex o (scratch_of w)
     head_indexed q = idle_index m (scratch_of w) (order_moved (order_of g) r.inside).index q head-idle
 
-    -- an inner reference may start where a prefix has been read: with no levels left it is refused there
-    inner_ready : (k : Held) (m' : Mem) → ((inner : Reader SlotValue) → (inner >>= held k) m' ≡ by_head (input_of w) inner s.at (kind_number head.kind) head.argument m) → InOrder (input_of w) w.heads.now m' (scratch_of w)
+    -- an inner reference may start where a prefix has been read: with no levels left it is refused
+    -- there
+    inner_ready : (k : Held) (m' : Mem) → ((inner : Reader SlotValue) → (inner >>= held k) m' ≡ by_head (input_of w) inner s.at head.kind head.argument m) → InOrder (input_of w) w.heads.now m' (scratch_of w)
     unfolding ref_at
     inner_ready k m' q =
         let x : Input = input_of w in
         let m₀ : Mem = mem s (lent_of w) in
-        let z : no 6 m'.at m' ≡ by_head x (ref_at x 0) s.at (kind_number head.kind) head.argument m = q (ref_at x 0) in
+        let z : no 6 m'.at m' ≡ by_head x (ref_at x 0) s.at head.kind head.argument m = q (ref_at x 0) in
         let y : no 6 m'.at m' ≡ ref_at x 1 m₀ = z ∙ ref_head 64 (omega arith) in
         order_after (order_of g) (subst (Holds x m₀ (Referred x m₀)) (sym y) (ref_keeps g.proper 1 m₀ g.sound g.counted))
         (subst (Ordered Free) (sym y) (ref_numbered g.proper m₀ g.sound g.counted g.numbered 1))
@@ -265,7 +264,7 @@ module _ {w : Walker} {s : State} (g : Ready w s) {head : CodeHead} (r : HeadAt 
 
 -- ---- a new object
 
-pub new_at : {w : Walker} {at : ℕ} {head : CodeHead} {new : NewObject} → HeadAt w at head → (kind_number head.kind ≡ new_object) × (new ≡ record { tag = at; space = head.argument }) → NewAt w at new
+pub new_at : {w : Walker} {at : ℕ} {head : CodeHead} {new : NewObject} → HeadAt w at head → (head.kind ≡ NewObjectKind) × (new ≡ record { tag = at; space = head.argument }) → NewAt w at new
 new_at r k = record { inside = r.inside; low = r.low; kind = rw r.is at k.0; is = rw (k.1, r.is) }
 
 module _ {w : Walker} {s : State} (g : Ready w s) {new : NewObject} (n : NewAt w s.at new) where
@@ -277,7 +276,7 @@ module _ {w : Walker} {s : State} (g : Ready w s) {new : NewObject} (n : NewAt w
   pub space_low : new.space < 256
   space_low =
       let b : ℕ = get_or w.payload.now s.at 0 in
-      rw (n.is, g.decoded.argument b n.low) ((head_fits w.sheet.now b n.low).space (sym (g.decoded.kind b n.low) ∙ n.kind))
+      rw (n.is, g.decoded.each b n.low) ((head_argued w.sheet.now b n.low).space (rw (g.decoded.each b n.low) at n.kind))
 
 -- ---- after the head byte
 
@@ -292,12 +291,12 @@ ref_cut w s h (Some b) q f z y = absurd (let z : ◌≡◌ {A = ℕ} 0 1 = cc in
 pub record Headed (w : Walker) (s : State) (head : CodeHead) (p : Answer Prefix) (w₁ : Walker) : Type 0 where
   pub ready : Ready w s
   pub read : HeadAt w s.at head
-  pub other : kind_number head.kind ≡ new_object → ⊥
-  pub begins : (tag : ℕ) → Begins (input_of w) tag (kind_number head.kind) head.argument (moved_to (s.at + 1) s) (lent_of w) p (lent_of w₁)
+  pub other : head.kind ≡ NewObjectKind → ⊥
+  pub begins : (tag : ℕ) → Begins (input_of w) tag head.kind head.argument (moved_to (s.at + 1) s) (lent_of w) p (lent_of w₁)
   pub kept : Kept w w₁
 
-pub head_read : {w : Walker} {s : State} {o : Option CodeHead} {head : CodeHead} {w₁ : Walker} (p : Answer Prefix) → Ready w s → IfSome o (HeadAt w s.at) → o ≡ Some head → (kind_number head.kind ≡ new_object → ⊥)
-    → record { begins : (tag : ℕ) → Begins (input_of w) tag (kind_number head.kind) head.argument (moved_to (s.at + 1) s) (lent_of w) p (lent_of w₁); kept : Kept w w₁ }
+pub head_read : {w : Walker} {s : State} {o : Option CodeHead} {head : CodeHead} {w₁ : Walker} (p : Answer Prefix) → Ready w s → IfSome o (HeadAt w s.at) → o ≡ Some head → (head.kind ≡ NewObjectKind → ⊥)
+    → record { begins : (tag : ℕ) → Begins (input_of w) tag head.kind head.argument (moved_to (s.at + 1) s) (lent_of w) p (lent_of w₁); kept : Kept w w₁ }
     → Headed w s head p w₁
 head_read p g r i f q = record { ready = g; read = rw i at r; other = f; begins = q.begins; kept = q.kept }
 
@@ -305,8 +304,8 @@ module _ {w : Walker} {s : State} {head : CodeHead} {p : Answer Prefix} {w₁ : 
   abbrev x : Input
   x = input_of w
 
-  abbrev kind : ℕ
-  kind = kind_number head.kind
+  abbrev kind : Kind
+  kind = head.kind
 
   abbrev a : ℕ
   a = head.argument

@@ -1,5 +1,5 @@
--- Readers that leave a part of what they have as it was, with a value or a refusal: a view of it is the same before and after. Assumes
--- nothing.
+-- Readers that leave a part of what they have as it was, with a value or a refusal: a view of it is
+-- the same before and after. Assumes nothing.
 use mathlib.Core.Path.{◌≡◌, refl, sym, subst, ◌∙◌}
 use mathlib.Core.Bool.{Bool, true, false}
 use Prim.Native.Nat.{ℕ}

@@ -1,4 +1,5 @@
--- What a walker and a state have in order, over the definition's input and memory, and what an answer says of it. Assumes nothing.
+-- What a walker and a state have in order, over the definition's input and memory, and what an
+-- answer says of it. Assumes nothing.
 use mathlib.Core.Path.{◌≡◌, sym, subst}
 use mathlib.Core.List.{List}
 use Prim.Native.Nat.{ℕ}

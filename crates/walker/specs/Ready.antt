@@ -1,5 +1,5 @@
--- What holds at the start of each of the readers that call each other, and the parts of an object that they read. Assumes nothing: these
--- are definitions.
+-- What holds at the start of each of the readers that call each other, and the parts of an object
+-- that they read. Assumes nothing: these are definitions.
 use Rattle.std.specs.Prelude.{ℕ, ◌+◌, ◌-◌, ◌*◌, ◌^◌, ◌<◌, ◌≤◌, length}
 use Rattle.heads.specs.Heads.{Heads}
 use Rattle.tables.specs.declared.values.SlotValue.{SlotValue}
@@ -17,7 +17,8 @@ use Rattle.objects.specs.declared.item.Level.{Level}
 use Rattle.objects.specs.Head.{opening}
 use Rattle.objects.specs.Index.{Indexed, IndexedAfter, LinkedAfter}
 
--- the input is one that the walk takes, the heads are the sheet's, what the reader has is in order, and so is scratch
+-- the input is one that the walk takes, the heads are the sheet's, what the reader has is in order,
+-- and so is scratch
 pub record Ready (w : Walker) (s : State) : Type 0 where
   pub proper : Proper (input_of w)
   pub decoded : Heads w.sheet.now w.heads.now
@@ -39,7 +40,8 @@ abbrev pub mapped : Input → Reader SlotValue → ℕ → ℕ → ℕ → Reade
 mapped x r space size o =
     read_map x r space size o >>= keep_map x o >> (λ m. resolves x o (length x.payload - m.at) m)
 
--- an object's head, its map with what follows it, and its resolves: the object that is read then, of which the map's word has been read
+-- an object's head, its map with what follows it, and its resolves: the object that is read then,
+-- of which the map's word has been read
 abbrev pub headed : Input → Reader SlotValue → ℕ → ℕ → Reader Level
 headed x r space tag m =
     (opening x space tag
@@ -51,7 +53,8 @@ abbrev pub items_of : Input → Reader SlotValue → Level → Reader SlotValue
 items_of x r l m =
     (items x r l.object l.size (length x.payload - m.at + 1) l.done >>= closed l.object l.tag l.size) m
 
--- what holds of an object after its head: it has its record and a slot, and no more than its map has been read
+-- what holds of an object after its head: it has its record and a slot, and no more than its map
+-- has been read
 abbrev pub Opened : Level → State → Type 0
 Opened l s = (l.object < s.objects) × (0 < s.slots) × (l.size < 2 ^ 33) × (l.done ≤ 8)
 

@@ -1,4 +1,10 @@
-// A reference, its object and the items of that object. The depth d of a reference is at most 64 (else a refusal).
+//! A reference, its object and the items of that object. The depth of a reference is at most 64;
+//! a deeper one is refused.
+//!
+//! The commonest references are read by `leaves`, `weak_leaves` and `opened_leaves`, with no call
+//! of the cycle. A state that is handed to a function which stays a call is copied for it, and what
+//! that function answers is taken apart: else the state would stand in memory where no such call is
+//! made.
 
 ghost use Rattle.std.specs.Prelude.{◌≡◌, ◌-◌, ◌^◌, ◌%◌, ◌<◌, ◌≤◌, IfOk};
 ghost use Rattle.sheet.specs.Sheet.{word_bytes};
@@ -29,7 +35,9 @@ use stream::bytes::peek;
 use tables::values::{Ref, SlotValue};
 use weak_leaves::weak::place_weak;
 
-// A reference at depth d.
+/// Reads the reference at the cursor, at depth `d` (0 for one that no object holds): its value.
+/// Refused as docs/FORMAT.md, "Refusals", says, with the state that was reached. It is `parse_ref`
+/// of the Rust.
 #[cycle(walk)]
 pub fn parse_ref(w: &mut Walker, s: State, d: usize) -> Answer<SlotValue>
     requires ready { Ready w.old s }
@@ -57,7 +65,8 @@ pub fn parse_ref(w: &mut Walker, s: State, d: usize) -> Answer<SlotValue>
     }
 }
 
-// A reference below one at depth d. The commonest need no call of the cycle; what a reference at the last level would be is left to it.
+// A reference below one at depth d. The commonest need no call of the cycle; what a reference at
+// the last level would be is left to it.
 #[cycle(walk)]
 fn parse_inner(w: &mut Walker, s: State, d: usize) -> Answer<SlotValue>
     requires ready { Ready w.old s }
@@ -73,8 +82,9 @@ fn parse_inner(w: &mut Walker, s: State, d: usize) -> Answer<SlotValue>
     parse_ref(w, s, d + 1)
 }
 
-// A new object at depth d, after whose head the cursor stands. A state that is handed to a function which stays a call is copied for it, and
-// what it answers is taken apart: else the state would stand in memory where no such call is made, too (as in the next ones).
+/// Reads the new object after whose head the cursor stands, at depth `d`: a reference to it.
+/// Refused as docs/FORMAT.md, "Refusals", says, with the state that was reached. It is
+/// `parse_new_object_space` of the Rust.
 #[inline(always)]
 #[cycle(walk)]
 pub fn parse_object(w: &mut Walker, s: State, d: usize, new: NewObject) -> Answer<SlotValue>
@@ -92,9 +102,9 @@ pub fn parse_object(w: &mut Walker, s: State, d: usize, new: NewObject) -> Answe
     Ok((object, y))
 }
 
-// The items of an object at depth d whose head has been read: the object then. Objects within it are read in the same loop, as many levels
-// down as `outer` has room for: it has the objects around the current one, the outermost first. What a turn does is read off the level and
-// the head at the cursor, and its step is what was read, so that neither an enum of states nor an iterator would be plainer.
+// The items of an object at depth d whose head has been read: the object then. Objects within it
+// are read in the same loop, as many levels down as `outer` has room for: it has the objects around
+// the current one, the outermost first.
 #[cycle(walk)]
 fn parse_items(w: &mut Walker, s: State, d: usize, whole: Level) -> Answer<SlotValue>
     requires ready { Ready w.old s }
@@ -132,8 +142,9 @@ fn parse_items(w: &mut Walker, s: State, d: usize, whole: Level) -> Answer<SlotV
     }
 }
 
-// The head of a new object at depth d, its map and its resolves: the object then. Where the map is one of the commonest references, this
-// needs no call of the cycle, and where no resolve follows it, none of `resolves`.
+// The head of a new object at depth d, its map and its resolves: the object then. Where the map is
+// one of the commonest references, this needs no call of the cycle, and where no resolve follows
+// it, none of `resolves`.
 #[inline(always)]
 #[cycle(walk)]
 fn parse_head(w: &mut Walker, s: State, d: usize, new: NewObject) -> Answer<Level>
@@ -203,7 +214,8 @@ fn parse_map(w: &mut Walker, s: State, d: usize, new: NewObject, level: Level) -
     resolves(w, y, o as u64)
 }
 
-// An item of an object at depth d: the bytes read then. The commonest need no call of the cycle.
+// An item of an object at depth d: the bytes of the object that have been read then. The commonest
+// need no call of the cycle.
 #[cycle(walk)]
 fn parse_item(w: &mut Walker, s: State, d: usize, level: Level) -> Answer<u64>
     requires ready { Ready w.old s }
@@ -219,7 +231,8 @@ fn parse_item(w: &mut Walker, s: State, d: usize, level: Level) -> Answer<u64>
     Ok((done, u))
 }
 
-// An item that is a reference: the bytes read then. A weak reference to one of the commonest references needs no call of the cycle.
+// The same where no leaf stands at the cursor. A weak reference to a leaf needs no call of the
+// cycle.
 #[cycle(walk)]
 fn parse_slot(w: &mut Walker, s: State, d: usize, level: Level) -> Answer<u64>
     requires ready { Ready w.old s }

@@ -1,35 +1,42 @@
 -- A weak reference to a leaf, as a reference within one, and its slot. Assumes nothing.
-use Rattle.std.specs.Prelude.{◌≡◌, refl, true, List, ℕ, ◌+◌, ◌/◌, ◌<◌, length, get_or}
-use Rattle.std.proofs.Common.{arith, sym, ◌∙◌, lt-ltb}
+use Rattle.std.specs.Prelude.{◌≡◌, refl, true, false, List, ℕ, ◌+◌, ◌/◌, ◌<◌, length, get_or}
+use Rattle.std.proofs.Common.{arith, sym, subst, ◌∙◌, lt-ltb}
 use Rattle.sheet.specs.Sheet.{word_bytes}
-use Rattle.heads.specs.Heads.{head_at, Heads}
-use Rattle.heads.specs.Kinds.{kind_number, weak_prefix}
+use Rattle.heads.specs.Heads.{head_at, head_of, Heads}
+use Rattle.heads.specs.declared.kinds.Kind.TheVariants.{WeakPrefix}
 use Rattle.tables.specs.declared.values.Fields.{Fields}
 use Rattle.tables.specs.declared.values.SlotValue.{SlotValue}
 use Rattle.tables.specs.declared.values.SlotValue.TheVariants.{WeakRef}
 use Rattle.tables.specs.Values.{fields_of}
 use Rattle.tables.specs.Records.{room, slot_row, value_row, written, counted, Put}
 use Rattle.backref.specs.declared.hot_ring.HotRing.{HotRing}
-use Rattle.definition.specs.Memory.{Input, got, byte, Reader, and_then}
+use Rattle.definition.specs.Memory.{Input, Out, got, no, byte, Reader, and_then}
 use Rattle.definition.specs.Slots.{add_value, add_slot, keep_item, place_item}
 use Rattle.definition.specs.Reference.{weak_of, by_head, reference}
 use Rattle.readers.specs.declared.state.State.{State}
 use Rattle.readers.specs.declared.walker.Walker.{Walker}
 use Rattle.readers.specs.Views.{Lent, mem, moved_to, objects_is, slots_is, values_is, hot_is}
 use Rattle.readers.specs.Lent.{input_of, lent_of}
-use Rattle.readers.proofs.ViewLaws.{then_got, put_done, put_below}
+use Rattle.readers.proofs.ViewLaws.{then_got, then_no, put_done, put_full, put_below}
 use Rattle.leaves.specs.declared.leaf.Leaf.{Leaf}
-use Rattle.leaves.specs.Leaf.{ring, after, slot_in}
-use Rattle.leaves.proofs.LeafLaws.{leaf_read}
-use Rattle.weak_leaves.specs.Weak.{WeakAt}
+use Rattle.leaves.specs.Leaf.{ring, after, slot_in, Refused, NoLeafAt}
+use Rattle.leaves.proofs.LeafLaws.{leaf_read, leaf_refused, refused, refused_then}
+use Rattle.weak_leaves.specs.Weak.{WeakAt, WeakByte}
 
 -- a weak prefix at the cursor, read as a reference
-weak_on : (w : Walker) (s : State) (l : Lent) (inner : Reader SlotValue) → Heads w.sheet.now w.heads.now → s.at < length w.payload.now → get_or w.payload.now s.at 0 < 256 → kind_number (head_at w.heads.now (get_or w.payload.now s.at 0)).kind ≡ weak_prefix
+weak_on : (w : Walker) (s : State) (l : Lent) (inner : Reader SlotValue) → Heads w.sheet.now w.heads.now → s.at < length w.payload.now → get_or w.payload.now s.at 0 < 256 → (head_at w.heads.now (get_or w.payload.now s.at 0)).kind ≡ WeakPrefix
     → and_then (inner (mem (moved_to (s.at + 1) s) l)) weak_of ≡ reference (input_of w) inner (mem s l)
 unfolding reference byte by_head
 weak_on w s l inner h b c k =
-    let e = sym (h.kind (get_or w.payload.now s.at 0) c) ∙ k in
+    let e : (head_of w.sheet.now (get_or w.payload.now s.at 0)).kind ≡ WeakPrefix = rw (h.each (get_or w.payload.now s.at 0) c) at k in
     rw (lt-ltb s.at (length w.payload.now) b, e)
+
+-- where what it holds is refused, so is the item
+pub weak_refused : (w : Walker) (s : State) (o done : ℕ) → Heads w.sheet.now w.heads.now → WeakByte w s.at → NoLeafAt w (s.at + 1) s.objects → (inner : Reader SlotValue)
+    → Refused (slot_in (input_of w) (reference (input_of w) (reference (input_of w) inner)) o done (mem s (lent_of w)))
+weak_refused w s o done decoded b missing inner =
+    let r = leaf_refused w (moved_to (s.at + 1) s) (lent_of w) refl decoded b.leaf.0 missing inner in
+    refused_then _ (place_item (input_of w) o done) (subst (λ (o : Out SlotValue). Refused o) (weak_on w s (lent_of w) (reference (input_of w) inner) decoded (omega (arith, b.leaf.0.0)) b.low b.weak) (refused_then _ weak_of r))
 
 -- the state with one value record more
 abbrev valued : State → State
@@ -40,6 +47,19 @@ valued s =
 held : (v : SlotValue) (s : State) (l : Lent) {t : List ℕ} → Put l.values s.values (value_row (fields_of v)) true t → got (WeakRef s.values) (mem (valued s) (values_is t l)) ≡ weak_of v (mem s l)
 unfolding add_value
 held v s l p = let q = put_done p refl in rw (q.0, q.1)
+
+-- no room for it
+unheld : (v : SlotValue) (s : State) (l : Lent) {t : List ℕ} → Put l.values s.values (value_row (fields_of v)) false t → no 3 s.at (mem s l) ≡ weak_of v (mem s l)
+unfolding add_value
+unheld v s l p = let q = put_full p refl in rw q.0
+
+pub unheld_refused : (w : Walker) (s : State) (d : ℕ) (r : Leaf) (o done : ℕ) → Heads w.sheet.now w.heads.now → WeakAt w s d r → {vt : List ℕ} → Put w.values.now s.values (value_row (fields_of r.value)) false vt → (inner : Reader SlotValue)
+    → Refused (slot_in (input_of w) (reference (input_of w) (reference (input_of w) inner)) o done (mem s (lent_of w)))
+unheld_refused w s d r o done decoded found p inner =
+    let l : Lent = hot_is (ring r w.hot) (lent_of w) in
+    let e = then_got weak_of (leaf_read w (s.at + 1) s.objects r decoded found.leaf inner (moved_to (s.at + 1) s) (lent_of w) refl refl refl) (unheld r.value (after r s) l p)
+    ∙ weak_on w s (lent_of w) (reference (input_of w) inner) decoded found.there.0 found.there.1 found.weak in
+    refused (then_no (place_item (input_of w) o done) e)
 
 -- the state after the slot
 abbrev weak_state : Leaf → State → State

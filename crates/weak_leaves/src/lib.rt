@@ -1,3 +1,4 @@
+//! Weak references to a leaf, read without the readers of every reference.
 #![tactic(auto)]
 
 pub mod weak;

@@ -1,12 +1,12 @@
-// Weak references to a leaf, read without the readers of every reference.
+//! Weak references to a leaf, as items of an object.
 
-ghost use Rattle.std.specs.Prelude.{◌≡◌, ◌+◌, ◌^◌, ◌<◌, IfSome};
+ghost use Rattle.std.specs.Prelude.{◌≡◌, ◌+◌, ◌^◌, ◌<◌, IfSome, IsNone};
 ghost use Rattle.tables.specs.declared.values.SlotValue.{SlotValue};
 ghost use Rattle.tables.specs.Records.{room, Countable};
 ghost use Rattle.definition.specs.Reference.{reference};
 ghost use Rattle.readers.specs.Lent.{input_of, Kept};
-ghost use Rattle.leaves.specs.Leaf.{slot_in, ReadAs, StaysInOrder};
-ghost use Rattle.weak_leaves.specs.Weak.{WeakAt};
+ghost use Rattle.leaves.specs.Leaf.{slot_in, NoLeafAt, ReadAs, RefusedAs, RoomyItem, StaysInOrder};
+ghost use Rattle.weak_leaves.specs.Weak.{WeakAt, WeakByte};
 
 use heads::kinds::Kind;
 use leaves::leaf::{Leaf, enter, leaf_at};
@@ -17,12 +17,13 @@ use sheet::numbers::{word_bytes, words_in};
 use tables::records::{SLOT_FIELDS, Slot, add_value, append_slot, has_room};
 use tables::values::{Fields, SlotValue};
 
-// A leaf after a weak prefix at the cursor, where its slot record has room. A weak reference in an object at depth d is one level below it,
-// and the leaf two. Room is asked for here: after a call that reads a table through the walker that is lent to be changed, only the table's
-// length would be known.
+// The leaf after a weak prefix at the cursor, where a slot record has room. A weak reference in an
+// object at depth d is one level below it, and the leaf two. The room is tested here, where the
+// walker is only read: of a table that a call was lent, the proof knows the length alone.
 fn weak_leaf(w: &Walker, s: State, d: usize) -> Option<Leaf>
     ensures is { IfSome result (WeakAt w.now s d) }
     ensures roomy { IfSome result (λ _. s.slots < room 6 w.now.slots.now) }
+    ensures none { IsNone result → d < 63 → WeakByte w.now s.at → s.slots < room 6 w.now.slots.now → NoLeafAt w.now (s.at + 1) s.objects }
 {
     if DEEPEST - 1 <= d {
         return None;
@@ -34,12 +35,17 @@ fn weak_leaf(w: &Walker, s: State, d: usize) -> Option<Leaf>
     leaf_at(w, s.at + 1, s.objects)
 }
 
-// A weak reference to a leaf at the cursor as an item of the object that is read at depth d: the bytes read then. None where none stands
-// there and where a record or the bytes read then have no room; then nothing is changed. It ends as `place_leaf` does, but for the value
-// record and the width: a function of both ends would take as many arguments as it has lines.
+/// Reads a weak reference to a leaf at the cursor as an item, one word wide, of the object that is
+/// read at depth `d`: the bytes of the object that have been read then, and the state after it. The
+/// leaf becomes a value record.
+///
+/// `None` only from depth 63 on, where no weak prefix with a leaf's head after it stands at the
+/// cursor, where a record has no room, where the definition refuses the item, and where the sum of
+/// its bytes could pass 2^64; then nothing is changed.
 pub fn place_weak(w: &mut Walker, s: State, d: usize, level: Level) -> Option<(u64, State)>
     requires { Countable w.old.objects.now level.object }
     ensures read { IfSome result (λ r. (d < 63) × ReadAs w.old s w.new (λ inner. slot_in (input_of w.old) (reference (input_of w.old) (reference (input_of w.old) inner)) level.object level.done) r) }
+    ensures none { IsNone result → d < 63 → WeakByte w.old s.at → s.slots < room 6 w.old.slots.now → RoomyItem w.old s level → RefusedAs w.old s (λ inner. slot_in (input_of w.old) (reference (input_of w.old) (reference (input_of w.old) inner)) level.object level.done) }
     ensures order { StaysInOrder w.old s result w.new }
     ensures kept { Kept w.old w.new }
 {

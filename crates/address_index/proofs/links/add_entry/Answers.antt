@@ -1,30 +1,64 @@
-use mathlib.Core.Path.{◌≡◌, ◌∙◌, sym, subst}
+use mathlib.Core.Path.{◌≡◌, ◌∙◌, refl, sym, subst}
+use mathlib.Core.Logic.{inl, inr}
 use native.Mathlib.Omega.{arith}
 use Prim.Native.Nat.{ℕ, ◌+◌}
 use lib.ListN.{length, get_or}
 use Rattle.address_index.specs.Layout.{capacity}
 use Rattle.address_index.specs.Links.{Lists, Chains}
-use Rattle.address_index.proofs.LinkLaws.{list_skips, links_of}
+use Rattle.address_index.specs.Entries.{OffList}
+use Rattle.address_index.proofs.LinkLaws.{off_before, off_behind, lists_before, chains_behind, list_skips, links_of}
 use Rattle.address_index.proofs.links.add_entry.Goals as goal
 
-pub returns-else-entry-lt-LISTED_SPACES : goal.returns-else-entry-lt-LISTED_SPACES
-returns-else-entry-lt-LISTED_SPACES c =
+-- ---- a space without a list
+
+pub returns-else-entry-lt-LISTED_SPACES-clause-linked : goal.returns-else-entry-lt-LISTED_SPACES-clause-linked
+returns-else-entry-lt-LISTED_SPACES-clause-linked c =
     let a = c.args in
     let q = c.requires.0 in
     let b = c.add_to_bucket.ensures in
     λ t is linked _.
     let w = linked (omega (arith, q)) in
-    links_of a.index.now c.add_to_bucket.auto.index b.seed (list_skips (rw is.space at c.if-entry-lt-LISTED_SPACES.false) (b.lists t _ (omega (arith, q)) w.lists)) (b.chains t _ is.bucket w.chains)
+    links_of a.index.now c.add_to_bucket.auto.index (b.others 8 (off_before _ _ _ _ (omega arith)))
+    (list_skips (rw is.space at c.if-entry-lt-LISTED_SPACES.false) (lists_before (omega (arith, q)) (λ x l. b.others x (off_before _ _ _ x l)) w.lists))
+    (b.chains t _ is.bucket w.chains)
 
-pub returns-then-entry-lt-LISTED_SPACES : goal.returns-then-entry-lt-LISTED_SPACES
-returns-then-entry-lt-LISTED_SPACES c =
+pub returns-else-entry-lt-LISTED_SPACES-clause-seed : goal.returns-else-entry-lt-LISTED_SPACES-clause-seed
+returns-else-entry-lt-LISTED_SPACES-clause-seed c = c.add_to_bucket.ensures.others 8 (off_before _ _ _ _ (omega arith))
+
+pub returns-else-entry-lt-LISTED_SPACES-clause-others : goal.returns-else-entry-lt-LISTED_SPACES-clause-others
+returns-else-entry-lt-LISTED_SPACES-clause-others c = λ x o. c.add_to_bucket.ensures.others x o.off_bucket
+
+-- ---- and one with a list
+
+pub returns-then-entry-lt-LISTED_SPACES-clause-linked : goal.returns-then-entry-lt-LISTED_SPACES-clause-linked
+returns-then-entry-lt-LISTED_SPACES-clause-linked c =
     let a = c.args in
+    let low = c.if-entry-lt-LISTED_SPACES.true in
+    let small = c.requires.1.number_low low in
     let q = c.requires.0 in
     let b = c.add_to_bucket.ensures in
     let l = c.add_to_list.ensures in
     let e : capacity (length c.add_to_bucket.new.index) ≡ capacity (length a.index.now) = rw c.add_to_bucket.auto.index in
     λ t is linked _.
     let w = linked (omega (arith, q)) in
-    links_of a.index.now (c.add_to_list.auto.index ∙ c.add_to_bucket.auto.index) (l.seed ∙ b.seed)
-    (subst (λ (r : ℕ). Lists t (a.n + 1) r c.add_to_list.new.index) e (l.lists t (sym is.space) (is.number c.if-entry-lt-LISTED_SPACES.true) (subst (λ (r : ℕ). Lists t a.n r c.add_to_bucket.new.index) (sym e) (b.lists t _ (omega (arith, q)) w.lists))))
-    (subst (λ (r : ℕ). Chains t (a.n + 1) r (get_or a.index.now 8 0) c.add_to_list.new.index) e (l.chains t _ _ (subst (λ (r : ℕ). Chains t (a.n + 1) r (get_or a.index.now 8 0) c.add_to_bucket.new.index) (sym e) (b.chains t _ is.bucket w.chains))))
+    let before : Lists t a.n (capacity (length a.index.now)) c.add_to_bucket.new.index = lists_before (omega (arith, q)) (λ x l. b.others x (off_before _ _ _ x l)) w.lists in
+    let seed = l.others 8 (off_behind a.index.now a.n _ a.entry.space a.entry.number low small (rw e q) 8 (inl refl)) ∙ b.others 8 (off_before _ _ _ _ (omega arith)) in
+    links_of a.index.now (c.add_to_list.auto.index ∙ c.add_to_bucket.auto.index) seed
+    (subst (λ (r : ℕ). Lists t (a.n + 1) r c.add_to_list.new.index) e (l.lists t (sym is.space) (is.number low) (subst (λ (r : ℕ). Lists t a.n r c.add_to_bucket.new.index) (sym e) before)))
+    (chains_behind (λ x h. l.others x (subst (λ (r : ℕ). OffList r a.entry.space a.entry.number x) (sym e) (off_behind a.index.now a.n _ a.entry.space a.entry.number low small q x (inr h)))) (b.chains t _ is.bucket w.chains))
+
+pub returns-then-entry-lt-LISTED_SPACES-clause-seed : goal.returns-then-entry-lt-LISTED_SPACES-clause-seed
+returns-then-entry-lt-LISTED_SPACES-clause-seed c =
+    let a = c.args in
+    let low = c.if-entry-lt-LISTED_SPACES.true in
+    let e : capacity (length c.add_to_bucket.new.index) ≡ capacity (length a.index.now) = rw c.add_to_bucket.auto.index in
+    c.add_to_list.ensures.others 8 (off_behind a.index.now a.n _ a.entry.space a.entry.number low (c.requires.1.number_low low) (rw e c.requires.0) 8 (inl refl))
+    ∙ c.add_to_bucket.ensures.others 8 (off_before _ _ _ _ (omega arith))
+
+pub returns-then-entry-lt-LISTED_SPACES-clause-others : goal.returns-then-entry-lt-LISTED_SPACES-clause-others
+returns-then-entry-lt-LISTED_SPACES-clause-others c =
+    let a = c.args in
+    let e : capacity (length c.add_to_bucket.new.index) ≡ capacity (length a.index.now) = rw c.add_to_bucket.auto.index in
+    λ x o.
+    c.add_to_list.ensures.others x (subst (λ (r : ℕ). OffList r a.entry.space a.entry.number x) (sym e) (o.off_list c.if-entry-lt-LISTED_SPACES.true))
+    ∙ c.add_to_bucket.ensures.others x o.off_bucket

@@ -1,5 +1,5 @@
 use native.Mathlib.Omega.{arith}
-use Rattle.address_index.proofs.LinkLaws.{chain_enters, lists_before, chained_before}
+use Rattle.address_index.proofs.LinkLaws.{chain_enters, chained_else}
 use Rattle.address_index.proofs.links.add_to_bucket.Goals as goal
 
 pub returns-clause-chains : goal.returns-clause-chains
@@ -11,9 +11,9 @@ returns-clause-chains c =
     rw (c.link_cell.ensures, c.bucket_cell-cell.ensures, r.is)
     (chain_enters a.index.now a.n _ a.bucket q.1 q.0 (rw r.is at r.fits (omega (arith, r.is, q.0))) t seed e w)
 
-pub returns-clause-lists : goal.returns-clause-lists
-returns-clause-lists c =
+pub returns-clause-others : goal.returns-clause-others
+returns-clause-others c =
     let a = c.args in
-    λ t k fits w.
+    λ x o.
     rw (c.link_cell.ensures, c.bucket_cell-cell.ensures, c.capacity-r.ensures.is)
-    (lists_before fits (chained_before a.index.now a.n _ a.bucket c.requires.1) w)
+    (chained_else a.index.now a.n _ a.bucket c.requires.1 x o.off_link o.off_bucket)

@@ -1,6 +1,5 @@
 use native.Mathlib.Omega.{arith}
-use Rattle.std.proofs.Common.{inr}
-use Rattle.address_index.proofs.LinkLaws.{list_enters, chains_behind, listed_behind}
+use Rattle.address_index.proofs.LinkLaws.{list_enters, listed_else}
 use Rattle.address_index.proofs.links.add_to_list.Goals as goal
 
 pub returns-clause-lists : goal.returns-clause-lists
@@ -12,10 +11,10 @@ returns-clause-lists c =
     rw (c.list_cell-cell.ensures.is, r.is)
     (list_enters a.index.now a.n _ a.space a.number q.1 q.2 q.0 (rw r.is at r.fits (omega (arith, r.is, q.0))) t e ek w)
 
-pub returns-clause-chains : goal.returns-clause-chains
-returns-clause-chains c =
+pub returns-clause-others : goal.returns-clause-others
+returns-clause-others c =
     let a = c.args in
     let q = c.requires in
-    λ t k seed w.
+    λ x o.
     rw (c.list_cell-cell.ensures.is, c.capacity.ensures.is)
-    (chains_behind (λ x l. listed_behind a.index.now a.n _ a.space a.number q.1 q.2 q.0 x (inr l)) w)
+    (listed_else a.index.now a.n _ a.space a.number q.1 q.2 q.0 x o.off_list o.off_count)

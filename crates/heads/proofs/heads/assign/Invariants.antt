@@ -1,6 +1,6 @@
 use Rattle.std.proofs.Common.{◌-◌}
-use Rattle.heads.specs.Assigning.{argument_number, Assigned}
+use Rattle.heads.specs.Assigning.{Assigned}
 use Rattle.heads.proofs.heads.assign.Given as goal
 
 abbrev pub invariant-loop-b : goal.invariant-loop-b
-invariant-loop-b l = Assigned l.initial.heads l.first (l.b - l.first) l.kind (argument_number l.argument) l.mask l.heads
+invariant-loop-b l = Assigned l.initial.heads l.first (l.b - l.first) l.kind l.argument l.mask l.heads

@@ -1,7 +1,8 @@
+use native.Mathlib.Omega.{arith}
 use mathlib.Core.Path.{refl}
-use Rattle.readers.proofs.ViewLaws.{put_done, put_below}
+use Rattle.readers.proofs.ViewLaws.{put_done, put_below, put_full}
 use Rattle.objects.proofs.WaiterLaws.{indexed_plain}
-use Rattle.leaves.proofs.LeafLaws.{item_read}
+use Rattle.leaves.proofs.LeafLaws.{item_read, item_refused, item_full}
 use Rattle.leaves.proofs.leaf.place_leaf.Goals as goal
 
 pub returns-clause-read : goal.returns-clause-read
@@ -16,3 +17,18 @@ pub returns-clause-order : goal.returns-clause-order
 returns-clause-order c =
     let p = c.in_ok-append_slot.ensures.slot in
     (rw (put_done p refl).1 (indexed_plain _ _ _ _ _ 0 (put_below p refl) refl _), λ h. h)
+
+pub returns-in_err-leaf-clause-none : goal.returns-in_err-leaf-clause-none
+returns-in_err-leaf-clause-none c =
+    let a = c.args in
+    λ none deep b roomy h inner. item_refused a.w.now a.s a.level.object a.level.done h b.0 (c.in_err-leaf.ensures.none refl b) inner
+
+pub returns-in_err-end-clause-none : goal.returns-in_err-end-clause-none
+returns-in_err-end-clause-none c =
+    λ none deep b roomy h inner. absurd (c.in_err-end.ensures (omega (arith, c.in_ok-start.ensures.1, (c.in_ok-leaf.ensures.found c.args.s.at).narrow roomy.1, roomy.0)))
+
+pub returns-in_err-append_slot-clause-none : goal.returns-in_err-append_slot-clause-none
+returns-in_err-append_slot-clause-none c =
+    let a = c.args in
+    let f = c.in_ok-leaf.ensures in
+    λ none deep b roomy h inner. item_full a.w.now a.s c.in_ok-leaf.leaf h f.there.0 f.there.1 f.found a.level.object a.level.done (put_full c.in_err-append_slot.ensures.slot refl).0 inner

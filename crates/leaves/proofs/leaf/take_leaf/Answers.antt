@@ -1,9 +1,12 @@
 use mathlib.Core.Path.{refl}
 use Rattle.readers.specs.Lent.{lent_of}
-use Rattle.leaves.proofs.LeafLaws.{leaf_read}
+use Rattle.leaves.proofs.LeafLaws.{leaf_read, leaf_refused}
 use Rattle.leaves.proofs.leaf.take_leaf.Goals as goal
 
 pub returns-clause-read : goal.returns-clause-read
 returns-clause-read c =
     let a = c.args in
-    λ h inner. rw c.enter.ensures (leaf_read a.w.now a.s.at a.s.objects c.in_ok-leaf.leaf h c.in_ok-leaf.ensures inner a.s (lent_of a.w.now) refl refl refl)
+    λ h inner. rw c.enter.ensures (leaf_read a.w.now a.s.at a.s.objects c.in_ok-leaf.leaf h c.in_ok-leaf.ensures.some inner a.s (lent_of a.w.now) refl refl refl)
+
+pub returns-in_err-leaf-clause-none : goal.returns-in_err-leaf-clause-none
+returns-in_err-leaf-clause-none c = λ none b h inner. leaf_refused c.args.w.now c.args.s (lent_of c.args.w.now) refl h b.0 (c.in_err-leaf.ensures.none refl b) inner

@@ -1,6 +1,5 @@
-use Rattle.std.proofs.Common.{refl, ap, ◌∙◌, rules}
+use Rattle.std.proofs.Common.{refl, ◌∙◌, rules}
 use Rattle.std.proofs.lemmas.Result.{err_from_is_err_and}
-use Rattle.heads.specs.Kinds.{kind_number}
 use Rattle.readers.proofs.ViewLaws.{then_got, then_no}
 use Rattle.readers.proofs.IntLaws.{skip_addresses}
 use Rattle.readers.proofs.SimpleLaws.{skipped_target}
@@ -13,7 +12,7 @@ pub legacy_ref-requires : goal.legacy_ref-requires
 legacy_ref-requires c = rw (skip_addresses c.args.s c.in_ok-t.t c.args.w.now.payload.now c.in_ok-t.ensures) c.requires.addressed.0
 
 pub hot_ref-requires : goal.hot_ref-requires
-hot_ref-requires c = c.requires.place (ap kind_number c.in-HotWithSkip.is)
+hot_ref-requires c = c.requires.place c.in-HotWithSkip.is
 
 pub returns-in-LegacyBackrefWithSkip-clause-is : goal.returns-in-LegacyBackrefWithSkip-clause-is
 returns-in-LegacyBackrefWithSkip-clause-is c = then_got _ (c.in_ok-t.ensures _ _ _ _) (rw c.in-LegacyBackrefWithSkip.is c.legacy_ref.ensures.is)

@@ -13,7 +13,7 @@ use Rattle.walker.proofs.ScratchLaws.{after_on}
 use Rattle.walker.proofs.ReadyLaws.{moved_ready, value_ready}
 use Rattle.walker.proofs.ItemsLaws.{tag_is}
 use Rattle.walker.proofs.ReferenceLaws.{ref_deep, ref_cut, new_at, ref_object, space_low, other_simple, other_asks, inner_starts, ref_refused, ref_simple, ref_root, ref_inner_no, head_read, ref_inner_got, read_as}
-use Rattle.walker.proofs.NestLaws.{object_headless, object_whole, object_opened, object_items, nest_first, opens_no, opens_on, nest_over, nest_whole, nest_deferred, nest_slot_no, nest_slot, nest_begins, nest_roomless, nest_ends}
+use Rattle.walker.proofs.NestLaws.{object_headless, object_whole, object_opened, object_items, nest_first, opens_no, opens_on, nest_over, nest_whole, nest_deferred, nest_slot_no, nest_slot, nest_begins, put_fits, nest_roomless, nest_ends}
 use Rattle.walker.proofs.LeafLaws.{one_level, leaf_slot, weak_slot, ready_still, leaf_after}
 use Rattle.walker.proofs.MapLaws.{record_ready, mapped_no, followed_no, map_asks, kept_no, resolves_ready, map_ended, put_asks, item_put, leaf_opened, leaf_no, leaf_on, leaf_ended}
 use Rattle.walker.proofs.walk.+walk.Goals as goal
@@ -225,8 +225,11 @@ pub parse_items-returns-in_default-clause-is : goal.parse_items-returns-in_defau
 parse_items-returns-in_default-clause-is t c =
     nest_whole c.loop-level.invariant c.if-level-2.false (λ b. false≢true (c.in_default.ensures.variant.1 b))
 
-pub parse_items-put_object-requires : goal.parse_items-put_object-requires
-parse_items-put_object-requires t c =
+pub parse_items-put_object-requires-clause-fits : goal.parse_items-put_object-requires-clause-fits
+parse_items-put_object-requires-clause-fits t c = put_fits c.loop-level.invariant c.if-level-2.false _ _ c.in-Some.ensures.items
+
+pub parse_items-put_object-requires-clause-counted : goal.parse_items-put_object-requires-clause-counted
+parse_items-put_object-requires-clause-counted t c =
     let g = c.loop-level.invariant.inside.ready in
     omega (arith, c.loop-level.invariant.inside.few, g.counted.count_low c.in-Some.around.object, g.sound.slots_fit)
 
@@ -263,20 +266,20 @@ parse_items-loop-level-preserved-then-is_tag t c =
 pub parse_items-parse_head-requires : goal.parse_items-parse_head-requires
 parse_items-parse_head-requires t c =
     let n = tag_is k_deferred c.loop-level.w.sheet.now c.loop-level.w.payload.now c.loop-level.t.at c.peek.ensures c.is_tag.ensures ∙ c.if-is_tag.false in
-    let o = nest_begins c.loop-level.invariant (omega arith) (omega (arith, c.len.ensures.value)) n c.in-Some-begins_object.ensures in
-    (omega (arith, c.in-Some-begins_object.ensures.deep), (o.inside.ready, (omega (arith, c.in-Some-begins_object.ensures.deep), o.low)))
+    let o = nest_begins c.loop-level.invariant (omega arith) (omega (arith, c.len.ensures.value)) n c.in-Some-begins_object.ensures.some in
+    (omega (arith, c.in-Some-begins_object.ensures.some.deep), (o.inside.ready, (omega (arith, c.in-Some-begins_object.ensures.some.deep), o.low)))
 
 pub parse_items-returns-in_err-level-clause-is : goal.parse_items-returns-in_err-level-clause-is
 parse_items-returns-in_err-level-clause-is t c =
     let n = tag_is k_deferred c.loop-level.w.sheet.now c.loop-level.w.payload.now c.loop-level.t.at c.peek.ensures c.is_tag.ensures ∙ c.if-is_tag.false in
-    let o = nest_begins c.loop-level.invariant (omega arith) (omega (arith, c.len.ensures.value)) n c.in-Some-begins_object.ensures in
+    let o = nest_begins c.loop-level.invariant (omega arith) (omega (arith, c.len.ensures.value)) n c.in-Some-begins_object.ensures.some in
     passed_on _ _ _ c.from_residual-in_err-level.ensures.1
     ∙ opens_no o (omega (arith, c.len.ensures.value, ap length c.push.ensures.items, c.push.ensures.len)) c.in_err-level.ensures.is
 
 pub parse_items-loop-level-smaller-in-Some-begins_object : goal.parse_items-loop-level-smaller-in-Some-begins_object
 parse_items-loop-level-smaller-in-Some-begins_object t c =
     let n = tag_is k_deferred c.loop-level.w.sheet.now c.loop-level.w.payload.now c.loop-level.t.at c.peek.ensures c.is_tag.ensures ∙ c.if-is_tag.false in
-    let o = nest_begins c.loop-level.invariant (omega arith) (omega (arith, c.len.ensures.value)) n c.in-Some-begins_object.ensures in
+    let o = nest_begins c.loop-level.invariant (omega arith) (omega (arith, c.len.ensures.value)) n c.in-Some-begins_object.ensures.some in
     let q = c.in_ok-level.ensures in
     let z = opens_on o (omega (arith, c.len.ensures.value, ap length c.push.ensures.items, c.push.ensures.len)) c.push.ensures.items q.is q.small q.after in
     let y = z.0.inside.ready.sound.within in
@@ -285,7 +288,7 @@ parse_items-loop-level-smaller-in-Some-begins_object t c =
 pub parse_items-loop-level-preserved-in-Some-begins_object : goal.parse_items-loop-level-preserved-in-Some-begins_object
 parse_items-loop-level-preserved-in-Some-begins_object t c =
     let n = tag_is k_deferred c.loop-level.w.sheet.now c.loop-level.w.payload.now c.loop-level.t.at c.peek.ensures c.is_tag.ensures ∙ c.if-is_tag.false in
-    let o = nest_begins c.loop-level.invariant (omega arith) (omega (arith, c.len.ensures.value)) n c.in-Some-begins_object.ensures in
+    let o = nest_begins c.loop-level.invariant (omega arith) (omega (arith, c.len.ensures.value)) n c.in-Some-begins_object.ensures.some in
     let q = c.in_ok-level.ensures in
     (opens_on o (omega (arith, c.len.ensures.value, ap length c.push.ensures.items, c.push.ensures.len)) c.push.ensures.items q.is q.small q.after).0
 

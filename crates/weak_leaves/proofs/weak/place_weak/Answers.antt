@@ -3,7 +3,7 @@ use mathlib.Core.Bool.{Bool, true, false}
 use borrow.Author.Tests.{lt-ltb}
 use Rattle.readers.proofs.ViewLaws.{put_done, put_full}
 use Rattle.objects.proofs.WaiterLaws.{indexed_plain}
-use Rattle.weak_leaves.proofs.WeakLaws.{weak_placed}
+use Rattle.weak_leaves.proofs.WeakLaws.{weak_placed, weak_refused, unheld_refused}
 use Rattle.weak_leaves.proofs.weak.place_weak.Goals as goal
 
 pub returns-clause-read : goal.returns-clause-read
@@ -24,3 +24,13 @@ returns-in_err-append_slot-clause-order c =
     let p = c.in_err-append_slot.ensures.slot in
     let some = lt-ltb c.args.s.slots _ c.in_ok-leaf.ensures.roomy in
     absurd (let z : ◌≡◌ {A = Bool} true false = sym some ∙ (put_full p refl).0 in cc)
+
+pub returns-in_err-leaf-clause-none : goal.returns-in_err-leaf-clause-none
+returns-in_err-leaf-clause-none c =
+    let a = c.args in
+    λ none deep b room roomy h inner. weak_refused a.w.now a.s a.level.object a.level.done h b (c.in_err-leaf.ensures.none refl deep b room) inner
+
+pub returns-in_err-add_value-clause-none : goal.returns-in_err-add_value-clause-none
+returns-in_err-add_value-clause-none c =
+    let a = c.args in
+    λ none deep b room roomy h inner. unheld_refused a.w.now a.s a.d c.in_ok-leaf.leaf a.level.object a.level.done h c.in_ok-leaf.ensures.is (rw c.from-2.ensures at c.in_err-add_value.ensures) inner
