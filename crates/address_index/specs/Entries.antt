@@ -41,3 +41,7 @@ pub record OffList (r space k x : ℕ) : Type 0 where
 pub record OffEntry (n : ℕ) (index : List ℕ) (e : Entry) (x : ℕ) : Type 0 where
   pub off_bucket : OffBucket (capacity (length index)) n e.bucket x
   pub off_list : e.space < 8 → OffList (capacity (length index)) e.space e.number x
+
+-- the numbers of the index at all other places stay
+abbrev pub OthersStay : ℕ → Entry → List ℕ → List ℕ → Type 0
+OthersStay n e index index' = (x : ℕ) → OffEntry n index e x → get_or index' x 0 ≡ get_or index x 0

@@ -4,7 +4,7 @@ ghost use Rattle.std.specs.Prelude.{◌≡◌, ℕ, ◌+◌, ◌*◌, ◌<◌, �
 ghost use Rattle.tables.specs.Records.{room};
 ghost use Rattle.address_index.specs.Layout.{capacity, Roomy};
 ghost use Rattle.address_index.specs.Links.{bucket_of, Linked};
-ghost use Rattle.address_index.specs.Entries.{EntryFits, IsEntry, in_list, in_bucket, OffEntry};
+ghost use Rattle.address_index.specs.Entries.{EntryFits, IsEntry, in_list, in_bucket, OthersStay};
 
 use crate::layout::{LISTED_SPACES, SEED, bucket, bucket_cell, capacity, link_cell, list_cell};
 use tables::records::address_at;
@@ -87,7 +87,7 @@ pub fn add_entry(index: &mut [u64], n: usize, entry: Entry)
     requires { Roomy n index.old × EntryFits n index.old entry }
     ensures linked { (t : List ℕ) → IsEntry t n index.old entry → Linked t n index.old → Linked t (n + 1) index.new }
     ensures seed { get_or index.new 8 0 ≡ get_or index.old 8 0 }
-    ensures others { (x : ℕ) → OffEntry n index.old entry x → get_or index.new x 0 ≡ get_or index.old x 0 }
+    ensures others { OthersStay n entry index.old index.new }
 {
     add_to_bucket(index, n, entry.bucket);
     if entry.space < LISTED_SPACES {
