@@ -47,7 +47,7 @@ pub fn bucket_of(table: &[u64], index: &[u64], i: usize) -> usize
     bucket(capacity(index.len()), index[SEED], a.space, a.into())
 }
 
-/// The entry of record n of the address table, before which the index holds the first n.
+/// The entry of record n of the address table, where the index holds the n records before it.
 pub fn entry_of(table: &[u64], index: &[u64], n: usize) -> Entry
     requires { (n < room 5 table.now) × Roomy n index.now × Linked table.now n index.now }
     ensures { IsEntry table.now n index.now result }
