@@ -19,25 +19,11 @@ use Rattle.definition.specs.Reference.{legacy_reference, ref_at}
 -- a slot of an entry: what a repeat holds, else the value itself
 abbrev pub entry_fields : Table → SlotValue → Fields
 entry_fields values (Repeat n k) = triple (field 3 values.rows k 0) (field 3 values.rows k 1) (field 3 values.rows k 2)
-entry_fields values (IsRef r) = fields_of (IsRef r)
-entry_fields values (RepeatPrev n) = fields_of (RepeatPrev n)
-entry_fields values (Skip n) = fields_of (Skip n)
-entry_fields values (StreamBytes n) = fields_of (StreamBytes n)
-entry_fields values (Raw r) = fields_of (Raw r)
-entry_fields values ClearedWeak = fields_of ClearedWeak
-entry_fields values (WeakRef k) = fields_of (WeakRef k)
-entry_fields values (PendingRef n) = fields_of (PendingRef n)
+entry_fields values v = fields_of v
 
 abbrev pub is_skip : SlotValue → Bool
 is_skip (Skip n) = true
-is_skip (IsRef r) = false
-is_skip (Repeat n k) = false
-is_skip (RepeatPrev n) = false
-is_skip (StreamBytes n) = false
-is_skip (Raw r) = false
-is_skip ClearedWeak = false
-is_skip (WeakRef k) = false
-is_skip (PendingRef n) = false
+is_skip v = false
 
 -- n slots with the same value, from an index on; none waits
 unfoldable pub add_slots : ℕ → Fields → ℕ → ℕ → Reader (Unit {0})

@@ -93,21 +93,12 @@ read_map x r space bytes o =
 -- a root that the trusted list flags
 abbrev pub is_trusted : Input → Ref → Bool
 is_trusted x (Root i) = not (eqb (get_or x.trusted i 0) 0)
-is_trusted x (Object o) = false
-is_trusted x (RoRef c o) = false
-is_trusted x (Attached i) = false
+is_trusted x r = false
 
 -- a map that is such a root
 abbrev pub flags : Input → SlotValue → Bool
 flags x (IsRef r) = is_trusted x r
-flags x (Repeat n k) = false
-flags x (RepeatPrev n) = false
-flags x (Skip n) = false
-flags x (StreamBytes n) = false
-flags x (Raw r) = false
-flags x ClearedWeak = false
-flags x (WeakRef k) = false
-flags x (PendingRef n) = false
+flags x v = false
 
 -- `raw_len` of an object with such a map is 1 (difference D44)
 abbrev pub flagged : ℕ → Table → Table

@@ -58,14 +58,7 @@ resolved number o m = noted (resolve number o) (fill_waiter (waiter m.slots.rows
 -- only a pending value that is itself the slot waits (difference D11)
 abbrev pub waits_of : SlotValue → ℕ
 waits_of (PendingRef n) = 1
-waits_of (Ref r) = 0
-waits_of (Repeat n k) = 0
-waits_of (RepeatPrev n) = 0
-waits_of (Skip n) = 0
-waits_of (StreamBytes n) = 0
-waits_of (Raw r) = 0
-waits_of ClearedWeak = 0
-waits_of (WeakRef k) = 0
+waits_of v = 0
 
 -- an item that becomes a slot, after the with-skip amount that stands; its index is its first byte divided by the word, rounded down
 unfoldable pub keep_item : Input → ℕ → ℕ → SlotValue → Reader ℕ
@@ -90,9 +83,4 @@ unfoldable pub place_item : Input → ℕ → ℕ → SlotValue → Reader ℕ
 place_item x o done (Skip n) = change (with_skip 0) >> give (done + n)
 place_item x o done (StreamBytes n) = change (with_skip 0) >> give done
 place_item x o done (RepeatPrev n) = repeat_previous >>= (λ k. keep_item x o done (Repeat n k))
-place_item x o done (Ref r) = keep_item x o done (Ref r)
-place_item x o done (Repeat n k) = keep_item x o done (Repeat n k)
-place_item x o done (Raw r) = keep_item x o done (Raw r)
-place_item x o done ClearedWeak = keep_item x o done ClearedWeak
-place_item x o done (WeakRef k) = keep_item x o done (WeakRef k)
-place_item x o done (PendingRef n) = keep_item x o done (PendingRef n)
+place_item x o done v = keep_item x o done v
