@@ -1,12 +1,12 @@
 -- The words of demand 3 (document 01), over the events of a reading. The events are the definition's, recorded as the payload is read. The latest
 -- stands first: what follows an event in the list was recorded before it. Assumes nothing: these are definitions.
-use Rattle.std.specs.Prelude.{◌≡◌, true, ◌⊎◌, ◌≢◌, ℕ, ◌+◌, ◌*◌, ◌<◌, ◌≤◌, eqb, get_or, Some}
+use Rattle.std.specs.Prelude.{if◌then◌else◌, ◌≡◌, true, ◌⊎◌, ◌≢◌, ℕ, ◌+◌, ◌*◌, ◌<◌, ◌≤◌, eqb, get_or, Some}
 use mathlib.Core.List.{List, [], ◌∷◌, Memᴰ}
 use Rattle.stream.specs.declared.putint.Int.{Int}
 use Rattle.stream.specs.PutInt.{int_at}
 use Rattle.sheet.specs.Sheet.{plain}
 use Rattle.tables.specs.declared.values.Fields.{Fields}
-use Rattle.tables.specs.Values.{pick_ℕ, triple}
+use Rattle.tables.specs.Values.{triple}
 use Rattle.definition.specs.Memory.{in_map, in_slot, in_value, dropped, Event, opened, passed, item, value, resolve, begins, synchronize, Mem, got}
 use Rattle.definition.specs.Call.{Rooms, Call, graph, events_of}
 
@@ -34,13 +34,13 @@ openings (e ∷ es) = openings es
 -- the place of object o's head
 unfoldable pub place_of : List Event → ℕ → ℕ
 place_of [] o = 0
-place_of (opened q w ∷ es) o = pick_ℕ (eqb o (openings es)) q (place_of es o)
+place_of (opened q w ∷ es) o = if eqb o (openings es) then q else place_of es o
 place_of (e ∷ es) o = place_of es o
 
 -- *declared words*: object o's size integer; its declared bytes are that times the tagged size
 unfoldable pub words_of : List Event → ℕ → ℕ
 words_of [] o = 0
-words_of (opened q w ∷ es) o = pick_ℕ (eqb o (openings es)) w (words_of es o)
+words_of (opened q w ∷ es) o = if eqb o (openings es) then w else words_of es o
 words_of (e ∷ es) o = words_of es o
 
 -- the integer that stands at a place of the payload is n
@@ -66,19 +66,19 @@ EndsAt q (e ∷ es) = ⊥
 -- the bytes that object o's items have together
 unfoldable pub filled_of : List Event → ℕ → ℕ
 filled_of [] o = 0
-filled_of (item x s w k ∷ es) o = pick_ℕ (eqb o x) (filled_of es o + w) (filled_of es o)
+filled_of (item x s w k ∷ es) o = if eqb o x then filled_of es o + w else filled_of es o
 filled_of (e ∷ es) o = filled_of es o
 
 -- how many items object o has
 unfoldable pub items_of : List Event → ℕ → ℕ
 items_of [] o = 0
-items_of (item x s w k ∷ es) o = pick_ℕ (eqb o x) (items_of es o + 1) (items_of es o)
+items_of (item x s w k ∷ es) o = if eqb o x then items_of es o + 1 else items_of es o
 items_of (e ∷ es) o = items_of es o
 
 -- how many items slot record k is of
 unfoldable pub items_in : List Event → ℕ → ℕ
 items_in [] k = 0
-items_in (item o s w j ∷ es) k = pick_ℕ (eqb k j) (items_in es k + 1) (items_in es k)
+items_in (item o s w j ∷ es) k = if eqb k j then items_in es k + 1 else items_in es k
 items_in (e ∷ es) k = items_in es k
 
 -- each item starts where those of its object before it end, so the first at byte 0; and the first has one word
@@ -91,12 +91,12 @@ EndToEnd word (e ∷ es) = EndToEnd word es
 -- stream bytes 0; all else one word
 abbrev pub width_of_value : ℕ → Fields → ℕ
 width_of_value word v =
-    pick_ℕ (eqb v.kind 5) v.b
-    (pick_ℕ (eqb v.kind 6) 0
-    (pick_ℕ (eqb v.kind 7) (v.a * word)
-    (pick_ℕ (eqb v.kind 8) (v.a * word)
-    (pick_ℕ (eqb v.kind 9) v.a
-    (pick_ℕ (eqb v.kind 10) 0 word)))))
+    if eqb v.kind 5 then v.b
+    else if eqb v.kind 6 then 0
+    else if eqb v.kind 7 then v.a * word
+    else if eqb v.kind 8 then v.a * word
+    else if eqb v.kind 9 then v.a
+    else if eqb v.kind 10 then 0 else word
 
 -- an item is an object's map, one word from byte 0, or has the width of its value; its slot record keeps that value
 abbrev pub ItemOf : ℕ → List Event → ℕ → ℕ → ℕ → Type 0
@@ -116,14 +116,14 @@ pub record MapItem (word : ℕ) (es : List Event) (o : ℕ) : Type 0 where
 -- how many values were read that slot record k keeps, as an object's map or as another slot
 unfoldable pub in_slots : List Event → ℕ → ℕ
 in_slots [] k = 0
-in_slots (value v (in_map j) ∷ es) k = pick_ℕ (eqb k j) (in_slots es k + 1) (in_slots es k)
-in_slots (value v (in_slot j) ∷ es) k = pick_ℕ (eqb k j) (in_slots es k + 1) (in_slots es k)
+in_slots (value v (in_map j) ∷ es) k = if eqb k j then in_slots es k + 1 else in_slots es k
+in_slots (value v (in_slot j) ∷ es) k = if eqb k j then in_slots es k + 1 else in_slots es k
 in_slots (e ∷ es) k = in_slots es k
 
 -- and that value record k keeps
 unfoldable pub in_values : List Event → ℕ → ℕ
 in_values [] k = 0
-in_values (value v (in_value j) ∷ es) k = pick_ℕ (eqb k j) (in_values es k + 1) (in_values es k)
+in_values (value v (in_value j) ∷ es) k = if eqb k j then in_values es k + 1 else in_values es k
 in_values (e ∷ es) k = in_values es k
 
 -- *left pending*: slot record k keeps a pending value with number n, and no resolve of n stands after it

@@ -1,9 +1,9 @@
 -- Slots, values and pending forward references. Assumes nothing: these are definitions.
-use Rattle.std.specs.Prelude.{Bool, ◌&&◌, List, ℕ, zero, suc, ◌+◌, ◌-◌, ◌*◌, ◌/◌, eqb, set}
+use Rattle.std.specs.Prelude.{if◌then◌else◌, Bool, ◌&&◌, List, ℕ, zero, suc, ◌+◌, ◌-◌, ◌*◌, ◌/◌, eqb, set}
 use Rattle.tables.specs.declared.values.SlotValue.{SlotValue}
 use Rattle.tables.specs.declared.values.SlotValue.TheVariants.{Ref, Repeat, RepeatPrev, Skip, StreamBytes, Raw, ClearedWeak, WeakRef, PendingRef}
 use Rattle.tables.specs.declared.values.Fields.{Fields}
-use Rattle.tables.specs.Values.{pick_ℕ, triple, fields_of, width_of}
+use Rattle.tables.specs.Values.{triple, fields_of, width_of}
 use Rattle.tables.specs.Records.{field, slot_row, value_row, filled}
 use Rattle.definition.specs.Memory.{Input, word, Kept, in_slot, in_value, item, value, resolve, Table, table, Mem, Reader, ◌>>=◌, ◌>>◌, give, change, with_objects, with_slots, with_values, with_pending, with_skip, noted, tell, added, append}
 
@@ -36,11 +36,11 @@ waits_for st number k = eqb (field 6 st k 5) 1 && eqb (field 6 st k 3) number
 -- of the first n slots the newest that waits under a number, counted from 1; 0: none does. (In one walk at most one does.)
 unfoldable pub waiter : List ℕ → ℕ → ℕ → ℕ
 waiter st number zero = 0
-waiter st number (suc n) = pick_ℕ (waits_for st number n) (suc n) (waiter st number n)
+waiter st number (suc n) = if waits_for st number n then suc n else waiter st number n
 
 -- when none waits, numbering returns to 0 (difference D9)
 abbrev pub renumbered : ℕ → ℕ → ℕ
-renumbered pending waiting = pick_ℕ (eqb waiting 0) 0 pending
+renumbered pending waiting = if eqb waiting 0 then 0 else pending
 
 -- the slot that waits, counted from 1, becomes this object; 0, an unknown number, changes no slot (differences D8 and D10)
 abbrev pub fill_waiter : ℕ → ℕ → Mem → Mem

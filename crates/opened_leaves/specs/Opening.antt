@@ -1,11 +1,11 @@
 -- An object whose map is a leaf, opened without the readers of every reference. Assumes nothing:
 -- these are definitions.
-use Rattle.std.specs.Prelude.{◌≡◌, true, false, List, ℕ, ◌+◌, ◌*◌, ◌^◌, ◌<◌, Option, Some, None}
+use Rattle.std.specs.Prelude.{if◌then◌else◌, ◌≡◌, true, false, List, ℕ, ◌+◌, ◌*◌, ◌^◌, ◌<◌, Option, Some, None}
 use Rattle.stream.specs.PutInt.{int_at}
 use Rattle.sheet.specs.Sheet.{is_six_x, is_map_first, is_legacy}
 use Rattle.tables.specs.declared.values.SlotValue.{SlotValue}
 use Rattle.address_index.specs.Links.{Linked}
-use Rattle.definition.specs.Memory.{Input, word, Reader, got, choose, ◌>>=◌, ◌>>◌, give}
+use Rattle.definition.specs.Memory.{Input, word, Reader, got, ◌>>=◌, ◌>>◌, give}
 use Rattle.definition.specs.Object.{flags, allocate, read_map, keep_map}
 use Rattle.readers.specs.declared.state.State.{State}
 use Rattle.readers.specs.declared.walker.Walker.{Walker}
@@ -48,7 +48,7 @@ pub record MapByte (w : Walker) (s : State) (count : ℕ) : Type 0 where
 -- changes, and where it is refused neither
 pub record Given (w : Walker) (s : State) (space bytes o : ℕ) (t : State) (w' : Walker) : Type 0 where
   pub alone : AddressAlone w w'
-  pub given : got tt (mem t (lent_of w')) ≡ choose (is_legacy w.sheet.now) (allocate (input_of w) space bytes o) (give tt) (mem s (lent_of w))
+  pub given : got tt (mem t (lent_of w')) ≡ (if is_legacy w.sheet.now then allocate (input_of w) space bytes o else give tt) (mem s (lent_of w))
   pub linked : Linked w'.addresses.now t.addresses w'.index.now
 
 abbrev pub AddressGiven : Walker → State → ℕ → ℕ → ℕ → Option State → Walker → Type 0
