@@ -12,7 +12,7 @@ use Rattle.backref.specs.declared.hot_ring.HotRing.{HotRing}
 use Rattle.backref.specs.HotRing.{entered}
 use Rattle.definition.specs.Memory.{Input, word, Mem, Out, got, no, Reader, ◌>>=◌}
 use Rattle.definition.specs.Slots.{waits_of, keep_item, place_item}
-use Rattle.definition.specs.Reference.{by_head}
+use Rattle.definition.specs.Reference.{by_head, reference}
 use Rattle.readers.specs.declared.state.State.{State}
 use Rattle.readers.specs.declared.walker.Walker.{Walker}
 use Rattle.readers.specs.Views.{Lent, input, mem, hot_is, moved_to}
@@ -111,6 +111,11 @@ RoomyItem w s level = (level.done + s.skip + 2 ^ 20 ≤ 2 ^ 64) × (word_bytes w
 -- a reference as an item of object o, `done` bytes of which have been read
 abbrev pub slot_in : Input → Reader SlotValue → ℕ → ℕ → Reader ℕ
 slot_in x r o done = r >>= place_item x o done
+
+-- a reference at the cursor as an item of the object that is read
+abbrev pub item_of : Walker → Level → Reader SlotValue → Reader ℕ
+item_of w level inner =
+    slot_in (input_of w) (reference (input_of w) inner) level.object level.done
 
 -- scratch that is in order stays so: the places of pending numbers, and the index of legacy
 -- addresses; where nothing is read, nothing is changed
