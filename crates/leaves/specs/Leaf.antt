@@ -49,7 +49,7 @@ Found p hot objects ts at kind a (Some r) =
     (v tr : List ℕ) (sp tag : ℕ) (s : State) (l : Lent) → word_bytes v ≡ ts → s.at ≡ at → s.objects ≡ objects → Stands (input v p sp tr) tag kind a s (hot_is hot l) r
 Found p hot objects ts at kind a None = Unit {0}
 
--- a reader of the definition refused
+-- a reader of the definition has refused
 abbrev pub Refused : {A : Type 0} → Out A → Type 0
 Refused (got a m) = ⊥
 Refused (no n q m) = Unit {0}
@@ -57,13 +57,15 @@ Refused (no n q m) = Unit {0}
 -- where none was found, the definition refuses in every such state
 abbrev pub Missing : List ℕ → HotRing → ℕ → ℕ → ℕ → ℕ → ℕ → Type 0
 Missing p hot objects ts at kind a =
-    (v tr : List ℕ) (sp tag : ℕ) (s : State) (l : Lent) (inner : Reader SlotValue) → word_bytes v ≡ ts → s.at ≡ at
-    → s.objects ≡ objects → Refused (by_head (input v p sp tr) inner tag kind a (mem s (hot_is hot l)))
+    (v tr : List ℕ) (sp tag : ℕ) (s : State) (l : Lent) (inner : Reader SlotValue)
+    → word_bytes v ≡ ts → s.at ≡ at → s.objects ≡ objects
+    → Refused (by_head (input v p sp tr) inner tag kind a (mem s (hot_is hot l)))
 
 -- heads of these kinds begin what may be a leaf
 abbrev pub begins_leaf : ℕ → Bool
 begins_leaf kind =
-    eqb kind backref || eqb kind hot_kind || eqb kind root_array || eqb kind root_constant || eqb kind read_only || eqb kind fixed_raw
+    eqb kind backref || eqb kind hot_kind || eqb kind root_array || eqb kind root_constant
+    || eqb kind read_only || eqb kind fixed_raw
 
 -- the kind and the argument of the head byte at a place
 abbrev pub kind_at : Walker → ℕ → ℕ
@@ -74,12 +76,15 @@ argument_at w at = (head_at w.heads.now (get_or w.payload.now at 0)).argument
 
 -- such a head stands at a place
 abbrev pub LeafByte : Walker → ℕ → Type 0
-LeafByte w at = ((at < length w.payload.now) × (get_or w.payload.now at 0 < 256)) × (begins_leaf (kind_at w at) ≡ true)
+LeafByte w at =
+    ((at < length w.payload.now) × (get_or w.payload.now at 0 < 256))
+    × (begins_leaf (kind_at w at) ≡ true)
 
 -- the definition refuses what stands there
 abbrev pub NoLeafAt : Walker → ℕ → ℕ → Type 0
 NoLeafAt w at objects =
-    Missing w.payload.now w.hot objects (word_bytes w.sheet.now) (at + 1) (kind_at w at) (argument_at w at)
+    Missing w.payload.now w.hot objects (word_bytes w.sheet.now) (at + 1) (kind_at w at)
+    (argument_at w at)
 
 -- the leaf that stands at a place, where the head byte there begins one
 abbrev pub LeafAt : Walker → ℕ → ℕ → Option Leaf → Type 0
@@ -94,7 +99,8 @@ FoundIn w s at kind a None = Unit {0}
 
 abbrev pub MissingIn : Walker → State → ℕ → ℕ → ℕ → Type 0
 MissingIn w s at kind a =
-    (tag : ℕ) (inner : Reader SlotValue) → Refused (by_head (input_of w) inner tag kind a (mem (moved_to at s) (lent_of w)))
+    (tag : ℕ) (inner : Reader SlotValue)
+    → Refused (by_head (input_of w) inner tag kind a (mem (moved_to at s) (lent_of w)))
 
 -- heads of these kinds begin what may be a leaf that is an item
 abbrev pub begins_item : ℕ → Bool
@@ -102,7 +108,9 @@ begins_item kind = begins_leaf kind || eqb kind legacy_backref
 
 -- such a head stands at a place
 abbrev pub ItemByte : Walker → ℕ → Type 0
-ItemByte w at = ((at < length w.payload.now) × (get_or w.payload.now at 0 < 256)) × (begins_item (kind_at w at) ≡ true)
+ItemByte w at =
+    ((at < length w.payload.now) × (get_or w.payload.now at 0 < 256))
+    × (begins_item (kind_at w at) ≡ true)
 
 -- the bytes read of an object, with those of any leaf, stay below 2^64
 abbrev pub RoomyItem : Walker → State → Level → Type 0

@@ -45,7 +45,8 @@ pub record MapByte (w : Walker) (s : State) (count : ℕ) : Type 0 where
   pub words : ℕ
   pub sized : Some (record { value = words; count = count }) ≡ int_at w.payload.now s.at
   pub leaf : LeafByte w (s.at + count)
-  pub unflagged : (v : SlotValue) (sh q : List ℕ) (sp : ℕ) → flags (input sh q sp w.trusted.now) v ≡ false
+  pub unflagged : (v : SlotValue) (sh q : List ℕ) (sp : ℕ)
+      → flags (input sh q sp w.trusted.now) v ≡ false
 
 -- there is room for one more object and one more slot
 abbrev pub RoomyTables : Walker → State → Type 0
@@ -65,4 +66,5 @@ pub record Given (w : Walker) (s : State) (space bytes o : ℕ) (t : State) (w' 
 
 abbrev pub AddressGiven : Walker → State → ℕ → ℕ → ℕ → Option State → Walker → Type 0
 AddressGiven w s space bytes o (Some t) w' = Given w s space bytes o t w'
-AddressGiven w s space bytes o None w' = AddressAlone w w' × Untouched w w' × (is_legacy w.sheet.now ≡ true)
+AddressGiven w s space bytes o None w' =
+    AddressAlone w w' × Untouched w w' × (is_legacy w.sheet.now ≡ true)
