@@ -42,7 +42,9 @@ pub fn begins_object(w: &Walker, at: usize, d: usize, kept: usize) -> Option<New
 pub fn put_object(w: &mut Walker, s: State, outer: Level, child: usize) -> Answer<u64>
     requires counted { Countable w.old.objects.now outer.object }
     requires fits { outer.done + s.skip + word_bytes w.old.sheet.now < 2 ^ 64 }
-    ensures is { seen result (lent_of w.new) ≡ place_item (input_of w.old) outer.object outer.done (IsRef (Object child)) (mem s (lent_of w.old)) }
+    ensures is { seen result (lent_of w.new)
+        ≡ place_item (input_of w.old) outer.object outer.done (IsRef (Object child))
+        (mem s (lent_of w.old)) }
     ensures kept { Kept w.old w.new }
 {
     let word = word_bytes(w.sheet);
