@@ -9,11 +9,11 @@ use native.Mathlib.Omega.{arith}
 use lib.Dec.{eqb}
 use lib.ListN.{length}
 use lib.Pow.{pow_pos, pow_mono}
-use Rattle.std.specs.Prelude.{Some}
+use Rattle.std.specs.Prelude.{if◌then◌else◌, Some}
 use Rattle.stream.specs.declared.putint.Int.{Int}
 use Rattle.stream.specs.PutInt.{int_at}
 use Rattle.stream.proofs.IntegerLaws.{int_within}
-use Rattle.sheet.specs.Sheet.{pick_ℕ, space_tag_size, page_size_bits, word_bytes, usable}
+use Rattle.sheet.specs.Sheet.{space_tag_size, page_size_bits, word_bytes, usable}
 use Rattle.sheet.proofs.UsableSheet.{usable_gives}
 use Rattle.backref.specs.Legacy.{offset_bits, index_of}
 
@@ -23,7 +23,7 @@ int_end p at e = (int_within p at e).ends
 
 -- ---- what a usable sheet bounds
 
-two_or_three : (b : Bool) → 2 ≤ pick_ℕ b 2 3
+two_or_three : (b : Bool) → 2 ≤ (if b then 2 else 3)
 two_or_three true = omega arith
 two_or_three false = omega arith
 

@@ -1,9 +1,9 @@
 -- Legacy back-references (`legacy_backref`): what one stands for, and what enters the ring. Assumes
 -- nothing: these are definitions.
-use Rattle.std.specs.Prelude.{Bool, true, false, List, ℕ, ◌+◌, ◌-◌, ◌*◌, ◌/◌, ◌%◌, ◌^◌, eqb, Option, Some, None, Result, Ok, Err}
+use Rattle.std.specs.Prelude.{if◌then◌else◌, Bool, true, false, List, ℕ, ◌+◌, ◌-◌, ◌*◌, ◌/◌, ◌%◌, ◌^◌, eqb, Option, Some, None, Result, Ok, Err}
 use Rattle.stream.specs.declared.putint.Int.{Int}
 use Rattle.stream.specs.PutInt.{int_at}
-use Rattle.sheet.specs.Sheet.{pick_ℕ, is_six_x, map_space, lo_space, space_tag_size, page_size_bits, word_bytes}
+use Rattle.sheet.specs.Sheet.{is_six_x, map_space, lo_space, space_tag_size, page_size_bits, word_bytes}
 use Rattle.tables.specs.declared.values.Ref.TheVariants.{Object as ObjectRef, RoRef}
 use Rattle.alloc.specs.declared.resolve.Place.{Place}
 use Rattle.alloc.specs.Resolve.{resolve_of, ordinal_from}
@@ -17,14 +17,10 @@ use Rattle.backref.specs.declared.legacy.BackrefError.TheVariants.{Cut, Unknown}
 abbrev pub Answer : Type 0
 Answer = Result Backref BackrefError
 
-abbrev pub pick_backref : Bool → Answer → Answer → Answer
-pick_backref true a b = a
-pick_backref false a b = b
-
 -- map and large objects are referred to by number. Spaces kMapSpace and kLoSpace refer, but spaces
 -- 4 and 5 are numbered (difference D27); 0 for a space that is not numbered
 abbrev pub numbered_as : List ℕ → ℕ → ℕ
-numbered_as v space = pick_ℕ (eqb space (map_space v)) 4 (pick_ℕ (eqb space (lo_space v)) 5 0)
+numbered_as v space = if eqb space (map_space v) then 4 else if eqb space (lo_space v) then 5 else 0
 
 -- the object with a number; none: refusal 15 at the cursor
 abbrev pub by_number : Option ℕ → ℕ → Answer
@@ -54,7 +50,7 @@ with_int None at f = Err Cut
 -- 6.x: one integer, of which the low bits are an index: a number, or a chunk above an offset in
 -- words
 abbrev pub word_bits : List ℕ → ℕ
-word_bits v = pick_ℕ (eqb (word_bytes v) 4) 2 3
+word_bits v = if eqb (word_bytes v) 4 then 2 else 3
 
 abbrev pub offset_bits : List ℕ → ℕ
 offset_bits v = page_size_bits v - word_bits v
@@ -68,22 +64,20 @@ unpacked v index = record { chunk = index / 2 ^ offset_bits v; offset = index % 
 unfoldable pub packed_backref : List ℕ → List ℕ → List ℕ → ℕ → ℕ → ℕ → ℕ → Answer
 packed_backref v p t n alignment space at =
     with_int (int_at p at) at
-    (λ value next. pick_backref (eqb (numbered_as v space) 0)
-    (placed v t n alignment space (unpacked v (index_of v value)) next)
-    (numbered v t n space (index_of v value) next))
+    (λ value next. if eqb (numbered_as v space) 0 then placed v t n alignment space (unpacked v (index_of v value)) next
+    else numbered v t n space (index_of v value) next)
 
 -- 7.8 and 8.4: a number, or chunk and offset
 unfoldable pub plain_backref : List ℕ → List ℕ → List ℕ → ℕ → ℕ → ℕ → ℕ → Answer
 plain_backref v p t n alignment space at =
     with_int (int_at p at) at
-    (λ first next. pick_backref (eqb (numbered_as v space) 0)
-    (with_int (int_at p next) next (λ second. placed v t n alignment space (record { chunk = first; offset = second })))
-    (numbered v t n space first next))
+    (λ first next. if eqb (numbered_as v space) 0 then with_int (int_at p next) next (λ second. placed v t n alignment space (record { chunk = first; offset = second }))
+    else numbered v t n space first next)
 
 -- a back-reference to a space, at a cursor
 unfoldable pub backref_of : List ℕ → List ℕ → List ℕ → ℕ → ℕ → ℕ → ℕ → Answer
 backref_of v p t n alignment space at =
-    pick_backref (is_six_x v) (packed_backref v p t n alignment space at) (plain_backref v p t n alignment space at)
+    if is_six_x v then packed_backref v p t n alignment space at else plain_backref v p t n alignment space at
 
 -- what it stands for enters the ring, read-only places included
 abbrev pub ring_after : HotRing → Answer → HotRing

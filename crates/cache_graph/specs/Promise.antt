@@ -46,6 +46,17 @@ abbrev pub answer : Result Graph Refused → Answer
 answer (Ok g) = graph_answer g
 answer (Err e) = refused_answer e
 
+-- the number of a refusal: docs/FORMAT.md, "Refusals"
+abbrev pub RefusalNumber : ℕ → Type 0
+RefusalNumber n = (1 ≤ n) × (n ≤ 16)
+
+-- what the definition gives of a call
+abbrev pub IsAccepted : Call → Rooms → Type 0
+IsAccepted c rooms = (m : Mem) × (graph c rooms ≡ got tt m)
+
+abbrev pub IsRefused : Call → Rooms → Type 0
+IsRefused c rooms = (n : ℕ) × (q : ℕ) × (m : Mem) × (graph c rooms ≡ no n q m)
+
 -- demand 2: the answer, and every number of every table, after a refusal too, are what the definition gives
 pub record Reads (c : Call) (rooms : Rooms) (r : Answer) (objects slots values addresses : List ℕ) : Type 0 where
   pub outcome : r ≡ answer_of (graph c rooms)

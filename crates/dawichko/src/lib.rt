@@ -1,9 +1,10 @@
 // The entry point for C and Rust; include/dawichko.h declares it.
 #![tactic(auto)]
 
-ghost use Rattle.std.specs.Prelude.{true, ◌≡◌};
+ghost use Rattle.std.specs.Prelude.{true, ◌≡◌, ◌≢◌, ◌≤◌};
 ghost use Rattle.sheet.specs.Sheet as Sheet;
-ghost use Rattle.cache_graph.specs.Promise.{call_of, rooms_of, Reads, Assures};
+ghost use Rattle.cache_graph.specs.Promise.{call_of, rooms_of, IsAccepted, IsRefused, RefusalNumber, Reads, Assures, Cleared};
+ghost use Rattle.cache_graph.specs.SecondCall.{SecondCalls};
 ghost use Rattle.dawichko.specs.Export.{outcome_of};
 
 use cache_graph::parse::{Call, Tables, parse_with};
@@ -24,6 +25,11 @@ pub extern "C" fn dawichko_graph(
     outcome: &mut [u64; 6],
 ) -> u64
     ensures reads { Reads (call_of sheet.now payload.now reservations.now trusted.now) (rooms_of objects.old slots.old values.old addresses.old) (outcome_of result outcome.new) objects.new slots.new values.new addresses.new }
+    ensures accepted { IsAccepted (call_of sheet.now payload.now reservations.now trusted.now) (rooms_of objects.old slots.old values.old addresses.old) → result ≡ 0 }
+    ensures refused { IsRefused (call_of sheet.now payload.now reservations.now trusted.now) (rooms_of objects.old slots.old values.old addresses.old) → RefusalNumber result }
+    ensures numbered { result ≤ 16 }
+    ensures cleared { result ≢ 0 → Cleared (rooms_of objects.old slots.old values.old addresses.old) objects.new slots.new values.new addresses.new }
+    ensures second { Sheet.plain sheet.now ≡ true → result ≡ 0 → SecondCalls (call_of sheet.now payload.now reservations.now trusted.now) (rooms_of objects.old slots.old values.old addresses.old) (outcome_of result outcome.new) objects.new slots.new values.new addresses.new }
     ensures assured { Sheet.plain sheet.now ≡ true → result ≡ 0 → Assures (call_of sheet.now payload.now reservations.now trusted.now) (rooms_of objects.old slots.old values.old addresses.old) (outcome_of result outcome.new) objects.new slots.new values.new addresses.new }
 {
     let call = Call {

@@ -1,6 +1,6 @@
 -- A reference keeps what it has in order (Sound.antt) and an invariant with its rules (Rules.antt), reads a byte at least, and no item is
 -- wider than 2 ^ 34 bytes. Assumes nothing.
-use Rattle.std.specs.Prelude.{◌≡◌, Bool, ltb, length, Option, Some, None, Ok, Err}
+use Rattle.std.specs.Prelude.{if◌then◌else◌, ◌≡◌, Bool, ltb, length, Option, Some, None, Ok, Err}
 use Rattle.std.proofs.Math.Path.{refl}
 use Rattle.std.proofs.Math.Bool.{true, false}
 use Rattle.std.proofs.Common.{⊎_elim, ltb-true}
@@ -16,7 +16,7 @@ use Rattle.tables.specs.declared.values.Ref.{Ref}
 use Rattle.tables.specs.declared.values.Ref.TheVariants.{Object, Root, RoRef, Attached}
 use Rattle.tables.specs.declared.values.SlotValue.{SlotValue}
 use Rattle.tables.specs.declared.values.SlotValue.TheVariants.{Ref as IsRef, RepeatPrev, Skip, StreamBytes, ClearedWeak}
-use Rattle.tables.specs.Values.{pick_ℕ, width_of}
+use Rattle.tables.specs.Values.{width_of}
 use Rattle.backref.specs.HotRing.{entered, hot_at}
 use Rattle.backref.specs.declared.legacy.BackrefError.TheVariants.{Cut, Unknown}
 use Rattle.backref.specs.Legacy.{Answer, backref_of}
@@ -109,7 +109,7 @@ module _ {x : Input} {I : List Frame → Mem → Type 0} {W : Mem → SlotValue 
   unfolding raw_data
   raw_data_keeps n advances = law (λ S m w. after w (raw_at x.payload m.at n) (raw_ends x.payload m.at n))
     where
-      width_low : (t : Bool) → n ≤ 2 ^ 34 → pick_ℕ t n 0 ≤ 2 ^ 34
+      width_low : (t : Bool) → n ≤ 2 ^ 34 → (if t then n else 0) ≤ 2 ^ 34
       width_low true h = h
       width_low false h = omega arith
 

@@ -1,5 +1,5 @@
 -- An object whose map is a leaf: its head, its map, its address and its slot 0. Assumes nothing.
-use Rattle.std.specs.Prelude.{◌≡◌, refl, Bool, true, false, List, ℕ, ◌+◌, ◌*◌, ◌^◌, ◌<◌, ltb, eqb}
+use Rattle.std.specs.Prelude.{if◌then◌else◌, ◌≡◌, refl, Bool, true, false, List, ℕ, ◌+◌, ◌*◌, ◌^◌, ◌<◌, ltb, eqb}
 use Rattle.std.proofs.Common.{arith, ap, subst, lt-ltb}
 use Rattle.sheet.specs.Sheet.{is_legacy, word_bytes}
 use Rattle.heads.specs.Heads.{Heads}
@@ -11,7 +11,7 @@ use Rattle.tables.proofs.RecordLaws.{written_same}
 use Rattle.alloc.specs.declared.legacy_alloc.LegacyAlloc.{LegacyAlloc}
 use Rattle.alloc.specs.Allocation.{Outcome, allocate_of}
 use Rattle.backref.specs.declared.hot_ring.HotRing.{HotRing}
-use Rattle.definition.specs.Memory.{Input, word, Table, table, Mem, Out, got, and_then, int, Reader, choose, refuse, change, with_alloc, ◌>>=◌, ◌>>◌, give}
+use Rattle.definition.specs.Memory.{Input, word, Table, table, Mem, Out, got, and_then, int, Reader, refuse, change, with_alloc, ◌>>=◌, ◌>>◌, give}
 use Rattle.definition.specs.Slots.{add_slot}
 use Rattle.definition.specs.Object.{add_object, allocate, flags, flag_object, map_then_allocate, read_map, keep_map}
 use Rattle.definition.specs.Reference.{reference}
@@ -35,15 +35,15 @@ use Rattle.opened_leaves.specs.Opening.{opened, MapAt, MapByte, Given}
 abbrev allocated : Mem → Mem → Mem
 allocated m n = with_alloc m.addresses m.alignment m.alloc n
 
-by_outcome : (b : Bool) (t : Table) (a : ℕ) (c : LegacyAlloc) (k : ℕ) (m : Mem) {m' : Mem} → got tt m' ≡ choose b (change (with_alloc t a c)) (refuse k) m → (b ≡ true) × (m' ≡ with_alloc t a c m)
+by_outcome : (b : Bool) (t : Table) (a : ℕ) (c : LegacyAlloc) (k : ℕ) (m : Mem) {m' : Mem} → got tt m' ≡ (if b then change (with_alloc t a c) else refuse k) m → (b ≡ true) × (m' ≡ with_alloc t a c m)
 by_outcome true t a c k m e = (refl, (cc))
 by_outcome false t a c k m e = absurd (let z : ◌≡◌ {A = ℕ} 0 1 = cc in omega arith)
 
 -- where an address was given, it is also given in every other memory with these addresses, this
 -- alignment and these counters
 module _ (x : Input) (space bytes o : ℕ) (m : Mem) {m' : Mem} where
-  carried : (b : Bool) → got tt m' ≡ choose b (allocate x space bytes o) (give tt) m
-      → (m' ≡ allocated m' m) × ((n : Mem) → n.addresses ≡ m.addresses → n.alignment ≡ m.alignment → n.alloc ≡ m.alloc → got tt (allocated m' n) ≡ choose b (allocate x space bytes o) (give tt) n)
+  carried : (b : Bool) → got tt m' ≡ (if b then allocate x space bytes o else give tt) m
+      → (m' ≡ allocated m' m) × ((n : Mem) → n.addresses ≡ m.addresses → n.alignment ≡ m.alignment → n.alloc ≡ m.alloc → got tt (allocated m' n) ≡ (if b then allocate x space bytes o else give tt) n)
   unfolding allocate
   carried true e =
       let r : Outcome = allocate_of m.addresses.rows m.addresses.count x.spaces (record { space = space; size = bytes; object = o; alignment = m.alignment; word = word x }) m.alloc in
@@ -52,7 +52,7 @@ module _ (x : Input) (space bytes o : ℕ) (m : Mem) {m' : Mem} where
   carried false e = let d : m' ≡ m = cc in (rw d refl, λ n ea eg ec. rw (d, ← ea, ← eg, ← ec) refl)
 
 -- the map and the address after it, where the map does not come first
-map_read : (b : Bool) (x : Input) (r : Reader SlotValue) (space bytes o : ℕ) (v : SlotValue) (m₁ m₂ m₃ : Mem) → got v m₂ ≡ r m₁ → got tt m₃ ≡ choose b (allocate x space bytes o) (give tt) m₂ → got v m₃ ≡ choose b (map_then_allocate x r space bytes o) r m₁
+map_read : (b : Bool) (x : Input) (r : Reader SlotValue) (space bytes o : ℕ) (v : SlotValue) (m₁ m₂ m₃ : Mem) → got v m₂ ≡ r m₁ → got tt m₃ ≡ (if b then allocate x space bytes o else give tt) m₂ → got v m₃ ≡ (if b then map_then_allocate x r space bytes o else r) m₁
 map_read true x r space bytes o v m₁ m₂ m₃ h k =
     then_got (λ v. allocate x space bytes o >> give v) h (then_got (λ (u : Unit {0}). give v) k refl)
 map_read false x r space bytes o v m₁ m₂ m₃ h k = let d : m₃ ≡ m₂ = cc in rw d h
@@ -157,7 +157,7 @@ module _ (w w₁ : Walker) (s t : State) (ts words : ℕ) (map : Leaf) (space ta
   is_hot : hot ≡ ring map w.hot
   is_hot = rw same_hot at eh
 
-  given : (mem t (lent_of w₁) ≡ allocated (mem t (lent_of w₁)) m) × ((n : Mem) → n.addresses ≡ m.addresses → n.alignment ≡ m.alignment → n.alloc ≡ m.alloc → got tt (allocated (mem t (lent_of w₁)) n) ≡ choose (is_legacy w.sheet.now) (allocate x space bytes s.objects) (give tt) n)
+  given : (mem t (lent_of w₁) ≡ allocated (mem t (lent_of w₁)) m) × ((n : Mem) → n.addresses ≡ m.addresses → n.alignment ≡ m.alignment → n.alloc ≡ m.alloc → got tt (allocated (mem t (lent_of w₁)) n) ≡ (if is_legacy w.sheet.now then allocate x space bytes s.objects else give tt) n)
   given = carried x space bytes s.objects m (is_legacy w.sheet.now) g.given
 
   -- the head

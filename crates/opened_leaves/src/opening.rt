@@ -8,7 +8,7 @@ ghost use Rattle.definition.specs.Reference.{reference};
 ghost use Rattle.readers.specs.Lent.{input_of, PendingKept, Untouched};
 ghost use Rattle.objects.specs.Index.{Indexed};
 ghost use Rattle.leaves.specs.Leaf.{NoLeafAt, ReadAs, RefusedAs};
-ghost use Rattle.opened_leaves.specs.Opening.{opened, MapAt, MapByte, AddressGiven};
+ghost use Rattle.opened_leaves.specs.Opening.{opened, object_of, MapAt, MapByte, RoomyTables, AddressGiven};
 
 use leaves::leaf::{Leaf, enter, leaf_at};
 use objects::head::NewObject;
@@ -27,7 +27,8 @@ use tables::values::Fields;
 fn map_at(w: &Walker, s: State) -> Option<(u64, Leaf)>
     requires { s.objects < 2 ^ 63 }
     ensures some { IfSome result (λ r. MapAt w.now s r.0 r.1) }
-    ensures none { IsNone result → (count : ℕ) → MapByte w.now s count → NoLeafAt w.now (s.at + count) (s.objects + 1) }
+    ensures none { IsNone result → (count : ℕ) → MapByte w.now s count
+        → NoLeafAt w.now (s.at + count) (s.objects + 1) }
 {
     if six_x(w.sheet) || map_first(w.sheet) {
         return None;
@@ -57,8 +58,8 @@ fn give_address(w: &mut Walker, s: State, space: u64, bytes: u64, o: u64) -> Opt
 // that a call was lent, the proof knows the length alone.
 #[inline(always)]
 fn records_fit(w: &Walker, s: State) -> bool
-    ensures fit { result ≡ true → (s.objects < room 4 w.now.objects.now) × (s.slots < room 6 w.now.slots.now) }
-    ensures full { result ≡ false → s.objects < room 4 w.now.objects.now → s.slots < room 6 w.now.slots.now → ⊥ }
+    ensures fit { result ≡ true → RoomyTables w.now s }
+    ensures full { result ≡ false → RoomyTables w.now s → ⊥ }
 {
     has_room(w.objects, OBJECT_FIELDS, s.objects) && has_room(w.slots, SLOT_FIELDS, s.slots)
 }
@@ -79,7 +80,8 @@ pub fn open_leaf(w: &mut Walker, s: State, d: usize, new: NewObject) -> Option<(
     ensures linked { IfSome result (λ r. Linked w.new.addresses.now r.1.addresses w.new.index.now) }
     ensures indexed { IfSome result (λ r. Indexed w.old.slots.now s.slots w.old.pending.now → Indexed w.new.slots.now r.1.slots w.new.pending.now) }
     ensures none { IsNone result → Untouched w.old w.new }
-    ensures found { IsNone result → d < 64 → (count : ℕ) → MapByte w.old s count → s.objects < room 4 w.old.objects.now → s.slots < room 6 w.old.slots.now → RefusedAs w.old s (λ inner. opened (input_of w.old) (reference (input_of w.old) inner) new.space new.tag s.objects) }
+    ensures found { IsNone result → d < 64 → (count : ℕ) → MapByte w.old s count → RoomyTables w.old s
+        → RefusedAs w.old s (object_of w.old s new) }
     ensures rest { PendingKept w.old w.new }
 {
     if DEEPEST <= d {

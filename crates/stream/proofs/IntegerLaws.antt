@@ -11,9 +11,9 @@ use lib.ListN.{length, get_or}
 use lib.Pow.{pow_mono}
 use native.Mathlib.Nat.{lt_of_lt_of_le}
 use Rattle.stream.specs.declared.putint.Int.{Int}
-use Rattle.std.specs.Prelude.{Option, Some, None}
+use Rattle.std.specs.Prelude.{if◌then◌else◌, Option, Some, None}
 use Rattle.stream.specs.Bytes.{little_endian}
-use Rattle.stream.specs.PutInt.{pick_int, int_length, int_at}
+use Rattle.stream.specs.PutInt.{int_length, int_at}
 use Rattle.stream.proofs.ByteLaws.{Bytes, le_below}
 
 module _ (p : List ℕ) (at : ℕ) where
@@ -51,7 +51,7 @@ pub record IntWithin (p : List ℕ) (at n : ℕ) : Type 0 where
   pub most : n ≤ 4
 
 module _ {i : Int} where
-  whole : (cut : Bool) {o : Option Int} → pick_int cut None o ≡ Some i → (cut ≡ false) × (o ≡ Some i)
+  whole : (cut : Bool) {o : Option Int} → (if cut then None else o) ≡ Some i → (cut ≡ false) × (o ≡ Some i)
   whole true e = absurd (let z : ◌≡◌ {A = ℕ} 0 1 = cc in omega arith)
   whole false e = (refl, e)
 

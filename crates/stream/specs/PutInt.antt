@@ -1,12 +1,8 @@
 -- The integer of one to four bytes (V8's PutUint30, in older versions PutInt; docs/FORMAT.md,
 -- "Integers"). Assumes nothing: these are definitions.
-use Rattle.std.specs.Prelude.{Bool, true, false, List, ℕ, ◌+◌, ◌-◌, ◌/◌, ◌%◌, ◌^◌, ◌<◌, length, get_or, ltb, leb, Option, Some, None}
+use Rattle.std.specs.Prelude.{if◌then◌else◌, Bool, true, false, List, ℕ, ◌+◌, ◌-◌, ◌/◌, ◌%◌, ◌^◌, ◌<◌, length, get_or, ltb, leb, Option, Some, None}
 use Rattle.stream.specs.declared.putint.Int.{Int}
 use Rattle.stream.specs.Bytes.{little_endian}
-
-abbrev pub pick_int : Bool → Option Int → Option Int → Option Int
-pick_int true a b = a
-pick_int false a b = b
 
 -- the low two bits of the first byte plus 1 say how many bytes an integer has
 unfoldable pub int_length : List ℕ → ℕ → ℕ
@@ -16,9 +12,9 @@ int_length p at = get_or p at 0 % 4 + 1
 -- does has none (refusal 4)
 unfoldable pub int_at : List ℕ → ℕ → Option Int
 int_at p at =
-    pick_int (leb (length p) at) None
-    (pick_int (ltb (length p - at) (int_length p at)) None
-    (Some (record { value = little_endian p at (int_length p at) / 4; count = int_length p at })))
+    if leb (length p) at then None
+    else if ltb (length p - at) (int_length p at) then None
+    else Some (record { value = little_endian p at (int_length p at) / 4; count = int_length p at })
 
 -- an integer's value has 30 bits, since a payload's bytes are below 256
 abbrev pub Small : Option Int → Type 0

@@ -25,4 +25,4 @@ returns-clause-indexed c = new_indexed c.in_ok-t.ensures.alone _ _ _ _ c.in_ok-a
 pub returns-in_err-words-clause-found : goal.returns-in_err-words-clause-found
 returns-in_err-words-clause-found c =
     let a = c.args in
-    λ none deep count b roomy slots h inner. map_refused a.w.now a.s count a.new.space a.new.tag h b (c.in_err-words.ensures.none refl count b) roomy inner
+    λ none deep count b roomy h inner. map_refused a.w.now a.s count a.new.space a.new.tag h b (c.in_err-words.ensures.none refl count b) roomy.0 inner
