@@ -1,4 +1,5 @@
--- What holds of each reader that a head of a plain sheet may call for holds of the reader by the head's kind. Assumes nothing.
+-- What holds of each reader that a head of a plain sheet may call for holds of the reader by the
+-- head's kind. Assumes nothing.
 use Rattle.std.specs.Prelude.{◌≡◌, Bool, true, false, ℕ, ◌+◌, ◌*◌, eqb}
 use Rattle.std.proofs.Math.Path.{refl}
 use Rattle.std.proofs.Common.{eqb-true}

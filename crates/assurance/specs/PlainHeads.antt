@@ -1,4 +1,5 @@
--- A plain sheet gives no head byte a kind that only legacy, 6.x or with-skip sheets have. Assumes nothing.
+-- A plain sheet gives no head byte a kind that only legacy, 6.x or with-skip sheets have. Assumes
+-- nothing.
 use Rattle.std.specs.Prelude.{◌≡◌, refl, Bool, true, false, not, ◌&&◌, ◌||◌, ℕ, ◌+◌, ◌-◌, ◌<◌, ◌≤◌, eqb, leb}
 use Rattle.std.proofs.Common.{⊎_elim, arith, eqb-true, eq-eqb, leb-true, ltb-true, le-leb, lt-ltb}
 use mathlib.Core.List.{List, [], ◌∷◌}
@@ -21,8 +22,9 @@ is_one_of k (j ∷ js) = eqb k j || is_one_of k js
 abbrev pub not_plain : ℕ → Bool
 not_plain k = is_one_of k (legacy_backref ∷ legacy_backref_with_skip ∷ next_chunk ∷ alignment ∷ hot_with_skip ∷ root_constant_with_skip ∷ builtin ∷ external ∷ api ∷ internal ∷ deoptimizer ∷ stream_bytes ∷ embedder_fields ∷ off_heap_target ∷ skip ∷ repeat_previous ∷ variable_repeat_previous ∷ [])
 
--- what is known of a head that a plain sheet gives a byte: its kind; a new-object head lies from kNewObject up to below kBackref; fixed raw
--- data has a word at least; a hot byte names one of eight places
+-- what is known of a head that a plain sheet gives a byte: its kind; a new-object head lies from
+-- kNewObject up to below kBackref; fixed raw data has a word at least; a hot byte names one of
+-- eight places
 pub record PlainHead (v : List ℕ) (b : ℕ) (h : Head) : Type 0 where
   pub kind : not_plain h.kind ≡ false
   pub new_object_lem : h.kind ≡ new_object → opens v b ≡ true

@@ -1,6 +1,7 @@
--- The elementary steps of a reading, as rules for an invariant: what holds at the start and is kept by each step holds of every reading.
--- The invariant I speaks of the objects that are being read, the innermost first, and of what a reader has, also where it refuses; W speaks
--- of a value that was read, until it is kept or dropped. Assumes nothing: these are definitions.
+-- The elementary steps of a reading, as rules for an invariant: what holds at the start and is kept
+-- by each step holds of every reading. The invariant I speaks of the objects that are being read,
+-- the innermost first, and of what a reader has, also where it refuses; W speaks of a value that
+-- was read, until it is kept or dropped. Assumes nothing: these are definitions.
 use Rattle.std.specs.Prelude.{◌≡◌, Bool, true, false, ◌||◌, List, [], ◌∷◌, ℕ, ◌+◌, ◌*◌, ◌/◌, ◌^◌, ◌<◌, ◌≤◌, eqb, length, Some, Ok}
 use Rattle.sheet.specs.Sheet.{is_legacy}
 use Rattle.sheet.specs.declared.tests.Closing.TheVariants.{Synchronize}
@@ -42,7 +43,8 @@ one_of (a ∷ l) k = eqb k a || one_of l k
 abbrev pub HeadOf : Input → List ℕ → Type 0
 HeadOf x kinds = (b : ℕ) × (b < 256) × (one_of kinds (head_of x.sheet b).kind ≡ true)
 
--- kinds of heads with a with-skip amount, and those that give a skip, stream bytes or a repeat of the previous slot
+-- kinds of heads with a with-skip amount, and those that give a skip, stream bytes or a repeat of
+-- the previous slot
 abbrev pub with_amount : List ℕ
 with_amount = legacy_backref_with_skip ∷ hot_with_skip ∷ root_constant_with_skip ∷ api ∷ off_heap_target ∷ []
 
