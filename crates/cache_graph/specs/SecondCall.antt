@@ -1,6 +1,7 @@
--- What holds of two calls, of what the entry point promises of them: a second payload that begins as an accepted one does, through the
--- kSynchronize that ends its closing section, all else lent the same, is accepted exactly when only kNop follows, and then has the same graph.
--- Assumes nothing: these are definitions.
+-- What holds of two calls, of what the entry point promises of them: a second payload that begins
+-- as an accepted one does, through the kSynchronize that ends its closing section, all else lent
+-- the same, is accepted exactly when only kNop follows, and then has the same graph. Assumes
+-- nothing: these are definitions.
 use Rattle.std.specs.Prelude.{◌≡◌, List, ℕ, ◌+◌, ◌≤◌, length, take}
 use Rattle.definition.specs.Call.{Rooms, Call, Answer}
 use Rattle.assurance.specs.Words.{events, EndsAt}
@@ -25,7 +26,8 @@ pub record BeginsWith (c : Call) (final : ℕ) (p' : List ℕ) : Type 0 where
   pub within_limit : length p' ≤ 16777216
   pub same_start : take (final + 1) p' ≡ take (final + 1) c.payload
 
--- of every second call, which answers r' and leaves the tables ot' to dt', after the call c that answered r and left ot to dt
+-- of every second call, which answers r' and leaves the tables ot' to dt', after the call c that
+-- answered r and left ot to dt
 pub record SecondCalls (c : Call) (rooms : Rooms) (r : Answer) (ot st vt dt : List ℕ) : Type 0 where
   -- where the closing section of the first payload ends
   pub final : ℕ

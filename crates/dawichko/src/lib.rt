@@ -1,4 +1,4 @@
-// The entry point for C and Rust; include/dawichko.h declares it.
+//! The entry point for C and Rust; include/dawichko.h declares it.
 #![tactic(auto)]
 
 ghost use Rattle.std.specs.Prelude.{true, ◌≡◌, ◌≢◌, ◌≤◌};
@@ -9,8 +9,10 @@ ghost use Rattle.dawichko.specs.Export.{outcome_of};
 
 use cache_graph::parse::{Call, Tables, parse_with};
 
-// The object graph of a payload, in the four tables: 0 or the refusal's number. The outcome is the four record counts, the cursor at the
-// finish and the refusal's place.
+/// The object graph of a payload, in the four tables: 0, or a refusal's number, 1 to 16, after
+/// which every table is zero. What is given and lent is as for `cache_graph::parse::parse_with`.
+/// The outcome is the four record counts, the cursor at the finish and the refusal's place; of a
+/// refusal the first five are 0, of an accepted payload the last.
 #[unsafe(no_mangle)]
 pub extern "C" fn dawichko_graph(
     sheet: &[u16],
