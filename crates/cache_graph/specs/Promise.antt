@@ -102,6 +102,9 @@ pub record Cleared (rooms : Rooms) (objects slots values addresses : List ℕ) :
   pub values_zero : values ≡ replicate rooms.values 0
   pub addresses_zero : addresses ≡ replicate rooms.addresses 0
 
+abbrev pub AllZero : Rooms → Tables → Type 0
+AllZero rooms t = Cleared rooms t.objects.now t.slots.now t.values.now t.addresses.now
+
 -- the tables are as long as this, and what the walk reads before it writes it is zero
 pub record Prepared (rooms : Rooms) (t : Tables) : Type 0 where
   pub objects_zero : t.objects.now ≡ replicate rooms.objects 0

@@ -7,6 +7,7 @@ use Rattle.definition.specs.Call.{Rooms, Call, Answer}
 use Rattle.assurance.specs.Words.{events, EndsAt}
 use Rattle.assurance.specs.Padding.{Padded}
 use Rattle.assurance.specs.Prefix.{with_payload}
+use Rattle.cache_graph.specs.declared.parse.Tables.{Tables}
 use Rattle.cache_graph.specs.Promise.{Reads}
 
 -- the same graph: the four record counts and every number of every table
@@ -37,3 +38,8 @@ pub record SecondCalls (c : Call) (rooms : Rooms) (r : Answer) (ot st vt dt : Li
   pub same_graph : (p' : List ℕ) → BeginsWith c final p' → (r' : Answer) (ot' st' vt' dt' : List ℕ) →
       Reads (with_payload p' c) rooms r' ot' st' vt' dt' → Padded c.sheet p' (final + 1) →
       SameGraph r r' ot st vt dt ot' st' vt' dt'
+
+-- the same of the code's tables
+abbrev pub SecondCallsIn : Call → Rooms → Answer → Tables → Type 0
+SecondCallsIn c rooms r t =
+    SecondCalls c rooms r t.objects.now t.slots.now t.values.now t.addresses.now

@@ -4,8 +4,8 @@ ghost use Rattle.refusals.specs.Numbers.{number_of};
 ghost use Rattle.sheet.specs.Sheet as Sheet;
 ghost use Rattle.definition.specs.Call as Definition;
 ghost use Rattle.assurance.specs.Unused.{zeros_from};
-ghost use Rattle.cache_graph.specs.Promise.{call_of, entered, rooms_in, answer, graph_of, refused_of, RefusalNumber, Reads, Assures, SameTables, Cleared, Prepared, Fitting, Trimmed, Started, begun_in, Walked};
-ghost use Rattle.cache_graph.specs.SecondCall.{SecondCalls};
+ghost use Rattle.cache_graph.specs.Promise.{call_of, entered, rooms_in, answer, graph_of, refused_of, RefusalNumber, Reads, Assures, SameTables, Cleared, AllZero, Prepared, Fitting, Trimmed, Started, begun_in, Walked};
+ghost use Rattle.cache_graph.specs.SecondCall.{SecondCallsIn};
 
 use address_index::layout::LISTED_SPACES;
 use alloc::legacy_alloc::{LegacyAlloc, spaces};
@@ -236,9 +236,10 @@ fn read(call: Call<'_>, tables: &mut Tables<'_>) -> Result<Graph, Refused>
 pub fn parse_with(call: Call<'_>, tables: &mut Tables<'_>) -> Result<Graph, Refused>
     ensures reads { Reads (entered call.entry) (rooms_in tables.old) (answer result) tables.new.objects.now tables.new.slots.now tables.new.values.now tables.new.addresses.now }
     ensures assured { Sheet.plain call.entry.sheet.now ≡ true → (answer result).number ≡ 0 → Assures (entered call.entry) (rooms_in tables.old) (answer result) tables.new.objects.now tables.new.slots.now tables.new.values.now tables.new.addresses.now }
-    ensures second { Sheet.plain call.entry.sheet.now ≡ true → (answer result).number ≡ 0 → SecondCalls (entered call.entry) (rooms_in tables.old) (answer result) tables.new.objects.now tables.new.slots.now tables.new.values.now tables.new.addresses.now }
+    ensures second { Sheet.plain call.entry.sheet.now ≡ true → (answer result).number ≡ 0 →
+        SecondCallsIn (entered call.entry) (rooms_in tables.old) (answer result) tables.new }
     ensures numbered { IfErr result (λ e. RefusalNumber (number_of e.refusal)) }
-    ensures cleared { IfErr result (λ e. Cleared (rooms_in tables.old) tables.new.objects.now tables.new.slots.now tables.new.values.now tables.new.addresses.now) }
+    ensures cleared { IfErr result (λ e. AllZero (rooms_in tables.old) tables.new) }
     ensures same { SameTables tables.old tables.new }
 {
     tables.prepare();

@@ -27,11 +27,17 @@ pub extern "C" fn dawichko_graph(
     outcome: &mut [u64; 6],
 ) -> u64
     ensures reads { Reads (call_of sheet.now payload.now reservations.now trusted.now) (rooms_of objects.old slots.old values.old addresses.old) (outcome_of result outcome.new) objects.new slots.new values.new addresses.new }
-    ensures accepted { IsAccepted (call_of sheet.now payload.now reservations.now trusted.now) (rooms_of objects.old slots.old values.old addresses.old) → result ≡ 0 }
-    ensures refused { IsRefused (call_of sheet.now payload.now reservations.now trusted.now) (rooms_of objects.old slots.old values.old addresses.old) → RefusalNumber result }
+    ensures accepted { IsAccepted (call_of sheet.now payload.now reservations.now trusted.now)
+        (rooms_of objects.old slots.old values.old addresses.old) → result ≡ 0 }
+    ensures refused { IsRefused (call_of sheet.now payload.now reservations.now trusted.now)
+        (rooms_of objects.old slots.old values.old addresses.old) → RefusalNumber result }
     ensures numbered { result ≤ 16 }
-    ensures cleared { result ≢ 0 → Cleared (rooms_of objects.old slots.old values.old addresses.old) objects.new slots.new values.new addresses.new }
-    ensures second { Sheet.plain sheet.now ≡ true → result ≡ 0 → SecondCalls (call_of sheet.now payload.now reservations.now trusted.now) (rooms_of objects.old slots.old values.old addresses.old) (outcome_of result outcome.new) objects.new slots.new values.new addresses.new }
+    ensures cleared { result ≢ 0 → Cleared (rooms_of objects.old slots.old values.old addresses.old)
+        objects.new slots.new values.new addresses.new }
+    ensures second { Sheet.plain sheet.now ≡ true → result ≡ 0 →
+        SecondCalls (call_of sheet.now payload.now reservations.now trusted.now)
+        (rooms_of objects.old slots.old values.old addresses.old) (outcome_of result outcome.new)
+        objects.new slots.new values.new addresses.new }
     ensures assured { Sheet.plain sheet.now ≡ true → result ≡ 0 → Assures (call_of sheet.now payload.now reservations.now trusted.now) (rooms_of objects.old slots.old values.old addresses.old) (outcome_of result outcome.new) objects.new slots.new values.new addresses.new }
 {
     let call = Call {
