@@ -2,7 +2,8 @@
 use Rattle.std.specs.Prelude.{List, ℕ, get_or}
 use Rattle.cache_graph.specs.Promise.{Answer}
 
--- the returned number, and the six numbers of the array: the four record counts, `end` and the place
+-- the returned number, and the six numbers of the array: the four record counts, `end` and the
+-- place
 abbrev pub outcome_of : ℕ → List ℕ → Answer
 outcome_of number l =
     record
