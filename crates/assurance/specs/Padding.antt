@@ -12,7 +12,7 @@ use Rattle.stream.proofs.ByteLaws.{peek-byte}
 use Rattle.sheet.specs.Names.{k_nop}
 use Rattle.sheet.specs.Sheet.{number, is_legacy}
 use Rattle.sheet.specs.Tests.{is_nop}
-use Rattle.definition.specs.Memory.{Input, Mem, got, no, Reader, ◌>>◌, byte, moved, refuse}
+use Rattle.definition.specs.Memory.{Input, Mem, got, Reader, ◌>>◌, byte, moved, refuse}
 use Rattle.definition.specs.Object.{peek}
 use Rattle.definition.specs.Closing.{padding}
 use Rattle.assurance.specs.SimulateClosing.{byte_in}

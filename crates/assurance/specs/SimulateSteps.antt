@@ -17,7 +17,7 @@ use Rattle.tables.specs.declared.values.Fields.{Fields}
 use Rattle.tables.specs.Records.{room, field, object_row, slot_row, value_row}
 use Rattle.tables.proofs.RecordLaws.{record_end, written_length, filled_length}
 use Rattle.backref.specs.HotRing.{hot_at}
-use Rattle.definition.specs.Memory.{word, Kept, in_value, opened, passed, value, resolve, Table, table, Mem, got, change, refuse, with_objects, with_slots, with_values, with_pending, noted, has_room, added, append, appended}
+use Rattle.definition.specs.Memory.{word, Kept, in_value, opened, passed, value, resolve, Table, table, Mem, change, refuse, with_objects, with_slots, with_values, with_pending, noted, has_room, added, append, appended}
 use Rattle.definition.specs.Slots.{add_value, counted, add_slot, waits_for, waiter, fill_waiter, resolved}
 use Rattle.definition.specs.Object.{add_object, flagged}
 use Rattle.definition.specs.Reference.{skip_amount, refers_hot, backref_to, of_hot, hot_place, pending_reference, after_raw, raw_data}

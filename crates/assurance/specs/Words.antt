@@ -9,7 +9,7 @@ use Rattle.stream.specs.PutInt.{int_at}
 use Rattle.sheet.specs.Sheet.{plain}
 use Rattle.tables.specs.declared.values.Fields.{Fields}
 use Rattle.tables.specs.Values.{triple}
-use Rattle.definition.specs.Memory.{in_map, in_slot, in_value, dropped, Event, opened, passed, item, value, resolve, begins, synchronize, Mem, got}
+use Rattle.definition.specs.Memory.{in_map, in_slot, in_value, Event, opened, passed, item, value, resolve, synchronize, Mem, got}
 use Rattle.definition.specs.Call.{Rooms, Call, graph, events_of}
 
 -- a payload of bytes that is *accepted* under a plain sheet: the call gets no number; it ends with

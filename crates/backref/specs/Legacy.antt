@@ -1,6 +1,6 @@
 -- Legacy back-references (`legacy_backref`): what one stands for, and what enters the ring. Assumes
 -- nothing: these are definitions.
-use Rattle.std.specs.Prelude.{if◌then◌else◌, Bool, true, false, List, ℕ, ◌+◌, ◌-◌, ◌*◌, ◌/◌, ◌%◌, ◌^◌, eqb, Option, Some, None, Result, Ok, Err}
+use Rattle.std.specs.Prelude.{if◌then◌else◌, List, ℕ, ◌+◌, ◌-◌, ◌*◌, ◌/◌, ◌%◌, ◌^◌, eqb, Option, Some, None, Result, Ok, Err}
 use Rattle.stream.specs.declared.putint.Int.{Int}
 use Rattle.stream.specs.PutInt.{int_at}
 use Rattle.sheet.specs.Sheet.{is_six_x, map_space, lo_space, space_tag_size, page_size_bits, word_bytes}

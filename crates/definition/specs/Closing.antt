@@ -6,7 +6,7 @@ use Rattle.sheet.specs.declared.tests.Closing.{Closing}
 use Rattle.sheet.specs.declared.tests.Closing.TheVariants.{Synchronize, Alignment, Deferred, Reference}
 use Rattle.sheet.specs.Tests.{closing_of, is_nop}
 use Rattle.tables.specs.declared.values.SlotValue.{SlotValue}
-use Rattle.tables.specs.declared.values.SlotValue.TheVariants.{Ref as IsRef, Repeat, RepeatPrev, Skip, StreamBytes, Raw, ClearedWeak, WeakRef, PendingRef}
+use Rattle.tables.specs.declared.values.SlotValue.TheVariants.{Repeat, Skip}
 use Rattle.tables.specs.declared.values.Fields.{Fields}
 use Rattle.tables.specs.Values.{triple, fields_of, width_of}
 use Rattle.tables.specs.Records.{field}

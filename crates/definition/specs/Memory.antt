@@ -9,7 +9,7 @@
 -- repetitions; it is chosen so large that it is never used up. `abbrev` and `unfoldable` both
 -- define; they differ in when a proof computes with the definition. Order: Memory, Slots, Object,
 -- Reference, Closing, Call, and Cases with the examples.
-use Rattle.std.specs.Prelude.{if◌then◌else◌, Bool, true, false, List, ◌∷◌, ℕ, ◌+◌, ltb, length, get_or, Option, Some, None}
+use Rattle.std.specs.Prelude.{if◌then◌else◌, Bool, List, ◌∷◌, ℕ, ◌+◌, ltb, length, get_or, Option, Some, None}
 use Rattle.stream.specs.declared.putint.Int.{Int}
 use Rattle.stream.specs.PutInt.{int_at}
 use Rattle.sheet.specs.Sheet.{word_bytes}

@@ -7,9 +7,9 @@ use Rattle.stream.specs.Bytes.{peek_at}
 use Rattle.sheet.specs.Sheet.{is_legacy, is_six_x, is_map_first, lo_space}
 use Rattle.sheet.specs.Tests.{is_resolve, is_deferred, is_next_chunk, alignment_of}
 use Rattle.tables.specs.declared.values.Ref.{Ref}
-use Rattle.tables.specs.declared.values.Ref.TheVariants.{Object, Root, RoRef, Attached}
+use Rattle.tables.specs.declared.values.Ref.TheVariants.{Object, Root}
 use Rattle.tables.specs.declared.values.SlotValue.{SlotValue}
-use Rattle.tables.specs.declared.values.SlotValue.TheVariants.{Ref as IsRef, Repeat, RepeatPrev, Skip, StreamBytes, Raw, ClearedWeak, WeakRef, PendingRef}
+use Rattle.tables.specs.declared.values.SlotValue.TheVariants.{Ref as IsRef}
 use Rattle.tables.specs.Values.{fields_of}
 use Rattle.tables.specs.Records.{object_row}
 use Rattle.alloc.specs.Allocation.{Outcome, allocate_of, next_chunk}

@@ -1,7 +1,7 @@
 -- Slots, values and pending forward references. Assumes nothing: these are definitions.
 use Rattle.std.specs.Prelude.{if◌then◌else◌, Bool, ◌&&◌, List, ℕ, zero, suc, ◌+◌, ◌-◌, ◌*◌, ◌/◌, eqb, set}
 use Rattle.tables.specs.declared.values.SlotValue.{SlotValue}
-use Rattle.tables.specs.declared.values.SlotValue.TheVariants.{Ref, Repeat, RepeatPrev, Skip, StreamBytes, Raw, ClearedWeak, WeakRef, PendingRef}
+use Rattle.tables.specs.declared.values.SlotValue.TheVariants.{Repeat, RepeatPrev, Skip, StreamBytes, PendingRef}
 use Rattle.tables.specs.declared.values.Fields.{Fields}
 use Rattle.tables.specs.Values.{triple, fields_of, width_of}
 use Rattle.tables.specs.Records.{field, slot_row, value_row, filled}

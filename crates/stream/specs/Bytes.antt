@@ -1,7 +1,7 @@
 -- Bytes, little-endian numbers and raw ranges of a payload. Assumes nothing: these are
 -- definitions.
 use denote.Ref.{Bor}
-use Rattle.std.specs.Prelude.{if◌then◌else◌, ◌≡◌, Bool, true, false, List, ℕ, zero, suc, ◌+◌, ◌*◌, ◌^◌, length, get_or, ltb, Option, Some, None}
+use Rattle.std.specs.Prelude.{if◌then◌else◌, ◌≡◌, List, ℕ, zero, suc, ◌+◌, ◌*◌, ◌^◌, length, get_or, ltb, Option, Some, None}
 
 -- the byte at a cursor, or 256 where none is left
 unfoldable pub peek_at : List ℕ → ℕ → ℕ

@@ -1,6 +1,6 @@
 -- Small integers in words (docs/FORMAT.md, "Small integers"). Assumes nothing: these are
 -- definitions.
-use Rattle.std.specs.Prelude.{if◌then◌else◌, Bool, true, false, List, ℕ, suc, ◌-◌, ◌/◌, ◌%◌, ◌^◌, ℤ, pos, negsuc, length, ltb, eqb, Option, Some, None}
+use Rattle.std.specs.Prelude.{if◌then◌else◌, List, ℕ, suc, ◌-◌, ◌/◌, ◌%◌, ◌^◌, ℤ, pos, negsuc, length, ltb, eqb, Option, Some, None}
 use Rattle.std.specs.Int.Signed.{shr_z}
 use Rattle.stream.specs.Bytes.{little_endian}
 
