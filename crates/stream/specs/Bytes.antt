@@ -21,6 +21,7 @@ pick_range false a b = b
 unfoldable pub raw_at : List ℕ → ℕ → ℕ → Option ℕ
 raw_at p at n = pick_range (ltb (length p) (at + n)) None (Some (at + n))
 
--- a slice is that part of the payload itself: in the payload's memory, so many bytes after its start
+-- a slice is that part of the payload itself: in the payload's memory, so many bytes after its
+-- start
 abbrev pub LiesAt : Bor (List ℕ) → Bor (List ℕ) → ℕ → Type 0
 LiesAt part payload offset = part.ref_ptr ≡ (payload.ref_ptr.0, payload.ref_ptr.1 + offset)

@@ -3,7 +3,7 @@
 //! A table is flat numbers of 64 bits in memory that the caller lends, since C reads it as it is.
 //! Its room is its length divided by the fields of a record, rounded down. Where a field stands in
 //! its record is said in this module alone: other crates of the library go by `Slot`, `Address` and
-//! `Fields`.
+//! `Fields`. In the Rust the first two are `Object` and `Slot` (src/serializer.rs).
 ghost use Rattle.std.specs.Prelude.{◌≡◌, ◌+◌, ◌*◌, ◌^◌, ◌<◌, ◌≤◌, length, ltb, replicate, set, is_some};
 ghost use Rattle.tables.specs.Values.{triple};
 ghost use Rattle.tables.specs.Records.{room, field as field_of, Put, object_row, slot_row, value_row, address_row, pick_table, slot_of, address_of, counted, Countable, filled};
@@ -206,7 +206,7 @@ pub fn append_slot(slots: &mut [u64], objects: &mut [u64], n: usize, slot: Slot)
     added
 }
 
-/// Sets the `raw_len` field of object `o` to 1.
+/// Sets the `raw_len` field of object `o` to 1: its length is a plain number, no small integer.
 pub fn set_raw_len(t: &mut [u64], o: usize)
     requires { o < room 4 t.old }
     ensures { t.new ≡ set t.old (o * 4 + 2) 1 }
