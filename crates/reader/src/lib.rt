@@ -1,18 +1,19 @@
-//! The reading half of a walk: the payload, borrowed, and a cursor in it.
+//! The reading half of a walk: the payload, borrowed, and a cursor in it. In the Rust it is a part
+//! of `Walker` (src/serializer.rs).
 //!
 //! | Function | What it gives | Where the cursor stands then |
 //! |---|---|---|
-//! | `Reader::new(payload, at)` | a reader at that place | `at`, which need not lie in the payload |
+//! | `Reader::new(payload, at)` | a reader at that place | `at`, also past the payload |
 //! | `peek(self)` | the byte at the cursor (`Cursor.byte_at`) | the caller's copy stays |
-//! | `view(self, n)` | the `n` bytes at the cursor, of the payload itself | the caller's copy stays |
+//! | `view(self, n)` | the `n` bytes there, of the payload itself | the caller's copy stays |
 //! | `byte(&mut self)` | the byte at the cursor | after the byte (`Cursor.past_byte`) |
-//! | `putint(&mut self)` | the integer (`PutInt.int_at`), below 2^30 | after it (`Cursor.past_int`) |
+//! | `putint(&mut self)` | the integer (`PutInt.int_at`) | after it (`Cursor.past_int`) |
 //! | `raw(&mut self, n)` | where a raw range of `n` bytes ends | at that end (`Cursor.past_raw`) |
 //! | `size_after_tag(payload, at)` | the integer at `at + 1` | there is none |
 //!
-//! No function has a `requires`: where bytes are missing the answer is `None`, and `view`'s is
-//! empty, and the cursor stays. This differs from crate `readers`, where a refusal's place is the
-//! payload's end.
+//! An integer is below 2^30. No function has a `requires`: where bytes are missing the answer is
+//! `None`, and `view`'s is empty, and the cursor stays. This differs from crate `readers`, where a
+//! refusal's place is the payload's end.
 //!
 //! `Reader` is a struct that holds a slice at its own lifetime: it is made, passed by value as
 //! `self`, returned, and lent as `&mut`. The toolchain covers all of these forms, so there is no

@@ -1,4 +1,5 @@
--- What a usable sheet gives, and the laws of conjunctions and bounds that lead there. Assumes nothing.
+-- What a usable sheet gives, and the laws of conjunctions and bounds that lead there. Assumes
+-- nothing.
 use mathlib.Core.Path.{◌≡◌, refl}
 use mathlib.Core.Bool.{Bool, true, false, not, ◌&&◌, ◌||◌}
 use mathlib.Core.Logic.{◌⊎◌, inl, inr, ⊎_elim}

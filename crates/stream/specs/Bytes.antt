@@ -17,6 +17,7 @@ little_endian p at (suc n) = little_endian p at n + get_or p (at + n) 0 * 2 ^ (8
 unfoldable pub raw_at : List ℕ → ℕ → ℕ → Option ℕ
 raw_at p at n = if ltb (length p) (at + n) then None else Some (at + n)
 
--- a slice is that part of the payload itself: in the payload's memory, so many bytes after its start
+-- a slice is that part of the payload itself: in the payload's memory, so many bytes after its
+-- start
 abbrev pub LiesAt : Bor (List ℕ) → Bor (List ℕ) → ℕ → Type 0
 LiesAt part payload offset = part.ref_ptr ≡ (payload.ref_ptr.0, payload.ref_ptr.1 + offset)

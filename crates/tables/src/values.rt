@@ -1,4 +1,5 @@
-//! References and the values of slots.
+//! References and the values of slots. They are `Ref`, `Raw` and `SlotValue` of the Rust's
+//! src/serializer.rs, with value records in place of boxed values.
 ghost use Rattle.std.specs.Prelude.{◌≡◌, ◌≤◌};
 ghost use Rattle.tables.specs.Values.{triple, kind_number, ref_fields, fields_of, width_of};
 
@@ -36,7 +37,7 @@ pub enum SlotValue {
     Repeat(u32, u64),
     /// The slot before, so many times (6.x).
     RepeatPrev(u32),
-    /// So many bytes that are passed over.
+    /// So many bytes of the object that are passed over.
     Skip(u32),
     /// So many bytes of the payload that take no bytes of the object (6.x).
     StreamBytes(u32),
@@ -44,7 +45,7 @@ pub enum SlotValue {
     Raw(Raw),
     /// A weak reference that was cleared.
     ClearedWeak,
-    /// A weak reference to the value of this value record.
+    /// The value of this value record behind a weak, indirect-pointer or protected-pointer prefix.
     WeakRef(u64),
     /// A pending forward reference of this number.
     PendingRef(u64),

@@ -68,8 +68,8 @@ fn legacy_spans_fit(sheet: &[u16]) -> bool
 }
 
 /// Whether a sheet is usable: 58 numbers, words of 4 or 8 bytes, the nine required names, present
-/// tags and constants of at most 255, kSpaceTagSize and kPageSizeBits in their bounds, 6.x only with
-/// legacy, and each span's end at most 255. A call with another sheet is refused with 1.
+/// tags and constants of at most 255, kSpaceTagSize and kPageSizeBits in their bounds, 6.x only
+/// with legacy, and each span's end at most 255. A call with another sheet is refused with 1.
 #[tactic(auto, unfolding(sheet::specs::Sheet::usable))]
 pub fn usable(sheet: &[u16]) -> bool
     ensures { result ≡ Sheet.usable sheet.now }

@@ -4,7 +4,8 @@ use Rattle.std.specs.Int.{from_le_bytes}
 use Rattle.std.specs.Option.{unwrap_or}
 use mir.Syntax.{w64}
 
--- the first number, where all its bytes are there: one below 248; else 247 and the count of bytes, which follow, the lowest first
+-- the first number, where all its bytes are there: one below 248; else 247 and the count of bytes,
+-- which follow, the lowest first
 abbrev pub first_number : List ℕ → Option ℕ
 first_number [] = None
 first_number (b ∷ bs) =
