@@ -23,7 +23,8 @@ pub record Assured (c : Call) (rooms : Rooms) (objects slots values addresses : 
   pub listed_place : (o : ℕ) → o < objects.count → field 4 objects.rows o 1 ≡ place_of (events c rooms) o
   pub listed_size : (o : ℕ) → o < objects.count → field 4 objects.rows o 0 ≡ words_of (events c rooms) o * word_bytes c.sheet
   -- its declared words are the integer after its head byte
-  pub declared_words : (q w : ℕ) → Told (events c rooms) (opened q w) → IntegerAt c.payload (q + 1) w
+  pub declared_words : (q w : ℕ) → Told (events c rooms) (opened q w) →
+      IntegerAt c.payload (q + 1) w
   pub listed_declared : (o : ℕ) → o < objects.count →
       IntegerAt c.payload (place_of (events c rooms) o + 1) (words_of (events c rooms) o)
   -- every object that it refers to is listed, in dropped values too; what a weak or a repeat holds
@@ -49,8 +50,8 @@ pub record Assured (c : Call) (rooms : Rooms) (objects slots values addresses : 
   pub final_ends_closing : EndsAt final (events c rooms)
   -- that is the first kSynchronize at a place where an entry of the closing section begins
   pub final_begins : Told (events c rooms) (begins final)
-  pub none_begins_later : (q : ℕ) → Told (events c rooms) (begins q) → q ≤ final
-  pub none_before_is_final : (q : ℕ) → Told (events c rooms) (begins q) → q < final →
+  pub none_begins_after : (q : ℕ) → Told (events c rooms) (begins q) → q ≤ final
+  pub final_is_first : (q : ℕ) → Told (events c rooms) (begins q) → q < final →
       get_or c.payload q 0 ≢ number c.sheet k_synchronize
   pub end_after_final : final < end
   pub end_inside : end ≤ length c.payload
