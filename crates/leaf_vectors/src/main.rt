@@ -6,6 +6,7 @@ use alloc::fill::fill_to_align;
 use alloc::legacy_alloc::{LegacyAlloc, Request};
 use alloc::resolve::{Place, resolve};
 use heads::heads::decode;
+use inspection::inspect::inspect;
 use raw_slots::view::Slots;
 use refusals::refusal::Refusal;
 use sheet::names::*;
@@ -115,6 +116,40 @@ fn sheets(rt: &impl Print) -> io::Result<()> {
     show_sheet(rt, &sheet)
 }
 
+// The name that some head bytes obey, and whether another lays hold of them; of a sheet that is not
+// usable the refusal.
+fn show_names(rt: &impl Print, sheet: &[u16], bytes: &[u8]) -> io::Result<()> {
+    let mut names = [1; 256];
+    let mut shared = [1; 256];
+    let seen = inspect(sheet, &mut names, &mut shared);
+    for &byte in bytes {
+        let b = usize::from(byte);
+        let (name, other) = (names[b], shared[b]);
+        match seen {
+            Ok(()) => println!(rt; "name {name} {other}")?,
+            Err(refusal) => println!(rt; "refused {} {name} {other}", refusal.number())?,
+        }
+    }
+    Ok(())
+}
+
+// Sheet A, with kFixedRepeatRoot where kFixedRepeat hides it and kWeakPrefix on a root constant.
+// The same as a legacy sheet with kRootArray among the six bytes of kNewObject, and as one with no
+// spaces, in which kBackref has its byte alone. A sheet without kNop is not usable.
+fn inspections(rt: &impl Print) -> io::Result<()> {
+    let mut sheet = sheet_a();
+    sheet[K_FIXED_REPEAT_ROOT] = 0x80;
+    sheet[K_WEAK_PREFIX] = 0x45;
+    show_names(rt, &sheet, b"\x00\x07\x08\x0c\x0d\x44\x45\x80\xff")?;
+    sheet[K_SPACE_MASK] = 7;
+    sheet[K_ROOT_ARRAY] = 0x05;
+    show_names(rt, &sheet, b"\x04\x05\x06\x08\x0d")?;
+    sheet[K_NUMBER_OF_SPACES] = 0;
+    show_names(rt, &sheet, b"\x00\x05\x08\x09")?;
+    sheet[K_NOP] = ABSENT;
+    show_names(rt, &sheet, b"\x45")
+}
+
 // The filler before a double-aligned and a double-unaligned object, under words of four bytes.
 fn fillers(rt: &impl Print) -> io::Result<()> {
     for alignment in [1, 2] {
@@ -198,6 +233,7 @@ fn main(rt: HostRuntime) -> io::Result<()> {
     integers(&rt)?;
     smis(&rt)?;
     sheets(&rt)?;
+    inspections(&rt)?;
     fillers(&rt)?;
     addresses(&rt)?;
     views(&rt)
