@@ -8,11 +8,11 @@ use native.Mathlib.Omega.{arith}
 use borrow.Author.Tests.{ltb-true, leb-true}
 use lib.Dec.{ltb, leb}
 use Rattle.sheet.specs.Names.{k_alignment_prefix, k_new_object, k_root_array}
-use Rattle.sheet.specs.Sheet.{pick_ℕ, number, present, present_number, number_of_spaces, is_legacy, root_array_inside, new_object_span}
+use Rattle.sheet.specs.Sheet.{number, present, present_number, number_of_spaces, is_legacy, root_array_inside, new_object_span}
 use Rattle.sheet.specs.Tests.{in_span, alignment_of, past_new_objects}
 use Rattle.std.proofs.lemmas.Bool.{and_parts}
 use Rattle.std.proofs.lemmas.Option.{cond_some, none-some}
-use Rattle.std.specs.Prelude.{cond, Some, None}
+use Rattle.std.specs.Prelude.{if◌then◌else◌, cond, Some, None}
 
 module _ (v : List ℕ) (k n b : ℕ) (e : in_span v k n b ≡ true) where
   pub span_from : number v k ≤ b
@@ -39,7 +39,7 @@ module _ (v : List ℕ) (k : ℕ) where
   absent_is e = absent_of (present v k) (number v k) (sym e)
 
 module _ (v : List ℕ) where
-  picked : (t : Bool) (a b : ℕ) → (t ≡ true → a ≤ b) → pick_ℕ t a b ≤ b
+  picked : (t : Bool) (a b : ℕ) → (t ≡ true → a ≤ b) → (if t then a else b) ≤ b
   picked true a b h = h refl
   picked false a b h = omega arith
 
