@@ -5,9 +5,12 @@
 use alloc::fill::fill_to_align;
 use alloc::legacy_alloc::{LegacyAlloc, Request};
 use alloc::resolve::{Place, resolve};
+use filled::covering::range_at;
+use filled::filled::{Counts, Filled, Tables};
+use filled::number::{Wish, number_in};
+use filled::view::raw_range;
 use heads::heads::decode;
 use inspection::inspect::inspect;
-use raw_slots::view::Slots;
 use refusals::refusal::Refusal;
 use sheet::names::*;
 use std::io;
@@ -196,7 +199,8 @@ fn addresses(rt: &impl Print) -> io::Result<()> {
     Ok(())
 }
 
-// The view of a raw slot, of one whose range ends past the payload, and of one that is not listed.
+// The view of a raw slot, of one whose range ends past the payload, and of one that is not listed;
+// the slots whose ranges cover each byte; and numbers in raw data.
 fn views(rt: &impl Print) -> io::Result<()> {
     let payload = [7u8; 4];
     let mut table = [0u64; 12];
@@ -214,19 +218,42 @@ fn views(rt: &impl Print) -> io::Result<()> {
         };
         add_slot(&mut table, k, slot);
     }
-    let slots = Slots {
-        table: &table,
-        count: 2,
+    let none = Counts {
+        objects: 0,
+        slots: 0,
+        values: 0,
+        addresses: 0,
+    };
+    let tables = Tables {
+        objects: &[],
+        slots: &table,
+        values: &[],
+        addresses: &[],
+    };
+    let Ok(filled) = Filled::new(tables, none, Counts { slots: 2, ..none }) else {
+        return println!(rt; "not filled");
     };
     for k in 0..3 {
-        match slots.raw_range(&payload, k) {
-            Ok(view) => println!(rt; "view {} {}", view.offset, view.len)?,
+        match raw_range(filled, &payload, k) {
+            Ok(range) => println!(rt; "view {} {}", range.begin, range.len)?,
             Err(refused) => {
                 println!(rt; "refused {} {}", refused.refusal.number(), refused.place)?
             }
         }
     }
-    Ok(())
+    for offset in 0..6 {
+        match range_at(filled, 5, offset) {
+            Ok(covering) => println!(rt; "covering {covering:?}")?,
+            Err(refused) => {
+                println!(rt; "refused {} {}", refused.refusal.number(), refused.place)?
+            }
+        }
+    }
+    let bytes = [8, 0, 0, 0, 0, 0, 0, 0];
+    for (size, at) in [(4, 0), (8, 0), (4, 5), (5, 0)] {
+        println!(rt; "number {:?}", number_in(&bytes, at, Wish::Smi(size)))?;
+    }
+    println!(rt; "number {:?}", number_in(&[0, 0, 0, 0, 0, 0, 0xf8, 0x7f], 0, Wish::Double))
 }
 
 fn main(rt: HostRuntime) -> io::Result<()> {

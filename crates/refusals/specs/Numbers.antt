@@ -2,7 +2,7 @@
 -- definitions.
 use Rattle.std.specs.Prelude.{ℕ}
 use Rattle.refusals.specs.declared.refusal.Refusal.{Refusal}
-use Rattle.refusals.specs.declared.refusal.Refusal.TheVariants.{NoEntry, UnusableSheet, TooLong, NoRoom, PayloadEnds, NoObjectFirst, TooDeep, RawPastEnd, NoSuchObject, EmptyHotPlace, NoMeaning, MetaMap, SizeDiffers, NoSynchronize, NoPadding, NoSuchNumber, AddressTooLarge, NoView}
+use Rattle.refusals.specs.declared.refusal.Refusal.TheVariants.{NoEntry, UnusableSheet, TooLong, NoRoom, PayloadEnds, NoObjectFirst, TooDeep, RawPastEnd, NoSuchObject, EmptyHotPlace, NoMeaning, MetaMap, SizeDiffers, NoSynchronize, NoPadding, NoSuchNumber, AddressTooLarge, NoView, OffsetPastEnd, NoMarks}
 
 abbrev pub number_of : Refusal → ℕ
 number_of NoEntry = 0
@@ -23,3 +23,5 @@ number_of NoPadding = 14
 number_of NoSuchNumber = 15
 number_of AddressTooLarge = 16
 number_of NoView = 17
+number_of OffsetPastEnd = 18
+number_of NoMarks = 19

@@ -67,10 +67,17 @@ pub enum Refusal {
     /// listed, is not raw, or has a range that is not in the payload.
     #[error("no view of such a slot")]
     NoView = 17,
+    /// A payload byte is asked for at an offset that is not below the payload's length.
+    #[error("an offset past the payload's end")]
+    OffsetPastEnd = 18,
+    /// What the top object keeps is asked for with fewer marks than objects, or where all byte
+    /// sizes of the part add up past 2^64 - 1.
+    #[error("too few marks, or byte sizes that add up past 2^64 - 1")]
+    NoMarks = 19,
 }
 
 impl Refusal {
-    /// The refusal's number, from 0 to 17.
+    /// The refusal's number, from 0 to 19.
     pub fn number(self) -> u64
         ensures { result ≡ number_of self }
     {

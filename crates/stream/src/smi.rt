@@ -1,5 +1,6 @@
 //! Small integers (Smi) as V8 keeps them in a tagged word (docs/FORMAT.md, "Small integers").
-ghost use Rattle.std.specs.Prelude.{◌≡◌, ◌<◌, ◌^◌, length};
+ghost use Rattle.std.specs.Prelude.{◌≡◌, ◌<◌, ◌^◌, length, IfSome, FitsSigned};
+ghost use Rattle.std.specs.Int.{w32};
 ghost use Rattle.stream.specs.Smi.{signed, smi_of};
 
 use crate::bytes::little_endian;
@@ -8,7 +9,8 @@ use crate::bytes::little_endian;
 #[tactic(auto, using(crate::proofs::SmiLaws::signed_is))]
 fn signed32(n: u64) -> i64
     requires { n < 2 ^ 32 }
-    ensures { result ≡ signed n }
+    ensures is { result ≡ signed n }
+    ensures small { FitsSigned w32 result }
 {
     i64::from((n as u32).cast_signed())
 }
@@ -18,7 +20,8 @@ fn signed32(n: u64) -> i64
 /// Eight bytes whose lower half is zero give the upper half as a signed number. Four bytes that
 /// are an even number give half of it, signed. `None` for all other bytes.
 pub fn decode_smi_bytes(d: &[u8]) -> Option<i64>
-    ensures { result ≡ smi_of d.now }
+    ensures is { result ≡ smi_of d.now }
+    ensures small { IfSome result (FitsSigned w32) }
 {
     if d.len() == 8 {
         let raw = little_endian(d, 0, 8);

@@ -1,0 +1,9 @@
+pub mod Counts
+pub mod Rooms
+pub mod Refused
+pub mod Sides
+pub mod RawSlots
+pub mod View
+pub mod Nearest
+pub mod Ranges
+pub mod Numbers

@@ -1,0 +1,4 @@
+pub mod TotalLaws
+pub mod MarkLaws
+pub mod SweepLaws
+pub mod WalkLaws

@@ -1,0 +1,3 @@
+pub mod ReferenceLaws
+pub mod ListLaws
+pub mod FoundLaws

@@ -1,0 +1,4 @@
+pub mod Held
+pub mod References
+pub mod Found
+pub mod SlotsOf
