@@ -4,15 +4,28 @@ use Rattle.std.specs.Prelude.{◌≡◌, refl, Bool, true, false, not, ◌&&◌,
 use Rattle.std.specs.List.{list_any, list_all}
 use Rattle.std.specs.Option.{unwrap_or}
 use mir.Val.{bool_byte}
-use Rattle.std.proofs.Common.{arith, sym, ap, ◌∙◌, append_assoc, append-nil, eqb-true, ltb-true, eq-eqb, length-set, get_or-set_same, get_or-set_other}
+use Rattle.std.proofs.Common.{arith, sym, ap, ◌∙◌, append_assoc, append-nil, eqb-true, ltb-true, eq-eqb, lt-ltb, length-set, get_or-set_same, get_or-set_other}
 use native.Mathlib.Nat.{eq-or-lt_of_le}
 use mathlib.Core.Logic.{inl, inr}
 use Rattle.std.proofs.lemmas.Bool.{and_parts}
+use Rattle.heads.specs.declared.heads.Head.{Head}
 use Rattle.heads.specs.declared.order.Claim.{Claim}
 use Rattle.heads.specs.declared.order.TheConstants.{ORDER}
 use Rattle.heads.specs.Heads.{order, claims, head_by, first_of, head_of, no_head}
-use Rattle.inspection.specs.Inspection.{name_of, is_shared, mark, Unclaimed, Inspected, Inspection}
+use Rattle.inspection.specs.Inspection.{name_of, is_shared, mark, Unclaimed, ReadBy, Inspected, Inspection}
+use Rattle.definition.specs.Memory.{Input, Mem, got, moved, byte}
+use Rattle.definition.specs.Reference.{reference}
 use Rattle.inspection.specs.Rows.{shared_of, joined, Found}
+
+-- ---- what is read
+
+byte_at : (x : Input) (m : Mem) → m.at < length x.payload → byte x m ≡ got (get_or x.payload m.at 0) (moved (m.at + 1) m)
+unfolding byte
+byte_at x m l = rw (lt-ltb m.at (length x.payload) l) refl
+
+read_as : (v : List ℕ) (b : ℕ) (h : Head) → head_of v b ≡ h → ReadBy v b h
+unfolding reference
+read_as v b h e x inner m s l q = rw (byte_at x m l, q, s, e) refl
 
 -- ---- names of rows
 
@@ -154,13 +167,13 @@ module _ (v : List ℕ) (b : ℕ) where
           record {
             obeyed =
                 inl
-                (record { row = w.row; obeyed = record { before = w.before; after = w.after; stands = w.stands; first = w.unclaimed; claimed = w.claimed; meaning = w.meaning }; name = rw n refl; place = rw n (name_low w.before w.after w.row w.stands) });
+                (record { row = w.row; obeyed = record { before = w.before; after = w.after; stands = w.stands; first = w.unclaimed; claimed = w.claimed; meaning = w.meaning; read = read_as v b _ w.meaning }; name = rw n refl; place = rw n (name_low w.before w.after w.row w.stands) });
             another = rw (f.shared, n) refl;
           }
       by (inr w) =
           let n : name ≡ None = f.name ∙ w.name in
           record {
-            obeyed = inr (record { none = rw n refl; unclaimed = w.unclaimed; meaning = w.meaning });
+            obeyed = inr (record { none = rw n refl; unclaimed = w.unclaimed; meaning = w.meaning; read = read_as v b _ w.meaning });
             another = rw (f.shared, n) (sym (ap mark (unshared 65535 order w.unclaimed)));
           }
 

@@ -2,10 +2,14 @@
 -- reference is read, and whether another name lays hold of the byte too (docs/FORMAT.md, "Head
 -- bytes"). All is said over the one list of heads, `order` of `heads`. Assumes nothing: these are
 -- definitions.
-use Rattle.std.specs.Prelude.{◌≡◌, Bool, true, false, not, ◌&&◌, List, ◌∷◌, ◌++◌, ◌⊎◌, ℕ, ◌<◌, eqb, length, get_or, Option, Some, None}
+use Rattle.std.specs.Prelude.{◌≡◌, Bool, true, false, not, ◌&&◌, List, ◌∷◌, ◌++◌, ◌⊎◌, ℕ, ◌+◌, ◌<◌, eqb, length, get_or, Option, Some, None}
 use Rattle.std.specs.List.{find, list_any}
+use Rattle.heads.specs.declared.heads.Head.{Head}
 use Rattle.heads.specs.declared.order.Claim.{Claim}
 use Rattle.heads.specs.Heads.{order, claims, head_by, head_of, no_head}
+use Rattle.tables.specs.declared.values.SlotValue.{SlotValue}
+use Rattle.definition.specs.Memory.{Input, Mem, Reader, moved}
+use Rattle.definition.specs.Reference.{by_head, reference}
 
 -- ---- what is shown
 
@@ -32,8 +36,18 @@ mark false = 0
 abbrev pub Unclaimed : List ℕ → ℕ → List Claim → Type 0
 Unclaimed v b rows = list_any (λ r. claims v r b) rows ≡ false
 
--- the walk obeys a row: it is the first of the order that lays hold of the byte, and the byte's
--- meaning, by which `reference` reads, is this row's
+-- where the byte at the cursor is b, a reference is read by this head: in every payload, whatever
+-- has been read before, and whatever reads the references in it
+abbrev pub ReadBy : List ℕ → ℕ → Head → Type 0
+ReadBy v b h =
+    (x : Input) (inner : Reader SlotValue) (m : Mem) →
+    x.sheet ≡ v →
+    m.at < length x.payload →
+    get_or x.payload m.at 0 ≡ b →
+    reference x inner m ≡ by_head x inner m.at h.kind h.argument (moved (m.at + 1) m)
+
+-- the walk obeys a row: it is the first of the order that lays hold of the byte, the byte's meaning
+-- is this row's, and a reference is read by it
 pub record Obeyed (v : List ℕ) (b : ℕ) (r : Claim) : Type 0 where
   pub before : List Claim
   pub after : List Claim
@@ -41,6 +55,7 @@ pub record Obeyed (v : List ℕ) (b : ℕ) (r : Claim) : Type 0 where
   pub first : Unclaimed v b before
   pub claimed : claims v r b ≡ true
   pub meaning : head_of v b ≡ head_by v r b
+  pub read : ReadBy v b (head_by v r b)
 
 -- the number is the place of the name that the walk obeys
 pub record Named (v : List ℕ) (b n : ℕ) : Type 0 where
@@ -49,11 +64,12 @@ pub record Named (v : List ℕ) (b n : ℕ) : Type 0 where
   pub name : n ≡ row.name
   pub place : n < 56
 
--- the number is that of no name, no row lays hold of the byte, and it has no meaning
+-- the number is that of no name, no row lays hold of the byte, and a reference there has no meaning
 pub record Unnamed (v : List ℕ) (b n : ℕ) : Type 0 where
   pub none : n ≡ 65535
   pub unclaimed : Unclaimed v b order
   pub meaning : head_of v b ≡ no_head
+  pub read : ReadBy v b no_head
 
 -- of one byte
 pub record Inspected (v : List ℕ) (b name shared : ℕ) : Type 0 where
