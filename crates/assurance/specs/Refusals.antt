@@ -78,14 +78,19 @@ module _ (x : Input) where
   skip_known : R (skip_amount x)
   skip_known = seq (int x) _ int_known (λ n m. tt)
 
-  backref_of_lem : (b : Answer) → R (of_backref x b)
-  backref_of_lem (Ok b) m = tt
-  backref_of_lem (Err Cut) m = omega arith
-  backref_of_lem (Err (Unknown n)) m = omega arith
+  single_known : (o : Option Ref) → R (of_single o)
+  single_known (Some r) m = tt
+  single_known None m = omega arith
+
+  first_known : (space first : ℕ) → R (after_first x space first)
+  first_known space first m =
+      pick (is_single x.sheet space) _ _ m
+      (λ _. single_known (single x.sheet m.addresses.rows m.addresses.count m.alignment space first) m)
+      (λ _. seq (int x) (λ second. place_reference x space (record { chunk = first; offset = second })) int_known (λ second m. tt) m)
 
   legacy_known : (space : ℕ) → R (legacy_reference x space)
   unfolding legacy_reference
-  legacy_known space m = backref_of_lem (backref_of x.sheet x.payload m.addresses.rows m.addresses.count m.alignment space m.at) m
+  legacy_known space = seq (int x) (after_first x space) int_known (first_known space)
 
   raw_of : (n : ℕ) (advances : Bool) (r : Option ℕ) → R (after_raw n advances r)
   raw_of n advances (Some end) m = tt

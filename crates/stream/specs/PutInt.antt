@@ -20,6 +20,19 @@ int_at p at =
     (pick_int (ltb (length p - at) (int_length p at)) None
     (Some (record { value = little_endian p at (int_length p at) / 4; count = int_length p at })))
 
+abbrev pub pick_bytes : Bool → ℕ → ℕ → ℕ
+pick_bytes true a b = a
+pick_bytes false a b = b
+
+-- the fewest bytes that a value needs: the first byte has six bits of it, each other one eight
+unfoldable pub shortest : ℕ → ℕ
+shortest value =
+    pick_bytes (ltb value (2 ^ 6)) 1 (pick_bytes (ltb value (2 ^ 14)) 2 (pick_bytes (ltb value (2 ^ 22)) 3 4))
+
+-- an integer has more bytes than its value needs: a shorter one has the same value
+unfoldable pub is_long : Int → Bool
+is_long i = ltb (shortest i.value) i.count
+
 -- an integer's value has 30 bits, since a payload's bytes are below 256
 abbrev pub Small : Option Int → Type 0
 Small (Some i) = i.value < 2 ^ 30
