@@ -1,5 +1,5 @@
 -- A call that is refused gets one of document 01's numbers, 1 to 16. Assumes nothing.
-use Rattle.std.specs.Prelude.{◌≡◌, refl, Bool, true, false, not, ◌&&◌, ◌||◌, ltb, leb, List, length, get_or, set, Option, Some, None, Ok, Err}
+use Rattle.std.specs.Prelude.{◌≡◌, refl, Bool, true, false, not, ◌&&◌, ◌||◌, ltb, leb, List, length, get_or, set, Option, Some, None}
 use Prim.Native.Nat.{ℕ, zero, suc, ◌+◌, ◌-◌, ◌*◌, ◌/◌, ◌<◌, ◌≤◌}
 use native.Mathlib.Omega.{arith}
 use borrow.Author.Tests.{eqb-true, eqb-false}
@@ -26,12 +26,11 @@ use Rattle.alloc.specs.declared.legacy_alloc.Request.{Request}
 use Rattle.alloc.specs.Fill.{fill_to_align}
 use Rattle.alloc.specs.Allocation.{Outcome, outcome, pick_outcome, advance_of, placed, allocate_of}
 use Rattle.backref.specs.HotRing.{hot_at}
-use Rattle.backref.specs.declared.legacy.BackrefError.TheVariants.{Cut, Unknown}
-use Rattle.backref.specs.Legacy.{Answer, backref_of}
+use Rattle.backref.specs.Legacy.{is_single, single}
 use Rattle.definition.specs.Memory.{Input, word, Kept, in_map, in_slot, item, begins, Mem, Out, got, no, Reader, and_then, ◌>>=◌, ◌>>◌, choose, give, change, refuse_at, moved, with_skip, aligned, noted, tell, after_int, byte, int, has_room}
 use Rattle.definition.specs.Slots.{add_value, add_slot, resolved, waits_of, keep_item, previous, place_item}
 use Rattle.definition.specs.Object.{peek, add_object, large_byte, change_chunk, allocate, alignment_byte, chunk_changes, map_first, read_map, flags, flag_object, keep_map, resolves, items, body, object}
-use Rattle.definition.specs.Reference.{skip_amount, backref_to, of_hot, hot_place, of_backref, legacy_reference, pending_reference, after_raw, raw_data, repeat_of, repeat_root, by_head, reference, ref_at}
+use Rattle.definition.specs.Reference.{skip_amount, backref_to, of_hot, hot_place, of_single, place_reference, after_first, legacy_reference, pending_reference, after_raw, raw_data, repeat_of, repeat_root, by_head, reference, ref_at}
 use Rattle.definition.specs.Closing.{entry, drop_reference, ends_legacy, after_entry, by_entry, entries, padding, closing}
 use Rattle.definition.specs.Call.{Call, input_of, top_space, walk, too_long, called}
 use Rattle.laws.specs.Leaves.{deferred_legacy}

@@ -1,5 +1,5 @@
 -- Two readings compared: what only legacy sheets have, back-references by address and allocation. Assumes nothing.
-use Rattle.std.specs.Prelude.{◌≡◌, Bool, ◌||◌, get_or, Option, Some, None, Ok, Err}
+use Rattle.std.specs.Prelude.{◌≡◌, Bool, ◌||◌, get_or, Option, Some, None}
 use Rattle.std.proofs.Math.Path.{refl, ap, subst}
 use Rattle.std.proofs.Common.{sym, ◌∙◌, ⊎_elim, eq-or-lt_of_le, arith}
 use Rattle.std.proofs.Math.Bool.{true, false}
@@ -7,9 +7,7 @@ use mathlib.Core.List.{List}
 use Prim.Native.Nat.{ℕ, zero, suc, ◌+◌, ◌-◌, ◌*◌, ◌/◌, ◌<◌, ◌≤◌}
 use borrow.Author.Tests.{leb-true, leb-false, eqb-true, lt-leb, le-leb}
 use Rattle.std.proofs.Math.Dec.{ltb, leb, eqb}
-use Rattle.stream.specs.declared.putint.Int.{Int}
-use Rattle.stream.specs.PutInt.{int_at}
-use Rattle.sheet.specs.Sheet.{is_six_x, word_bytes}
+use Rattle.sheet.specs.Sheet.{word_bytes}
 use Rattle.tables.specs.declared.values.Ref.{Ref}
 use Rattle.tables.specs.declared.values.SlotValue.{SlotValue}
 use Rattle.tables.specs.Values.{pick_ℕ, ref_fields, fields_of}
@@ -21,14 +19,13 @@ use Rattle.alloc.specs.declared.resolve.Place.{Place}
 use Rattle.alloc.specs.Fill.{fill_to_align}
 use Rattle.alloc.specs.Resolve.{pick_found, is_address, addressed, or_else, resolve_of, ordinal_from}
 use Rattle.alloc.specs.Allocation.{Outcome, outcome, pick_outcome, advance_of, allocate_of}
-use Rattle.backref.specs.declared.legacy.BackrefError.TheVariants.{Cut, Unknown}
-use Rattle.backref.specs.Legacy.{Answer, pick_backref, numbered_as, by_number, by_place, numbered, placed, with_int, index_of, unpacked, packed_backref, plain_backref, backref_of}
-use Rattle.definition.specs.Memory.{word, table, Mem, choose, change, refuse, with_alloc}
+use Rattle.backref.specs.Legacy.{pick_ref, numbered_as, is_single, by_number, by_place, placed, index_of, number_in, unpacked, single}
+use Rattle.definition.specs.Memory.{word, table, Mem, choose, change, refuse, with_alloc, int, ◌>>=◌}
 use Rattle.definition.specs.Object.{after_allocation, allocate}
-use Rattle.definition.specs.Reference.{of_backref, legacy_reference}
+use Rattle.definition.specs.Reference.{of_single, single_reference, place_reference, after_first, legacy_reference}
 use Rattle.assurance.specs.Wider.{resolve_of_same, ordinal_from_same}
 use Rattle.assurance.specs.TableMap.{TableMap, SameLength, map_room, map_written}
-use Rattle.assurance.specs.Simulate.{Pair, x', φ, Recorded, Fits, fit_moved, Follows, Alike, Any, gives, stops}
+use Rattle.assurance.specs.Simulate.{Pair, x', φ, Recorded, Fits, Follows, Alike, Any, gives, stops, choose_at, then_law, int_law}
 
 -- a reference to an object is to one whose record is within its table
 abbrev pub RecordedRef : Pair → Ref → Type 0

@@ -1,15 +1,11 @@
 -- What a reader finds: the definitions of Legacy at what it holds. Assumes nothing: these are
 -- definitions.
-use Rattle.std.specs.Prelude.{Bool, ℕ, Option}
+use Rattle.std.specs.Prelude.{ℕ, Option}
 use Rattle.tables.specs.declared.values.Ref.{Ref}
 use Rattle.alloc.specs.declared.resolve.Place.{Place}
 use Rattle.backref.specs.declared.legacy.LegacyReader.{LegacyReader}
-use Rattle.backref.specs.Legacy.{is_single, by_number, placed, single}
+use Rattle.backref.specs.Legacy.{by_number, placed, single}
 use Rattle.alloc.specs.Resolve.{ordinal_from}
-
--- its space has back-references of one integer
-abbrev pub single_in : LegacyReader → Bool
-single_in r = is_single r.sheet.now r.space
 
 -- the object with a number among those of a space
 abbrev pub numbered_by : LegacyReader → ℕ → ℕ → Option Ref

@@ -6,7 +6,7 @@
 ghost use Rattle.std.specs.Prelude.{true, ◌≡◌, ◌^◌, ◌<◌, ◌≤◌};
 ghost use Rattle.sheet.specs.Sheet.{usable};
 ghost use Rattle.sheet.specs.Tests.{unless_zero};
-ghost use Rattle.backref.specs.Legacy.{numbered_as, index_of, number_in, word_bits, unpacked};
+ghost use Rattle.backref.specs.Legacy.{numbered_as, is_single, index_of, number_in, word_bits, unpacked};
 
 use address_index::resolve::AddressIndex;
 use alloc::resolve::{LARGE_OBJECT_SPACE, MAP_SPACE, Place};
@@ -32,21 +32,30 @@ fn power(bits: u64) -> u64
     1 << bits
 }
 
-impl<'a> LegacyReader<'a> {
-    ghost use Rattle.backref.specs.Reader.{single_in, numbered_by, placed_by, single_by};
-
-    // The space whose objects the space numbers.
-    fn numbered_as(self) -> Option<u64>
-        ensures { result ≡ unless_zero (numbered_as self.entry.sheet.now self.entry.space) }
-    {
-        if self.space == map_space(self.sheet) {
-            Some(MAP_SPACE)
-        } else if self.space == lo_space(self.sheet) {
-            Some(LARGE_OBJECT_SPACE)
-        } else {
-            None
-        }
+// The space whose objects this space numbers.
+fn numbered_as(sheet: &[u16], space: u64) -> Option<u64>
+    ensures { result ≡ unless_zero (numbered_as sheet.now space) }
+{
+    if space == map_space(sheet) {
+        Some(MAP_SPACE)
+    } else if space == lo_space(sheet) {
+        Some(LARGE_OBJECT_SPACE)
+    } else {
+        None
     }
+}
+
+/// A back-reference to this space has one integer: in 6.x, and where the space is numbered. Else it
+/// has two, the chunk and the offset of a place.
+#[inline(always)]
+pub fn is_single(sheet: &[u16], space: u64) -> bool
+    ensures { result ≡ is_single sheet.now space }
+{
+    six_x(sheet) || numbered_as(sheet, space).is_some()
+}
+
+impl<'a> LegacyReader<'a> {
+    ghost use Rattle.backref.specs.Reader.{numbered_by, placed_by, single_by};
 
     // The index that 6.x writes.
     #[tactic(auto, using(crate::proofs::BackrefLaws::tag_small))]
@@ -113,15 +122,6 @@ impl<'a> LegacyReader<'a> {
         }
     }
 
-    /// A back-reference to the space has one integer: in 6.x, and where the space is numbered. Else
-    /// it has two, the chunk and the offset of a place.
-    #[inline(always)]
-    pub fn is_single(self) -> bool
-        ensures { result ≡ single_in self.entry }
-    {
-        six_x(self.sheet) || self.numbered_as().is_some()
-    }
-
     /// What the integer of a back-reference that has one refers to; none where no object has the
     /// number.
     #[tactic(auto, using(crate::proofs::BackrefLaws::index_small), unfolding(crate::specs::Legacy::single))]
@@ -129,7 +129,7 @@ impl<'a> LegacyReader<'a> {
     pub fn by_value(self, value: u32) -> Option<Ref>
         ensures { result ≡ single_by self.entry value }
     {
-        match self.numbered_as() {
+        match numbered_as(self.sheet, self.space) {
             Some(space) => self.by_number(space, self.number_in(value)),
             None => Some(self.by_place(self.unpack(self.index_of(value)))),
         }

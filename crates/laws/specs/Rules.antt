@@ -17,7 +17,7 @@ use Rattle.tables.specs.Values.{fields_of, width_of}
 use Rattle.tables.specs.Records.{room, object_row, slot_row, value_row}
 use Rattle.alloc.specs.Allocation.{Outcome, allocate_of}
 use Rattle.backref.specs.HotRing.{entered, hot_at}
-use Rattle.alloc.specs.declared.resolve.Place.{Place}
+use Rattle.alloc.specs.declared.resolve.Place.{Place as Position}
 use Rattle.backref.specs.Legacy.{placed, single}
 use Rattle.definition.specs.Memory.{Input, word, Kept as Place, in_map, in_slot, in_value, dropped, opened, passed, item, value, begins, synchronize, Table, table, Mem, moved, with_objects, with_slots, with_values, with_hot, with_pending, with_skip, with_long, with_alloc, aligned, noted, added}
 use Rattle.definition.specs.Slots.{counted, resolved, waits_of, previous}
@@ -155,7 +155,7 @@ pub record Rules (x : Input) (I : List Frame → Mem → Type 0) (W : Mem → Sl
   pub on_hot : (S : List Frame) (m : Mem) (i : ℕ) (r : Ref) → Sound x m → I S m → hot_at m.hot i ≡ Some r → W m (IsRef r)
   pub on_single : (S : List Frame) (m : Mem) (space value : ℕ) (r : Ref) → Sound x m → I S m
       → single x.sheet m.addresses.rows m.addresses.count m.alignment space value ≡ Some r → W m (IsRef r)
-  pub on_place : (S : List Frame) (m : Mem) (space : ℕ) (place : Place) → Sound x m → I S m
+  pub on_place : (S : List Frame) (m : Mem) (space : ℕ) (place : Position) → Sound x m → I S m
       → W m (IsRef (placed x.sheet m.addresses.rows m.addresses.count m.alignment space place))
   pub on_raw : (S : List Frame) (m : Mem) (n : ℕ) (advances : Bool) → Sound x m → I S m → m.at + n ≤ length x.payload → (I S (with_raw n m)) × (W (with_raw n m) (IsRaw (record { off = m.at; len = n; advances = advances })))
   pub on_pending : (S : List Frame) (m : Mem) → Sound x m → I S m → m.pending < m.at → (I S (with_pending (m.pending + 1) m.waiting m)) × (W (with_pending (m.pending + 1) m.waiting m) (PendingRef m.pending))
