@@ -75,7 +75,7 @@ new_indexed {w} {w'} a n o index f {t} p x =
 
 -- the map's slot
 slot_kept : (x : Input) (o : ℕ) (v : SlotValue) (s : State) (l : Lent) {ot st : List ℕ} → flags x v ≡ false → ltb s.slots (room 6 l.slots) ≡ true → ot ≡ counted l.objects o → st ≡ written l.slots s.slots (slot_row o 0 (fields_of v) 0)
-    → got tt (mem (record { at = s.at; objects = s.objects; slots = s.slots + 1; values = s.values; addresses = s.addresses; pending = s.pending; waiting = s.waiting; skip = s.skip; alignment = s.alignment }) (objects_is ot (slots_is st l))) ≡ keep_map x o v (mem s l)
+    → got tt (mem (record s { slots = s.slots + 1 }) (objects_is ot (slots_is st l))) ≡ keep_map x o v (mem s l)
 unfolding keep_map flag_object add_slot
 slot_kept x o v s l f b eo es =
     let z : s.waiting + 0 ≡ s.waiting = omega arith in
@@ -86,8 +86,7 @@ slot_kept x o v s l f b eo es =
 -- the state after the object's record, the integer before the map having so many bytes
 abbrev recorded : ℕ → State → State
 recorded count s =
-    record
-    { at = s.at + count; objects = s.objects + 1; slots = s.slots; values = s.values; addresses = s.addresses; pending = s.pending; waiting = s.waiting; skip = s.skip; alignment = s.alignment }
+    record s { at = s.at + count; objects = s.objects + 1 }
 
 pub map_refused : (w : Walker) (s : State) (count : ℕ) (space tag : ℕ) → Heads w.sheet.now w.heads.now → MapByte w s count → NoLeafAt w (s.at + count) (s.objects + 1) → s.objects < room 4 w.objects.now → (inner : Reader SlotValue)
     → Refused (opened (input_of w) (reference (input_of w) inner) space tag s.objects (mem s (lent_of w)))
@@ -108,8 +107,7 @@ map_refused w s count space tag decoded b missing roomy inner =
 -- the state after the map's slot, from the one before all and the one after the address
 abbrev opened_state : Leaf → State → State → State
 opened_state r s t =
-    record
-    { at = r.next; objects = s.objects + 1; slots = s.slots + 1; values = t.values; addresses = t.addresses; pending = t.pending; waiting = t.waiting; skip = t.skip; alignment = t.alignment }
+    record t { at = r.next; objects = s.objects + 1; slots = s.slots + 1 }
 
 module _ (w w₁ : Walker) (s t : State) (ts words : ℕ) (map : Leaf) (space tag : ℕ) (decoded : Heads w.sheet.now w.heads.now) (ew : ts ≡ word_bytes w.sheet.now) (a : MapAt w s words map) (g : Given w s space (words * ts) s.objects t w₁) {f : Fields} {ot ot' st : List ℕ} {hot : HotRing} (po : Put w₁.objects.now s.objects (object_row (words * ts) tag) true ot) (eo : ot' ≡ counted ot s.objects)
     (ef : f ≡ fields_of map.value) (ps : Put w₁.slots.now s.slots (slot_row s.objects 0 f 0) true st) (eh : hot ≡ ring map w₁.hot) where
@@ -133,8 +131,7 @@ module _ (w w₁ : Walker) (s t : State) (ts words : ℕ) (map : Leaf) (space ta
 
   abbrev s₃ : State
   s₃ =
-      record
-      { at = map.next; objects = s.objects + 1; slots = s.slots; values = s.values; addresses = t.addresses; pending = s.pending; waiting = s.waiting; skip = s.skip; alignment = t.alignment }
+      record s { at = map.next; objects = s.objects + 1; addresses = t.addresses; alignment = t.alignment }
 
   abbrev l₃ : Lent
   l₃ = addresses_is w₁.addresses.now (alloc_is w₁.alloc (hot_is (ring map w.hot) l₁))
@@ -175,7 +172,7 @@ module _ (w w₁ : Walker) (s t : State) (ts words : ℕ) (map : Leaf) (space ta
         rw a.not_first (map_read (is_legacy w.sheet.now) x (reference x inner) space bytes s.objects map.value m₁ m₂ (mem s₃ l₃) read (given.1 m₂ refl refl refl))
 
     -- its slot
-    is_kept : got tt (mem (record { at = map.next; objects = s.objects + 1; slots = s.slots + 1; values = s.values; addresses = t.addresses; pending = s.pending; waiting = s.waiting; skip = s.skip; alignment = t.alignment }) (objects_is ot' (slots_is st l₃))) ≡ keep_map x s.objects map.value (mem s₃ l₃)
+    is_kept : got tt (mem (record s { at = map.next; objects = s.objects + 1; slots = s.slots + 1; addresses = t.addresses; alignment = t.alignment }) (objects_is ot' (slots_is st l₃))) ≡ keep_map x s.objects map.value (mem s₃ l₃)
     is_kept =
         slot_kept x s.objects map.value s₃ l₃ (a.unflagged w.sheet.now w.payload.now w.spaces) (rw same_slots at (put_done ps refl).0) (rw is_object at eo) (rw (same_slots, ef) at (put_done ps refl).1)
 
