@@ -1,10 +1,9 @@
 -- Where the index keeps what: lists, buckets and links lie apart. Assumes nothing.
-use Rattle.std.specs.Prelude.{◌≡◌, ◌≢◌, Bool, true, false, ℕ, ◌+◌, ◌-◌, ◌*◌, ◌/◌, ◌%◌, ◌<◌, ◌≤◌, eqb}
+use Rattle.std.specs.Prelude.{if◌then◌else◌, ◌≡◌, ◌≢◌, Bool, true, false, ℕ, ◌+◌, ◌-◌, ◌*◌, ◌/◌, ◌%◌, ◌<◌, ◌≤◌, eqb}
 use Rattle.std.proofs.Common.{refl, sym, subst, arith}
 use Rattle.std.proofs.lemmas.Nat.{mod_below, same_from_place, mul-add-lt}
 use Rattle.std.proofs.Math.Nat.{mod-eq_of_lt, mod-eq-sub-mod}
 use borrow.Author.Tests.{eqb-true, eqb-false}
-use Rattle.tables.specs.Values.{pick_ℕ}
 use Rattle.address_index.specs.Layout.{list_cell, block, block_start, in_block, bucket}
 
 -- lists lie before the buckets
@@ -14,7 +13,7 @@ list_low r space k low l = go (eqb (space % 2) 0)
     half : space / 2 < 4
     half = omega (arith, low)
 
-    go : (d : Bool) → (9 ≤ 9 + space / 2 * r + pick_ℕ d k (r - 1 - k)) × (9 + space / 2 * r + pick_ℕ d k (r - 1 - k) < 9 + r * 4)
+    go : (d : Bool) → (9 ≤ 9 + space / 2 * r + (if d then k else r - 1 - k)) × (9 + space / 2 * r + (if d then k else r - 1 - k) < 9 + r * 4)
     go true = let z = mul-add-lt (space / 2) r k 4 half l in (omega arith, omega (arith, z))
     go false = let z = mul-add-lt (space / 2) r (r - 1 - k) 4 half (omega (arith, l)) in (omega arith, omega (arith, z))
 
@@ -32,7 +31,7 @@ list_apart r s k s' k' l l' same other e = go (eqb (s % 2) 0) (eqb (s' % 2) 0) r
     mixed' : s % 2 ≡ 0 → (s' % 2 ≡ 0 → ⊥) → s ≢ s'
     mixed' x y q = y (subst (λ (z : ℕ). z % 2 ≡ 0) q x)
 
-    go : (a b : Bool) → eqb (s % 2) 0 ≡ a → eqb (s' % 2) 0 ≡ b → 9 + s / 2 * r + pick_ℕ a k (r - 1 - k) ≡ 9 + s' / 2 * r + pick_ℕ b k' (r - 1 - k') → ⊥
+    go : (a b : Bool) → eqb (s % 2) 0 ≡ a → eqb (s' % 2) 0 ≡ b → 9 + s / 2 * r + (if a then k else r - 1 - k) ≡ 9 + s' / 2 * r + (if b then k' else r - 1 - k') → ⊥
     go true true p q e =
         let z = places k k' l l' e in
         let x = eqb-true _ _ p in

@@ -6,7 +6,7 @@ use borrow.Author.Tests.{eq-eqb, ne_eqb}
 use Rattle.tables.specs.Records.{field}
 use Rattle.address_index.specs.Layout.{capacity, list_cell, bucket_cell, link_cell}
 use Rattle.address_index.specs.Links.{space_of, count_in, bucket_of, newest, Names, Lists, Chains, Links, Linked}
-use Rattle.address_index.specs.Entries.{OffBucket, OffList}
+use Rattle.address_index.specs.Entries.{in_bucket, in_list, OffBucket, OffList}
 use Rattle.address_index.specs.Numbered.{Numbered}
 use Rattle.address_index.proofs.CountLaws.{space_field, count_on, count_off, count_low, count_after, count_two, numbered_there}
 use Rattle.address_index.proofs.LayoutLaws.{list_low, list_apart}
@@ -89,10 +89,10 @@ module _ (ix : List ℕ) (n r b : ℕ) (low : b < r * 3) where
   abbrev linked_to : List ℕ
   linked_to = set ix (link_cell r n) (get_or ix (bucket_cell r b) 0)
 
-  abbrev pub chained : List ℕ
+  abbrev chained : List ℕ
   chained = set linked_to (bucket_cell r b) (n + 1)
 
-  pub chained_else : (x : ℕ) → x ≢ link_cell r n → x ≢ bucket_cell r b → get_or chained x 0 ≡ get_or ix x 0
+  chained_else : (x : ℕ) → x ≢ link_cell r n → x ≢ bucket_cell r b → get_or chained x 0 ≡ get_or ix x 0
   chained_else x p q = get_or-set_other linked_to (bucket_cell r b) x (n + 1) 0 q ∙ get_or-set_other ix (link_cell r n) x _ 0 p
 
   module _ (roomy : n < r) (fits : 9 + r * 8 ≤ length ix) where
@@ -117,8 +117,15 @@ module _ (ix : List ℕ) (n r b : ℕ) (low : b < r * 3) where
           (λ q. rw (chained_else (link_cell r i) (λ u. q (omega (arith, u))) (λ u. omega (arith, u, low))) (w.links i (omega (arith, q, l))))
           (cases_eq i n)
 
-      pub chain_enters : Chains t (n + 1) r seed chained
+      chain_enters : Chains t (n + 1) r seed chained
       chain_enters = record { buckets = bucket_right; links = link_right }
+
+module _ (ix : List ℕ) {ix' : List ℕ} (n b : ℕ) (low : b < capacity (length ix) * 3) (e : ix' ≡ in_bucket ix n b) where
+  pub bucket_else : (x : ℕ) → OffBucket (capacity (length ix)) n b x → get_or ix' x 0 ≡ get_or ix x 0
+  bucket_else x o = rw e (chained_else ix n _ b low x o.off_link o.off_bucket)
+
+  pub bucket_chains : n < capacity (length ix) → (t : List ℕ) (seed : ℕ) → b ≡ bucket_of t (capacity (length ix)) seed n → Chains t n (capacity (length ix)) seed ix → Chains t (n + 1) (capacity (length ix)) seed ix'
+  bucket_chains roomy t seed q w = rw e (chain_enters ix n _ b low roomy (omega (arith, roomy)) t seed q w)
 
 -- lists and seed lie before buckets and links
 pub off_before : (r n b x : ℕ) → x < 9 + r * 4 → OffBucket r n b x
@@ -137,13 +144,13 @@ module _ (ix : List ℕ) (n r space k : ℕ) (low : space < 8) (small : k ≤ n)
   abbrev placed : List ℕ
   placed = set ix (list_cell r space k) n
 
-  abbrev pub listed : List ℕ
+  abbrev listed : List ℕ
   listed = set placed space (k + 1)
 
   cell_lies : (9 ≤ list_cell r space k) × (list_cell r space k < 9 + r * 4)
   cell_lies = list_low r space k low (omega (arith, small, roomy))
 
-  pub listed_else : (x : ℕ) → x ≢ list_cell r space k → x ≢ space → get_or listed x 0 ≡ get_or ix x 0
+  listed_else : (x : ℕ) → x ≢ list_cell r space k → x ≢ space → get_or listed x 0 ≡ get_or ix x 0
   listed_else x p q = get_or-set_other placed space x (k + 1) 0 q ∙ get_or-set_other ix (list_cell r space k) x n 0 p
 
   -- buckets and links lie behind, and the seed between
@@ -194,8 +201,15 @@ module _ (ix : List ℕ) (n r space k : ℕ) (low : space < 8) (small : k ≤ n)
           away : (i : ℕ) → i < n → space_of t i < 8 → list_cell r (space_of t i) (count_in t (space_of t i) i) ≢ space
           away i a h u = let c = count_low t (space_of t i) i in let z = list_low r (space_of t i) (count_in t (space_of t i) i) h (omega (arith, c, a, roomy)) in omega (arith, u, z.0, low)
 
-      pub list_enters : Lists t (n + 1) r listed
+      list_enters : Lists t (n + 1) r listed
       list_enters = record { counts = count_right; places = place_right }
+
+module _ (ix : List ℕ) {ix' : List ℕ} (n space k : ℕ) (low : space < 8) (small : k ≤ n) (roomy : n < capacity (length ix)) (e : ix' ≡ in_list ix n space k) where
+  pub list_else : (x : ℕ) → OffList (capacity (length ix)) space k x → get_or ix' x 0 ≡ get_or ix x 0
+  list_else x o = rw e (listed_else ix n _ space k low small roomy x o.off_list o.off_count)
+
+  pub list_lists : (t : List ℕ) → space_of t n ≡ space → k ≡ count_in t space n → Lists t n (capacity (length ix)) ix → Lists t (n + 1) (capacity (length ix)) ix'
+  list_lists t q qk w = rw e (list_enters ix n _ space k low small roomy (omega (arith, roomy)) t q qk w)
 
 -- the list of a space holds its records
 pub list_holds : {t ix : List ℕ} {n r : ℕ} → Lists t n r ix → (space k : ℕ) → space < 8 → k < count_in t space n → Numbered t n space k (get_or ix (list_cell r space k) 0)

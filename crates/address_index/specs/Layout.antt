@@ -1,6 +1,5 @@
 -- Where the index of legacy addresses keeps what. Assumes nothing: these are definitions.
-use Rattle.std.specs.Prelude.{List, ℕ, ◌+◌, ◌-◌, ◌*◌, ◌/◌, ◌%◌, ◌^◌, ◌<◌, eqb, length}
-use Rattle.tables.specs.Values.{pick_ℕ}
+use Rattle.std.specs.Prelude.{if◌then◌else◌, List, ℕ, ◌+◌, ◌-◌, ◌*◌, ◌/◌, ◌%◌, ◌^◌, ◌<◌, eqb, length}
 
 -- for how many records an index of this length has room: nine numbers are kept for all, and eight
 -- for each record
@@ -14,7 +13,7 @@ Roomy i index = i < capacity (length index)
 -- the place of record k in the list of one of the spaces 0 to 7: two spaces share r places, one
 -- takes them from the first on and the other from the last
 abbrev pub list_cell : ℕ → ℕ → ℕ → ℕ
-list_cell r space k = 9 + space / 2 * r + pick_ℕ (eqb (space % 2) 0) k (r - 1 - k)
+list_cell r space k = 9 + space / 2 * r + (if eqb (space % 2) 0 then k else r - 1 - k)
 
 -- the place of a bucket, of which there are three for each record
 abbrev pub bucket_cell : ℕ → ℕ → ℕ

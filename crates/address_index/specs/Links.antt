@@ -1,6 +1,5 @@
 -- What the index of legacy addresses keeps. Assumes nothing: these are definitions.
-use Rattle.std.specs.Prelude.{◌≡◌, List, ℕ, zero, suc, ◌*◌, ◌<◌, ◌≤◌, eqb, length, get_or}
-use Rattle.tables.specs.Values.{pick_ℕ}
+use Rattle.std.specs.Prelude.{if◌then◌else◌, ◌≡◌, List, ℕ, zero, suc, ◌*◌, ◌<◌, ◌≤◌, eqb, length, get_or}
 use Rattle.tables.specs.Records.{field}
 use Rattle.address_index.specs.Layout.{capacity, list_cell, bucket_cell, link_cell, bucket}
 
@@ -11,7 +10,7 @@ space_of t i = get_or t (i * 5) 0
 -- how many of the first n address records are of a space
 unfoldable pub count_in : List ℕ → ℕ → ℕ → ℕ
 count_in t space zero = 0
-count_in t space (suc n) = pick_ℕ (eqb (space_of t n) space) (suc (count_in t space n)) (count_in t space n)
+count_in t space (suc n) = if eqb (space_of t n) space then suc (count_in t space n) else count_in t space n
 
 -- the bucket of address record i
 abbrev pub bucket_of : List ℕ → ℕ → ℕ → ℕ → ℕ
@@ -20,7 +19,7 @@ bucket_of t r seed i = bucket r seed (space_of t i) (field 5 t i 1) (field 5 t i
 -- of the first n records the newest in bucket b, counted from 1; 0: there is none
 unfoldable pub newest : (ℕ → ℕ) → ℕ → ℕ → ℕ
 newest bucket_at b zero = 0
-newest bucket_at b (suc n) = pick_ℕ (eqb (bucket_at n) b) (suc n) (newest bucket_at b n)
+newest bucket_at b (suc n) = if eqb (bucket_at n) b then suc n else newest bucket_at b n
 
 -- v names it, where there is one; else v may be anything, since scratch is not cleared
 abbrev pub Names : (ℕ → ℕ) → ℕ → ℕ → ℕ → Type 0

@@ -3,8 +3,8 @@
 ghost use Rattle.std.specs.Prelude.{◌≡◌, ℕ, ◌+◌, ◌*◌, ◌<◌, ◌≤◌, length, get_or, List, IsTrue, ◌↔◌};
 ghost use Rattle.tables.specs.Records.{room};
 ghost use Rattle.address_index.specs.Layout.{capacity, Roomy};
-ghost use Rattle.address_index.specs.Links.{space_of, count_in, bucket_of, Lists, Chains, Linked};
-ghost use Rattle.address_index.specs.Entries.{EntryFits, IsEntry, OffBucket, OffList, OffEntry};
+ghost use Rattle.address_index.specs.Links.{bucket_of, Linked};
+ghost use Rattle.address_index.specs.Entries.{EntryFits, IsEntry, in_list, in_bucket, OthersStay};
 
 use crate::layout::{LISTED_SPACES, SEED, bucket, bucket_cell, capacity, link_cell, list_cell};
 use tables::records::address_at;
@@ -47,7 +47,7 @@ pub fn bucket_of(table: &[u64], index: &[u64], i: usize) -> usize
     bucket(capacity(index.len()), index[SEED], a.space, a.into())
 }
 
-/// The entry of record n of the address table, before which the index holds the first n.
+/// The entry of record n of the address table, where the index holds the n records before it.
 pub fn entry_of(table: &[u64], index: &[u64], n: usize) -> Entry
     requires { (n < room 5 table.now) × Roomy n index.now × Linked table.now n index.now }
     ensures { IsEntry table.now n index.now result }
@@ -63,8 +63,7 @@ pub fn entry_of(table: &[u64], index: &[u64], n: usize) -> Entry
 // Record n enters the list of its space.
 fn add_to_list(index: &mut [u64], n: usize, space: u64, number: usize)
     requires { Roomy n index.old × (space < 8) × (number ≤ n) }
-    ensures lists { (t : List ℕ) → space_of t n ≡ space → number ≡ count_in t space n → Lists t n (capacity (length index.old)) index.old → Lists t (n + 1) (capacity (length index.old)) index.new }
-    ensures others { (x : ℕ) → OffList (capacity (length index.old)) space number x → get_or index.new x 0 ≡ get_or index.old x 0 }
+    ensures { index.new ≡ in_list index.old n space number }
 {
     let cell = list_cell(capacity(index.len()), space, number);
     index[cell] = n as u64;
@@ -74,8 +73,7 @@ fn add_to_list(index: &mut [u64], n: usize, space: u64, number: usize)
 // Record n enters its bucket.
 fn add_to_bucket(index: &mut [u64], n: usize, bucket: usize)
     requires { Roomy n index.old × (bucket < capacity (length index.old) * 3) }
-    ensures chains { (t : List ℕ) (seed : ℕ) → bucket ≡ bucket_of t (capacity (length index.old)) seed n → Chains t n (capacity (length index.old)) seed index.old → Chains t (n + 1) (capacity (length index.old)) seed index.new }
-    ensures others { (x : ℕ) → OffBucket (capacity (length index.old)) n bucket x → get_or index.new x 0 ≡ get_or index.old x 0 }
+    ensures { index.new ≡ in_bucket index.old n bucket }
 {
     let r = capacity(index.len());
     let cell = bucket_cell(r, bucket);
@@ -89,7 +87,7 @@ pub fn add_entry(index: &mut [u64], n: usize, entry: Entry)
     requires { Roomy n index.old × EntryFits n index.old entry }
     ensures linked { (t : List ℕ) → IsEntry t n index.old entry → Linked t n index.old → Linked t (n + 1) index.new }
     ensures seed { get_or index.new 8 0 ≡ get_or index.old 8 0 }
-    ensures others { (x : ℕ) → OffEntry n index.old entry x → get_or index.new x 0 ≡ get_or index.old x 0 }
+    ensures others { OthersStay n entry index.old index.new }
 {
     add_to_bucket(index, n, entry.bucket);
     if entry.space < LISTED_SPACES {

@@ -1,5 +1,6 @@
 -- What a chunk change and an allocation keep: laws of the definitions alone, for the crates above.
 -- Assumes nothing.
+use Rattle.std.specs.Prelude.{if◌then◌else◌}
 use mathlib.Core.Path.{◌≡◌, refl}
 use mathlib.Core.Bool.{Bool, true, false, ◌||◌}
 use mathlib.Core.List.{List, [], ◌∷◌}
@@ -12,7 +13,7 @@ use Rattle.tables.specs.Records.{room}
 use Rattle.alloc.specs.declared.legacy_alloc.LegacyAlloc.{LegacyAlloc}
 use Rattle.alloc.specs.declared.legacy_alloc.Request.{Request}
 use Rattle.alloc.specs.Fill.{fill_to_align}
-use Rattle.alloc.specs.Allocation.{pick_alloc, next_chunk, Outcome, outcome, pick_outcome, advance_of, allocate_of}
+use Rattle.alloc.specs.Allocation.{next_chunk, Outcome, outcome, advance_of, allocate_of}
 
 -- ---- chunk changes
 
@@ -24,7 +25,7 @@ counted (x ∷ l) (suc i) zero = omega arith
 counted (x ∷ l) (suc i) (suc j) = counted l i j
 
 module _ (c : LegacyAlloc) (spaces space : ℕ) where
-  changed : (P : LegacyAlloc → Type 0) (b : Bool) {x : LegacyAlloc} → P c → P x → P (pick_alloc b c x)
+  changed : (P : LegacyAlloc → Type 0) (b : Bool) {x : LegacyAlloc} → P c → P x → P (if b then c else x)
   changed P true p q = p
   changed P false p q = q
 
@@ -36,7 +37,7 @@ module _ (c : LegacyAlloc) (spaces space : ℕ) where
 
 -- ---- allocation
 
-picked : (P : Outcome → Type 0) (b : Bool) {x y : Outcome} → (b ≡ true → P x) → (b ≡ false → P y) → P (pick_outcome b x y)
+picked : (P : Outcome → Type 0) (b : Bool) {x y : Outcome} → (b ≡ true → P x) → (b ≡ false → P y) → P (if b then x else y)
 picked P true f g = f refl
 picked P false f g = g refl
 

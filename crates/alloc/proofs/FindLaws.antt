@@ -1,4 +1,5 @@
 -- The searches by address and by number, from what `find` and `nth` answer. Assumes nothing.
+use Rattle.std.specs.Prelude.{if◌then◌else◌}
 use Rattle.std.proofs.Common.{◌≡◌, refl, sym, ◌∙◌, ap, subst, cond, Bool, true, false, List, [], ◌∷◌, ℕ, zero, suc, ◌+◌, ◌-◌, ◌<◌, eqb, length, Option, Some, None, option_map, find, filter, slice_get, arith}
 use Rattle.std.specs.List.{range_with_len}
 use Rattle.std.specs.declared.iter.Rev.{Rev}
@@ -17,7 +18,7 @@ use Rattle.std.proofs.lemmas.Iterator.Search.{find_from_yields_List}
 use Rattle.std.proofs.Math.Dec.{eqb-suc-zero}
 use Rattle.std.proofs.lemmas.Option.{none-some, same_Some}
 use Rattle.tables.specs.Records.{field}
-use Rattle.alloc.specs.Resolve.{pick_found, is_address, addressed, ordinal_from}
+use Rattle.alloc.specs.Resolve.{is_address, addressed, ordinal_from}
 
 -- the k numbers from a on, the highest first
 abbrev falling : ℕ → ℕ → List ℕ
@@ -57,7 +58,7 @@ found_below test a (suc k) i e = in_case test a k i (test (a + k)) e (found_belo
 -- ---- by address
 
 picked : (t : List ℕ) (b : Bool) (i : ℕ) (r : Option ℕ)
-    → option_map (λ k. field 5 t k 3) (cond b (Some i) r) ≡ pick_found b (Some (field 5 t i 3)) (option_map (λ k. field 5 t k 3) r)
+    → option_map (λ k. field 5 t k 3) (cond b (Some i) r) ≡ (if b then Some (field 5 t i 3) else (option_map (λ k. field 5 t k 3) r))
 picked t true i r = refl
 picked t false i r = refl
 
@@ -68,7 +69,7 @@ module _ (t : List ℕ) (space chunk offset : ℕ) where
   newest_is zero = refl
   newest_is (suc n) =
       let e : 0 + n ≡ n = omega arith in
-      rw e (picked t (is_address t space chunk offset n) n (find (is_address t space chunk offset) (falling 0 n)) ∙ ap (pick_found (is_address t space chunk offset n) (Some (field 5 t n 3))) (newest_is n))
+      rw e (picked t (is_address t space chunk offset n) n (find (is_address t space chunk offset) (falling 0 n)) ∙ ap (λ (q : Option ℕ). if is_address t space chunk offset n then Some (field 5 t n 3) else q) (newest_is n))
 
   -- what `find` answers over those numbers, with a closure that tests an address
   module _ {F : Type 0} {g : Mut F (Bor ℕ × Unit {0}) Bool} {s : Rev (Range ℕ)} {f : F} (u : Rev (Range ℕ)) (n : ℕ) (r : Option ℕ)
@@ -94,7 +95,7 @@ module _ (t : List ℕ) (space chunk offset : ℕ) where
 
 in_row : (f : ℕ → ℕ) (b : Bool) (k index : ℕ) (xs : List ℕ) (q r : Option ℕ)
     → option_map f (slice_get xs (index - 1)) ≡ q → option_map f (slice_get xs index) ≡ r
-    → option_map f (slice_get (cond b (k ∷ xs) xs) index) ≡ pick_found b (pick_found (eqb index 0) (Some (f k)) q) r
+    → option_map f (slice_get (cond b (k ∷ xs) xs) index) ≡ (if b then (if eqb index 0 then Some (f k) else q) else r)
 in_row f true k zero xs q r d e = refl
 in_row f true k (suc i) xs q r d e =
     let z : suc i - 1 ≡ i = omega arith in

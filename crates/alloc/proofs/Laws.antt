@@ -6,10 +6,10 @@ use mathlib.Core.List.{List, [], ◌∷◌}
 use Prim.Native.Nat.{ℕ, ◌+◌, ◌≤◌}
 use native.Mathlib.Omega.{arith}
 use lib.Dec.{leb}
-use Rattle.std.specs.Prelude.{cond}
+use Rattle.std.specs.Prelude.{if◌then◌else◌, cond}
 use Rattle.std.specs.List.{count_by}
 use Rattle.std.proofs.lemmas.List.Sums.{sum_by-cons}
-use Rattle.alloc.specs.Fill.{pick_ℕ, max_fill_to_align, fill_to_align}
+use Rattle.alloc.specs.Fill.{max_fill_to_align, fill_to_align}
 use Rattle.alloc.specs.Allocation.{spaces_of, advance_of}
 
 -- ---- fillers
@@ -24,13 +24,9 @@ pub advance_bound : (size alignment word : ℕ) → advance_of size alignment wo
 unfolding advance_of max_fill_to_align
 advance_bound size alignment word = grind arith
 
-same_pick : (b : Bool) → cond b 1 0 ≡ pick_ℕ b 1 0
-same_pick true = refl
-same_pick false = refl
-
 -- each entry whose top bit is set counts 1
 pub spaces_counted : (l : List ℕ) → count_by (λ r. leb 2147483648 r) l + 1 ≡ spaces_of l
 unfolding spaces_of
 spaces_counted [] = refl
 spaces_counted (r ∷ rs) =
-    omega (arith, sum_by-cons (λ x. cond (leb 2147483648 x) 1 0) r rs, same_pick (leb 2147483648 r), spaces_counted rs)
+    omega (arith, sum_by-cons (λ x. cond (leb 2147483648 x) 1 0) r rs, spaces_counted rs)

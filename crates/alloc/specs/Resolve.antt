@@ -1,13 +1,9 @@
 -- What a legacy back-reference stands for (`LegacyAlloc::resolve` and `resolve_ordinal`). Assumes
 -- nothing: these are definitions.
-use Rattle.std.specs.Prelude.{◌≡◌, Bool, true, false, ◌&&◌, List, ℕ, zero, suc, ◌+◌, ◌-◌, ◌^◌, ◌<◌, eqb, Option, Some, None}
+use Rattle.std.specs.Prelude.{if◌then◌else◌, ◌≡◌, Bool, true, false, ◌&&◌, List, ℕ, zero, suc, ◌+◌, ◌-◌, ◌^◌, ◌<◌, eqb, Option, Some, None}
 use Rattle.tables.specs.Records.{field}
 use Rattle.alloc.specs.Fill.{fill_to_align}
 use Rattle.alloc.specs.declared.resolve.Place.{Place}
-
-abbrev pub pick_found : Bool → Option ℕ → Option ℕ → Option ℕ
-pick_found true a b = a
-pick_found false a b = b
 
 abbrev pub or_else : Option ℕ → Option ℕ → Option ℕ
 or_else (Some o) other = Some o
@@ -22,14 +18,14 @@ is_address t space chunk offset k =
 unfoldable pub addressed : List ℕ → ℕ → ℕ → ℕ → ℕ → Option ℕ
 addressed t space chunk offset zero = None
 addressed t space chunk offset (suc n) =
-    pick_found (is_address t space chunk offset n) (Some (field 5 t n 3)) (addressed t space chunk offset n)
+    if is_address t space chunk offset n then Some (field 5 t n 3) else addressed t space chunk offset n
 
 -- what is at a chunk and an offset is given: the exact address is tried first, then the one after
 -- the filler of the pending alignment (difference D29: V8 takes the latter alone)
 abbrev pub resolve_by : (ℕ → ℕ → Option ℕ) → ℕ → ℕ → ℕ → ℕ → Option ℕ
 resolve_by at chunk offset alignment word =
     or_else (at chunk offset)
-    (pick_found (eqb (fill_to_align offset alignment word) 0) None (at chunk (offset + fill_to_align offset alignment word)))
+    (if eqb (fill_to_align offset alignment word) 0 then None else at chunk (offset + fill_to_align offset alignment word))
 
 -- by the plain search
 unfoldable pub resolve_of : List ℕ → ℕ → ℕ → ℕ → ℕ → ℕ → ℕ → Option ℕ
@@ -44,6 +40,5 @@ Finds at R = (p : Place) (r : Option ℕ) → p.chunk < 2 ^ 64 → p.offset < 2 
 unfoldable pub ordinal_from : List ℕ → ℕ → ℕ → ℕ → ℕ → Option ℕ
 ordinal_from t space index k zero = None
 ordinal_from t space index k (suc n) =
-    pick_found (eqb (field 5 t k 0) space)
-    (pick_found (eqb index 0) (Some (field 5 t k 3)) (ordinal_from t space (index - 1) (k + 1) n))
-    (ordinal_from t space index (k + 1) n)
+    if eqb (field 5 t k 0) space then (if eqb index 0 then Some (field 5 t k 3) else ordinal_from t space (index - 1) (k + 1) n)
+    else ordinal_from t space index (k + 1) n

@@ -1,12 +1,12 @@
 -- The rules for a property of the tables and of the recorded events: only the steps that change those are left. Assumes nothing.
-use Rattle.std.specs.Prelude.{◌≡◌, refl, Bool, true, false, ℕ, zero, suc, ◌+◌, ◌*◌, ◌/◌, ◌<◌, ◌≤◌}
+use Rattle.std.specs.Prelude.{if◌then◌else◌, ◌≡◌, refl, Bool, true, false, ℕ, zero, suc, ◌+◌, ◌*◌, ◌/◌, ◌<◌, ◌≤◌}
 use Rattle.std.proofs.Common.{subst, arith}
 use mathlib.Core.List.{List, [], ◌∷◌}
 use Rattle.tables.specs.declared.values.Ref.TheVariants.{Object, Root, RoRef, Attached}
 use Rattle.tables.specs.declared.values.SlotValue.{SlotValue}
 use Rattle.tables.specs.declared.values.SlotValue.TheVariants.{Ref as IsRef, Repeat, RepeatPrev, Skip, StreamBytes, Raw as IsRaw, ClearedWeak, WeakRef, PendingRef}
 use Rattle.tables.specs.declared.values.Fields.{Fields}
-use Rattle.tables.specs.Values.{pick_ℕ, triple, raw_kind, fields_of, width_of}
+use Rattle.tables.specs.Values.{triple, raw_kind, fields_of, width_of}
 use Rattle.tables.specs.Records.{room, object_row, slot_row, value_row, filled}
 use Rattle.definition.specs.Memory.{Input, word, in_map, in_slot, in_value, dropped, Event, opened, passed, item, value, resolve, begins, synchronize, Table, table, Mem, added}
 use Rattle.definition.specs.Slots.{counted, waits_for, waiter, waits_of}
@@ -22,7 +22,7 @@ use Rattle.assurance.specs.On.{On, on_note, on_note_two, on_map, on_told}
 abbrev Waiter : List ℕ → ℕ → ℕ → ℕ → Type 0
 Waiter rows number n k = (k < n) × (waits_for rows number k ≡ true)
 
-waiter-pick : (rows : List ℕ) (number n k : ℕ) (t : Bool) → waits_for rows number n ≡ t → (waiter rows number n ≡ suc k → Waiter rows number n k) → pick_ℕ t (suc n) (waiter rows number n) ≡ suc k → Waiter rows number (suc n) k
+waiter-pick : (rows : List ℕ) (number n k : ℕ) (t : Bool) → waits_for rows number n ≡ t → (waiter rows number n ≡ suc k → Waiter rows number n k) → (if t then suc n else waiter rows number n) ≡ suc k → Waiter rows number (suc n) k
 waiter-pick rows number n k true w f z = let q : n ≡ k = omega arith in (omega arith, subst (λ (i : ℕ). waits_for rows number i ≡ true) q w)
 waiter-pick rows number n k false w f z = let h = f z in (omega (arith, h.0), h.1)
 
@@ -43,7 +43,7 @@ width_of_lem ts (Skip n) = refl
 width_of_lem ts (StreamBytes n) = refl
 width_of_lem ts (IsRaw r) = at r.advances
   where
-    at : (b : Bool) → pick_ℕ b r.len 0 ≡ width_of_value ts (triple (raw_kind b) r.off r.len)
+    at : (b : Bool) → (if b then r.len else 0) ≡ width_of_value ts (triple (raw_kind b) r.off r.len)
     at true = refl
     at false = refl
 width_of_lem ts ClearedWeak = refl

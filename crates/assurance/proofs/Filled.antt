@@ -1,9 +1,8 @@
 -- The items of each object that was opened lie end to end from byte 0 and fill its declared bytes. Assumes nothing.
-use Rattle.std.specs.Prelude.{◌≡◌, refl, ◌⊎◌, ◌≢◌, Bool, true, false, List, [], ◌∷◌, ℕ, ◌+◌, ◌*◌, ◌/◌, ◌<◌, ◌≤◌, eqb}
+use Rattle.std.specs.Prelude.{if◌then◌else◌, ◌≡◌, refl, ◌⊎◌, ◌≢◌, Bool, true, false, List, [], ◌∷◌, ℕ, ◌+◌, ◌*◌, ◌/◌, ◌<◌, ◌≤◌, eqb}
 use Rattle.std.proofs.Common.{sym, subst, ◌∙◌, ap, ⊎_elim, inl, inr, zero-add, div-lt_iff_lt-mul, arith, eq-eqb, ne_eqb, eqb-true}
 use Rattle.std.proofs.lemmas.Bool.{eqb-false}
 use Rattle.tables.specs.declared.values.Fields.{Fields}
-use Rattle.tables.specs.Values.{pick_ℕ}
 use Rattle.definition.specs.Memory.{Input, word, Kept, in_map, in_slot, in_value, dropped, Event, opened, passed, item, value, resolve, begins, synchronize, Mem}
 use Rattle.definition.specs.Call.{Rooms, Call, input_of, told_of}
 use Rattle.assurance.specs.Steps.{Frame, frame}
@@ -75,7 +74,7 @@ open_filling ts S n q w es h =
       inside = (tt, all_map (Fits ts n es) (Fits ts (n + 1) (opened q w ∷ es)) (fits_up ts n (n + 1) es (opened q w ∷ es) (omega arith) (λ o l. other o (λ e. omega arith)) (λ o. omega arith)) es h.inside);
     }
 
-pub pick_up : (t : Bool) (a b : ℕ) → b ≤ pick_ℕ t (b + a) b
+pub pick_up : (t : Bool) (a b : ℕ) → b ≤ (if t then b + a else b)
 pick_up true a b = omega arith
 pick_up false a b = omega arith
 
@@ -87,7 +86,7 @@ no_items (opened q w ∷ es) o e = no_items es o e
 no_items (passed a n ∷ es) o e = no_items es o e
 no_items (item x s w k ∷ es) o e = at (eqb o x) (no_items es o) e
   where
-    at : (t : Bool) → (items_of es o ≡ 0 → filled_of es o ≡ 0) → pick_ℕ t (items_of es o + 1) (items_of es o) ≡ 0 → pick_ℕ t (filled_of es o + w) (filled_of es o) ≡ 0
+    at : (t : Bool) → (items_of es o ≡ 0 → filled_of es o ≡ 0) → (if t then items_of es o + 1 else items_of es o) ≡ 0 → (if t then filled_of es o + w else filled_of es o) ≡ 0
     at true f z = absurd (omega arith)
     at false f z = f z
 no_items (value v t ∷ es) o e = no_items es o e

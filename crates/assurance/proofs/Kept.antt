@@ -1,8 +1,7 @@
 -- Every slot and value record keeps one value that was read, and no value is kept in a record that is not listed. Assumes nothing.
-use Rattle.std.specs.Prelude.{◌≡◌, refl, Bool, true, false, List, [], ◌∷◌, ℕ, ◌+◌, ◌<◌, ◌≤◌, eqb}
+use Rattle.std.specs.Prelude.{if◌then◌else◌, ◌≡◌, refl, Bool, true, false, List, [], ◌∷◌, ℕ, ◌+◌, ◌<◌, ◌≤◌, eqb}
 use Rattle.std.proofs.Common.{ap, inl, inr, ⊎_elim, arith, eq-eqb, ne_eqb, eqb-true}
 use mathlib.Core.List.Memᴰ
-use Rattle.tables.specs.Values.{pick_ℕ}
 use Rattle.definition.specs.Memory.{Input, in_map, in_slot, in_value, dropped, Event, opened, passed, item, value, resolve, begins, synchronize, Mem}
 use Rattle.definition.specs.Call.{Rooms, Call, input_of, told_of}
 use Rattle.assurance.proofs.EventRules.{EventRules, tables_have}
@@ -15,11 +14,11 @@ pub record Once (f : ℕ → ℕ) (n : ℕ) : Type 0 where
   pub one : (k : ℕ) → k < n → f k ≡ 1
   pub none : (k : ℕ) → n ≤ k → f k ≡ 0
 
-once_more : (f : ℕ → ℕ) (n : ℕ) → Once f n → Once (λ k. pick_ℕ (eqb k n) (f k + 1) (f k)) (n + 1)
+once_more : (f : ℕ → ℕ) (n : ℕ) → Once f n → Once (λ k. if eqb k n then f k + 1 else f k) (n + 1)
 once_more f n h =
     record {
       one =
-          below (λ k. pick_ℕ (eqb k n) (f k + 1) (f k) ≡ 1) n
+          below (λ k. (if eqb k n then f k + 1 else f k) ≡ 1) n
           (λ k l. rw (ne_eqb k n (λ e. omega arith)) (h.one k l))
           (rw (eq-eqb n n refl) (ap (λ (i : ℕ). i + 1) (h.none n (omega arith))));
       none = (λ k l. rw (ne_eqb k n (λ e. omega arith)) (h.none k (omega arith)));
@@ -60,7 +59,7 @@ value_later : (es : List Event) (e : Event) (k : ℕ) → KeptInValue es k → K
 value_later es e k h = (h.0, Memᴰ.tail h.1)
 
 -- a count that is not 0 has found one, here or before
-found : (C : Type 0) (t : Bool) (n : ℕ) → (t ≡ true → C) → (1 ≤ n → C) → 1 ≤ pick_ℕ t (n + 1) n → C
+found : (C : Type 0) (t : Bool) (n : ℕ) → (t ≡ true → C) → (1 ≤ n → C) → 1 ≤ (if t then n + 1 else n) → C
 found C true n y f l = y refl
 found C false n y f l = f l
 

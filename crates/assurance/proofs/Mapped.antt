@@ -1,11 +1,10 @@
 -- Each object that was read has exactly one map item: it begins at byte 0, has one word, and is kept in the slot record that keeps its map. So
 -- each has a byte at least. Assumes nothing.
-use Rattle.std.specs.Prelude.{◌≡◌, refl, ◌⊎◌, ◌≢◌, Bool, true, false, List, ◌∷◌, ℕ, ◌+◌, ◌<◌, ◌≤◌, eqb}
+use Rattle.std.specs.Prelude.{if◌then◌else◌, ◌≡◌, refl, ◌⊎◌, ◌≢◌, Bool, true, false, List, ◌∷◌, ℕ, ◌+◌, ◌<◌, ◌≤◌, eqb}
 use Rattle.std.proofs.Common.{sym, ap, subst, ⊎_elim, inl, inr, arith, eqb-true}
 use Rattle.std.proofs.lemmas.Bool.{eqb-false}
 use mathlib.Core.List.Memᴰ
 use Rattle.tables.specs.declared.values.Fields.{Fields}
-use Rattle.tables.specs.Values.{pick_ℕ}
 use Rattle.definition.specs.Memory.{Input, word, Kept, in_map, in_slot, in_value, dropped, Event, opened, passed, item, value, resolve, begins, synchronize, Mem}
 use Rattle.definition.specs.Call.{Rooms, Call, input_of, told_of}
 use Rattle.assurance.specs.PlainSheet.{word_pos}
@@ -103,7 +102,7 @@ map_more ts slots es x v pos none h =
               (item_told ts slots es x 0 ts v (in_map slots) h some there o a b k i));
         }
 
-    at : (o : ℕ) (t : Bool) → eqb o x ≡ t → 1 ≤ pick_ℕ t (filled_of es o + ts) (filled_of es o) → MapItem ts fs o
+    at : (o : ℕ) (t : Bool) → eqb o x ≡ t → 1 ≤ (if t then filled_of es o + ts else filled_of es o) → MapItem ts fs o
     at o true e l = fresh o (eqb-true o x e)
     at o false e l = still ts slots es x 0 ts v (in_map slots) h some there o (λ q. absurd (eqb-false o x e q)) (h.begun o l)
 
@@ -122,7 +121,7 @@ item_more ts slots es x s w v pos has h =
     there : (k : ℕ) → in_map k ≡ in_slot slots → k ≡ slots
     there k e = absurd (no_map k e)
 
-    at : (o : ℕ) (t : Bool) → eqb o x ≡ t → 1 ≤ pick_ℕ t (filled_of es o + w) (filled_of es o) → MapItem ts (item x s w slots ∷ value v (in_slot slots) ∷ es) o
+    at : (o : ℕ) (t : Bool) → eqb o x ≡ t → 1 ≤ (if t then filled_of es o + w else filled_of es o) → MapItem ts (item x s w slots ∷ value v (in_slot slots) ∷ es) o
     at o true e l = still ts slots es x s w v (in_slot slots) h some there o (λ q. no_map) (h.begun o (subst (λ (i : ℕ). 1 ≤ filled_of es i) (sym (eqb-true o x e)) has))
     at o false e l = still ts slots es x s w v (in_slot slots) h some there o (λ q. no_map) (h.begun o l)
 

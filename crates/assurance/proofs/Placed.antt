@@ -1,11 +1,10 @@
 -- Each slot record is that of one item, with its object and its index, and each object's slot count is the number of its slot records.
 -- Assumes nothing.
-use Rattle.std.specs.Prelude.{◌≡◌, refl, Bool, true, false, List, ◌∷◌, ℕ, zero, suc, ◌+◌, ◌*◌, ◌/◌, ◌<◌, ◌≤◌, eqb, set}
+use Rattle.std.specs.Prelude.{if◌then◌else◌, ◌≡◌, refl, Bool, true, false, List, ◌∷◌, ℕ, zero, suc, ◌+◌, ◌*◌, ◌/◌, ◌<◌, ◌≤◌, eqb, set}
 use Rattle.std.proofs.Common.{sym, ◌∙◌, ap, add-one, arith, eq-eqb, ne_eqb, eqb-true}
 use Rattle.std.proofs.Math.Nat.{zero-div}
 use Rattle.std.proofs.lemmas.Bool.{eqb-false}
 use Rattle.tables.specs.declared.values.Fields.{Fields}
-use Rattle.tables.specs.Values.{pick_ℕ}
 use Rattle.tables.specs.Records.{room, field, object_row, slot_row, written, filled}
 use Rattle.tables.proofs.RecordLaws.{written_same, written_else, filled_else, set_same, set_else}
 use Rattle.definition.specs.Memory.{Input, word, Kept, in_map, in_slot, in_value, dropped, Event, opened, passed, item, value, resolve, begins, synchronize, Table, table, Mem, added}
@@ -43,7 +42,7 @@ unfolding slots_of
 slots_same r s o zero h = refl
 slots_same r s o (suc n) h = rw (h n (omega arith), slots_same r s o n (λ k l. h k (omega arith)))
 
-slots_more : (rows : List ℕ) (n i index : ℕ) (v : Fields) (waits o : ℕ) → n < room 6 rows → slots_of (written rows n (slot_row i index v waits)) o (n + 1) ≡ pick_ℕ (eqb o i) (slots_of rows o n + 1) (slots_of rows o n)
+slots_more : (rows : List ℕ) (n i index : ℕ) (v : Fields) (waits o : ℕ) → n < room 6 rows → slots_of (written rows n (slot_row i index v waits)) o (n + 1) ≡ (if eqb o i then slots_of rows o n + 1 else slots_of rows o n)
 unfolding slots_of
 slots_more rows n i index v waits o l =
     let row : List ℕ = slot_row i index v waits in
@@ -56,7 +55,7 @@ slot_owned ot st i index v waits p h =
       free = (λ o l. slots_more st.rows st.count i index v waits o p.roomy ∙ (rw (ne_eqb o i (λ e. omega (arith, p.listed))) (h.free o l)));
     }
   where
-    at : (o : ℕ) → o < ot.count → (t : Bool) → eqb o i ≡ t → field 4 (counted i ot).rows o 3 ≡ pick_ℕ (eqb o i) (slots_of st.rows o st.count + 1) (slots_of st.rows o st.count)
+    at : (o : ℕ) → o < ot.count → (t : Bool) → eqb o i ≡ t → field 4 (counted i ot).rows o 3 ≡ (if eqb o i then slots_of st.rows o st.count + 1 else slots_of st.rows o st.count)
     at o l true e =
         let q : o ≡ i = eqb-true o i e in
         rw (e, q) (set_same 4 i 3 ot.rows (field 4 ot.rows i 3 + 1) (omega arith) (omega (arith, p.listed, p.objects_fit)) ∙ ap (λ (n : ℕ). n + 1) (h.owned i p.listed))
@@ -106,7 +105,7 @@ item_seated ts t es o index s w v waits keep e l h =
         (tt, all_map (Sits ts t) (Sits ts u) (sits_stay ts t u (omega arith) (λ k j g b. written_else t.rows row t.count k j (omega arith) (omega arith))) es h.each),
       );
       one =
-          below (λ k. pick_ℕ (eqb k t.count) (items_in es k + 1) (items_in es k) ≡ 1) t.count
+          below (λ k. (if eqb k t.count then items_in es k + 1 else items_in es k) ≡ 1) t.count
           (λ k g. rw (ne_eqb k t.count (λ e. omega arith)) (h.one k g))
           (rw (eq-eqb t.count t.count refl) (ap (λ (n : ℕ). n + 1) (h.none t.count (omega arith))));
       none = (λ k g. rw (ne_eqb k t.count (λ e. omega arith)) (h.none k (omega arith)));

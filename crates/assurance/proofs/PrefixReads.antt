@@ -1,10 +1,10 @@
 -- A second payload that begins as an accepted one does, through the kSynchronize that ends its closing section: both readings come to the same
 -- state there. For every sheet that is not legacy. Assumes nothing.
-use Rattle.std.specs.Prelude.{◌≡◌, refl, Bool, true, false, ◌||◌, List, [], ◌∷◌, ℕ, ◌+◌, ◌-◌, ◌<◌, ◌≤◌, ltb, length, get_or, take}
+use Rattle.std.specs.Prelude.{if◌then◌else◌, ◌≡◌, refl, Bool, true, false, ◌||◌, List, [], ◌∷◌, ℕ, ◌+◌, ◌-◌, ◌<◌, ◌≤◌, ltb, length, get_or, take}
 use Rattle.std.proofs.Common.{sym, ◌∙◌, subst, arith, le-ltb, length-take, get_or-take, length-take-le}
 use Rattle.std.proofs.Math.Path.{ap}
 use Rattle.sheet.specs.Sheet.{is_legacy, usable}
-use Rattle.definition.specs.Memory.{synchronize, told, Mem, Out, got, and_then, choose, refuse_at, moved}
+use Rattle.definition.specs.Memory.{synchronize, told, Mem, Out, got, and_then, refuse_at, moved}
 use Rattle.definition.specs.Closing.{padding}
 use Rattle.definition.specs.Call.{Rooms, Call, input_of, start, walk, called, graph, told_of, events_of}
 use Rattle.assurance.specs.SimulateClosing.{walk-ended}
@@ -25,7 +25,7 @@ called_walks : (c : Call) (m₀ m : Mem) → called c m₀ ≡ got tt m → Walk
 unfolding called
 called_walks c m₀ m e = go (usable c.sheet) (ltb 16777216 (length c.payload)) (ltb 65536 (length c.reservations)) refl refl e
   where
-    go : (t u w : Bool) → usable c.sheet ≡ t → ltb 65536 (length c.reservations) ≡ w → choose t (choose (u || w) (refuse_at 2 0) (walk (input_of c))) (refuse_at 1 0) m₀ ≡ got tt m → Walks c m₀ m
+    go : (t u w : Bool) → usable c.sheet ≡ t → ltb 65536 (length c.reservations) ≡ w → (if t then (if u || w then refuse_at 2 0 else walk (input_of c)) else refuse_at 1 0) m₀ ≡ got tt m → Walks c m₀ m
     go true true w a b e = absurd (let z : ◌≡◌ {A = ℕ} 0 1 = cc in omega arith)
     go true false true a b e = absurd (let z : ◌≡◌ {A = ℕ} 0 1 = cc in omega arith)
     go true false false a b e = record { is_usable = a; few = b; walks = e }

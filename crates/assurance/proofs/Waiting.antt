@@ -1,5 +1,5 @@
 -- At most one slot waits under a number, and the next number is above all that wait. Assumes nothing.
-use Rattle.std.specs.Prelude.{◌≡◌, refl, ◌≢◌, Bool, true, false, List, eqb}
+use Rattle.std.specs.Prelude.{if◌then◌else◌, ◌≡◌, refl, ◌≢◌, Bool, true, false, List, eqb}
 use Rattle.std.proofs.Common.{sym, ◌∙◌, eq-or-lt_of_le, add-one, eq-eqb, eqb-true}
 use Rattle.std.proofs.Math.Path.{subst}
 use Rattle.std.proofs.Math.Logic.{⊎_elim}
@@ -7,7 +7,6 @@ use Prim.Native.Nat.{ℕ, zero, suc, ◌+◌, ◌-◌, ◌<◌, ◌≤◌}
 use native.Mathlib.Omega.{arith}
 use Rattle.std.proofs.lemmas.Bool.{eqb-false, and_parts}
 use Rattle.tables.specs.declared.values.Fields.{Fields}
-use Rattle.tables.specs.Values.{pick_ℕ}
 use Rattle.tables.specs.Records.{room, field, slot_row, written, filled}
 use Rattle.tables.proofs.RecordLaws.{written_same, written_else, filled_same, filled_else}
 use Rattle.definition.specs.Memory.{Table, table, added}
@@ -22,7 +21,7 @@ WaitsAt rows k = field 6 rows k 5 ≡ 1
 -- how many of the first n slot records wait
 unfoldable pub waits_in : List ℕ → ℕ → ℕ
 waits_in rows zero = 0
-waits_in rows (suc n) = pick_ℕ (eqb (field 6 rows n 5) 1) (waits_in rows n + 1) (waits_in rows n)
+waits_in rows (suc n) = if eqb (field 6 rows n 5) 1 then waits_in rows n + 1 else waits_in rows n
 
 pub record Waits (t : Table) (pending waiting : ℕ) : Type 0 where
   pub numbered : (k : ℕ) → k < t.count → WaitsAt t.rows k → field 6 t.rows k 3 < pending
@@ -40,7 +39,7 @@ waits_same r s zero h = refl
 waits_same r s (suc n) h = rw (h n (omega arith), waits_same r s n (λ k l. h k (omega arith)))
 
 -- where none is counted none waits
-pick-zero : (t : Bool) (n : ℕ) → pick_ℕ t (n + 1) n ≡ 0 → (t ≡ false) × (n ≡ 0)
+pick-zero : (t : Bool) (n : ℕ) → (if t then n + 1 else n) ≡ 0 → (t ≡ false) × (n ≡ 0)
 pick-zero true n e = absurd (omega arith)
 pick-zero false n e = (refl, e)
 
@@ -55,7 +54,7 @@ none_waits rows (suc n) k e l w =
 pub renumber : (t : Table) (pending waiting : ℕ) → Waits t pending waiting → Waits t (renumbered pending waiting) waiting
 renumber t pending waiting h = record { numbered = (λ k l w. at k l w (eqb waiting 0) refl); distinct = h.distinct; counted = h.counted }
   where
-    at : (k : ℕ) → k < t.count → WaitsAt t.rows k → (b : Bool) → eqb waiting 0 ≡ b → field 6 t.rows k 3 < pick_ℕ b 0 pending
+    at : (k : ℕ) → k < t.count → WaitsAt t.rows k → (b : Bool) → eqb waiting 0 ≡ b → field 6 t.rows k 3 < (if b then 0 else pending)
     at k l w true e = absurd (none_waits t.rows t.count k (sym h.counted ∙ eqb-true waiting 0 e) l w)
     at k l w false e = h.numbered k l w
 
@@ -92,7 +91,7 @@ module _ (t : Table) (pending waiting o index : ℕ) (v : Fields) (waits : ℕ) 
       (λ j f wj wk e. absurd (unused_new j f wj wk e)) (λ wj wk e. refl) j lj)
       k
 
-  pick_waits : (w n : ℕ) → w ≤ 1 → n + w ≡ pick_ℕ (eqb w 1) (n + 1) n
+  pick_waits : (w n : ℕ) → w ≤ 1 → n + w ≡ (if eqb w 1 then n + 1 else n)
   pick_waits zero n b = omega arith
   pick_waits (suc zero) n b = refl
   pick_waits (suc (suc w)) n b = absurd (omega arith)
@@ -121,7 +120,7 @@ module _ (rows : List ℕ) (k o : ℕ) (l : k < room 6 rows) (w : WaitsAt rows k
   pub waited : (j : ℕ) → WaitsAt (filled rows k o) j → WaitsAt rows j
   waited j h = sym (filled_other j 5 (still j h) (omega arith)) ∙ h
 
-  pick_less : (t : Bool) (a b : ℕ) → a + 1 ≡ b → pick_ℕ t (a + 1) a + 1 ≡ pick_ℕ t (b + 1) b
+  pick_less : (t : Bool) (a b : ℕ) → a + 1 ≡ b → (if t then a + 1 else a) + 1 ≡ (if t then b + 1 else b)
   pick_less true a b e = omega arith
   pick_less false a b e = e
 
@@ -162,6 +161,6 @@ unknown rows number (suc n) k e l w q =
     below (λ k. WaitsAt rows k → field 6 rows k 3 ≡ number → ⊥) n (λ k l. unknown rows number n k z.1 l)
     (λ w q. clash (waits_for rows number n) (rw (eq-eqb (field 6 rows n 5) 1 w, eq-eqb (field 6 rows n 3) number q)) z.0) k (omega arith) w q
   where
-    pick-none : (t : Bool) (a b : ℕ) → pick_ℕ t (suc a) b ≡ 0 → (t ≡ false) × (b ≡ 0)
+    pick-none : (t : Bool) (a b : ℕ) → (if t then suc a else b) ≡ 0 → (t ≡ false) × (b ≡ 0)
     pick-none true a b z = absurd (omega arith)
     pick-none false a b z = (refl, z)

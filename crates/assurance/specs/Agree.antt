@@ -1,6 +1,6 @@
 -- Two payloads that agree below a place, and the two readings of them up to it: a walk that is accepted came to the kSynchronize that ends its
 -- closing section, and so does the other, if that stands below the place. For every sheet that is not legacy. Assumes nothing.
-use Rattle.std.specs.Prelude.{◌≡◌, refl, Bool, true, false, List, [], ◌∷◌, ℕ, zero, suc, ◌+◌, ◌-◌, ◌/◌, ◌%◌, ◌<◌, ◌≤◌, ltb, leb, get_or, Option, Some, None}
+use Rattle.std.specs.Prelude.{if◌then◌else◌, ◌≡◌, refl, Bool, true, false, List, [], ◌∷◌, ℕ, zero, suc, ◌+◌, ◌-◌, ◌/◌, ◌%◌, ◌<◌, ◌≤◌, ltb, leb, get_or, Option, Some, None}
 use Rattle.std.proofs.Math.Path.{sym, ap}
 use Rattle.std.proofs.Common.{◌∙◌, append-nil}
 use native.Mathlib.Omega.{arith}
@@ -8,7 +8,7 @@ use borrow.Author.Tests.{ltb-false, leb-false}
 use Rattle.std.proofs.Math.ListN.{length}
 use Rattle.stream.specs.declared.putint.Int.{Int}
 use Rattle.stream.specs.Bytes.{peek_at, little_endian}
-use Rattle.stream.specs.PutInt.{pick_int, int_length, int_at}
+use Rattle.stream.specs.PutInt.{int_length, int_at}
 use Rattle.stream.proofs.ByteLaws.{peek-byte}
 use Rattle.stream.proofs.IntegerLaws.{int_is}
 use Rattle.sheet.specs.Sheet.{is_legacy}
@@ -22,7 +22,7 @@ use Rattle.assurance.specs.SimulateCall.{start_fits}
 -- ---- bytes and integers
 
 module _ (p : List ℕ) (a : ℕ) (i : Int) where
-  picked : (b : Bool) (o : Option Int) → pick_int b None o ≡ Some i → (b ≡ false) × (o ≡ Some i)
+  picked : (b : Bool) (o : Option Int) → (if b then None else o) ≡ Some i → (b ≡ false) × (o ≡ Some i)
   picked true o e = absurd (let z : ◌≡◌ {A = ℕ} 0 1 = cc in omega arith)
   picked false o e = (refl, e)
 

@@ -1,10 +1,10 @@
 -- What holds of what a reader gives, where it does not refuse; and the two leaves that move the cursor. Assumes nothing.
-use Rattle.std.specs.Prelude.{◌≡◌, refl, Bool, true, false, ℕ, ◌+◌, ◌<◌, ◌≤◌, ltb, length, get_or, Option, Some, None}
+use Rattle.std.specs.Prelude.{if◌then◌else◌, ◌≡◌, refl, Bool, true, false, ℕ, ◌+◌, ◌<◌, ◌≤◌, ltb, length, get_or, Option, Some, None}
 use Rattle.std.proofs.Common.{arith, ltb-true}
 use Rattle.stream.specs.declared.putint.Int.{Int}
 use Rattle.stream.specs.PutInt.{int_at}
 use Rattle.stream.proofs.ByteLaws.{Bytes}
-use Rattle.definition.specs.Memory.{Input, Mem, Out, got, no, Reader, and_then, choose, moved, byte, after_int, int, with_long}
+use Rattle.definition.specs.Memory.{Input, Mem, Out, got, no, Reader, and_then, moved, byte, after_int, int, with_long}
 use Rattle.laws.specs.Leaves.{IntEnds, int_ends}
 use Rattle.assurance.specs.Words.{IntegerAt}
 
@@ -30,7 +30,7 @@ unfolding Gives
 gives_then P Q (got a m) f h k = k a m h
 gives_then P Q (no n q m) f h k = tt
 
-pub gives-choose : {A : Type 0} (Q : A → Mem → Type 0) (t : Bool) (f g : Reader A) (m : Mem) → (t ≡ true → Gives Q (f m)) → (t ≡ false → Gives Q (g m)) → Gives Q (choose t f g m)
+pub gives-choose : {A : Type 0} (Q : A → Mem → Type 0) (t : Bool) (f g : Reader A) (m : Mem) → (t ≡ true → Gives Q (f m)) → (t ≡ false → Gives Q (g m)) → Gives Q ((if t then f else g) m)
 gives-choose Q true f g m y n = y refl
 gives-choose Q false f g m y n = n refl
 

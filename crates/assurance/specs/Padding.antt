@@ -1,7 +1,7 @@
 -- What follows the closing section: it is accepted exactly when it is only kNop, on a sheet that is not legacy. Assumes nothing.
 use Rattle.std.proofs.Math.Path.{◌≡◌, refl, sym}
 use Rattle.std.proofs.Common.{ap, ◌∙◌, subst, ⊎_elim, eq-or-lt_of_le, arith}
-use Rattle.std.specs.Prelude.{Bool, List, length}
+use Rattle.std.specs.Prelude.{if◌then◌else◌, Bool, List, length}
 use Rattle.std.proofs.Math.Bool.{true, false}
 use Prim.Native.Nat.{ℕ, zero, suc, ◌+◌, ◌<◌, ◌≤◌}
 use borrow.Author.Tests.{eqb-true, lt-leb, le-leb, eq-eqb}
@@ -11,7 +11,7 @@ use Rattle.stream.proofs.ByteLaws.{peek-byte}
 use Rattle.sheet.specs.Names.{k_nop}
 use Rattle.sheet.specs.Sheet.{number, is_legacy}
 use Rattle.sheet.specs.Tests.{is_nop}
-use Rattle.definition.specs.Memory.{Input, Mem, got, no, Reader, ◌>>◌, choose, byte, moved}
+use Rattle.definition.specs.Memory.{Input, Mem, got, Reader, ◌>>◌, byte, moved, refuse}
 use Rattle.definition.specs.Object.{peek}
 use Rattle.definition.specs.Closing.{padding}
 use Rattle.assurance.specs.SimulateClosing.{byte_in}
@@ -46,7 +46,7 @@ module _ (x : Input) where
     unfolding padding
     padding_else n m m₂ l e = go (byte x >> padding x n) (eqb (number x.sheet k_nop) (get_or x.payload m.at 0)) refl (rw (lt-leb (length x.payload) m.at l, nop_peek m l, modern) at e)
       where
-        go : (f : Reader (Unit {0})) (t : Bool) → eqb (number x.sheet k_nop) (get_or x.payload m.at 0) ≡ t → choose t f (λ m. no 14 m.at m) m ≡ got tt m₂ → get_or x.payload m.at 0 ≡ number x.sheet k_nop
+        go : (f : Reader (Unit {0})) (t : Bool) → eqb (number x.sheet k_nop) (get_or x.payload m.at 0) ≡ t → (if t then f else refuse 14) m ≡ got tt m₂ → get_or x.payload m.at 0 ≡ number x.sheet k_nop
         go f true t e = sym (eqb-true _ _ t)
         go f false t e = absurd (let z : ◌≡◌ {A = ℕ} 0 1 = cc in omega arith)
 

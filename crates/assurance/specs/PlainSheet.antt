@@ -1,11 +1,11 @@
 -- What a plain sheet lacks, and what that rules out. Assumes nothing.
-use Rattle.std.specs.Prelude.{◌≡◌, refl, Bool, true, false, not, List, [], ◌∷◌, ℕ, ◌+◌, ◌-◌, ◌*◌, ◌<◌, ◌≤◌, eqb, length}
+use Rattle.std.specs.Prelude.{if◌then◌else◌, ◌≡◌, refl, Bool, true, false, not, List, [], ◌∷◌, ℕ, ◌+◌, ◌-◌, ◌*◌, ◌<◌, ◌≤◌, eqb, length}
 use Rattle.std.proofs.Common.{⊎_elim, arith, eqb-true}
 use Rattle.std.proofs.lemmas.Bool.{not-true, not-false, and_parts}
 use Rattle.stream.proofs.ByteLaws.{Bytes, peek-byte}
 use Rattle.sheet.specs.Names.{k_new_object, k_synchronize, k_alignment_prefix, k_hot_object_with_skip, k_root_array_constants_with_skip, k_skip, k_deferred}
 use Rattle.sheet.specs.Sheet.{number, present, word_bytes, is_legacy, is_six_x, is_map_first, usable, plain}
-use Rattle.sheet.specs.Tests.{in_span, is_deferred, is_entry, pick_closing, closing_of}
+use Rattle.sheet.specs.Tests.{in_span, is_deferred, is_entry, closing_of}
 use Rattle.sheet.specs.declared.tests.Closing.{Closing}
 use Rattle.sheet.specs.declared.tests.Closing.TheVariants.{Synchronize, Alignment, Deferred, Reference}
 use Rattle.sheet.proofs.UsableSheet.{parts, usable_gives}
@@ -61,7 +61,7 @@ module _ (v : List ℕ) (plainly : PlainSheet v) where
 
   -- the tests of the closing section
   module _ (P : Closing → Type 0) where
-    pick_case : (t : Bool) (a b : Closing) → (t ≡ true → P a) → P b → P (pick_closing t a b)
+    pick_case : (t : Bool) (a b : Closing) → (t ≡ true → P a) → P b → P (if t then a else b)
     pick_case true a b y n = y refl
     pick_case false a b y n = n
 
@@ -72,12 +72,12 @@ module _ (v : List ℕ) (plainly : PlainSheet v) where
     unfolding closing_of
     closing_case b s a r = at (is_last b) refl
       where
-        other : is_last b ≡ false → P (pick_closing (in_span v k_alignment_prefix 3 b) (Alignment (b - number v k_alignment_prefix + 1)) (pick_closing (is_entry v b) (Deferred (b - number v k_new_object)) Reference))
+        other : is_last b ≡ false → P (if in_span v k_alignment_prefix 3 b then Alignment (b - number v k_alignment_prefix + 1) else if is_entry v b then Deferred (b - number v k_new_object) else Reference)
         other e =
             pick_case (in_span v k_alignment_prefix 3 b) (Alignment (b - number v k_alignment_prefix + 1)) _ (λ t. a e (b - number v k_alignment_prefix + 1))
             (pick_case (is_entry v b) (Deferred (b - number v k_new_object)) _ (λ t. absurd (not_legacy (and_parts _ _ (and_parts _ _ t).0).0)) (r e))
 
-        at : (t : Bool) → is_last b ≡ t → P (pick_closing t Synchronize (pick_closing (in_span v k_alignment_prefix 3 b) (Alignment (b - number v k_alignment_prefix + 1)) (pick_closing (is_entry v b) (Deferred (b - number v k_new_object)) Reference)))
+        at : (t : Bool) → is_last b ≡ t → P (if t then Synchronize else if in_span v k_alignment_prefix 3 b then Alignment (b - number v k_alignment_prefix + 1) else if is_entry v b then Deferred (b - number v k_new_object) else Reference)
         at true e = s e
         at false e = other e
 

@@ -1,7 +1,6 @@
 -- What a record of a table holds, in the words of the guarantee. Assumes nothing: these are definitions.
-use Rattle.std.specs.Prelude.{◌≡◌, ℕ, zero, suc, ◌+◌, ◌*◌, ◌<◌, ◌≤◌, List, eqb, get_or}
+use Rattle.std.specs.Prelude.{if◌then◌else◌, ◌≡◌, ℕ, zero, suc, ◌+◌, ◌*◌, ◌<◌, ◌≤◌, List, eqb, get_or}
 use Rattle.tables.specs.declared.values.Fields.{Fields}
-use Rattle.tables.specs.Values.{pick_ℕ}
 use Rattle.tables.specs.Records.{field}
 use Rattle.definition.specs.Memory.{Table}
 
@@ -23,7 +22,7 @@ pub record ValueHas (t : Table) (k : ℕ) (v : Fields) : Type 0 where
 -- how many of the first n slot records are object o's
 unfoldable pub slots_of : List ℕ → ℕ → ℕ → ℕ
 slots_of rows o zero = 0
-slots_of rows o (suc n) = pick_ℕ (eqb o (field 6 rows n 0)) (slots_of rows o n + 1) (slots_of rows o n)
+slots_of rows o (suc n) = if eqb o (field 6 rows n 0) then slots_of rows o n + 1 else slots_of rows o n
 
 -- slot record k has this object and index
 pub record SlotAt (t : Table) (k o index : ℕ) : Type 0 where

@@ -1,5 +1,5 @@
 -- A call that is refused gets one of document 01's numbers, 1 to 16. Assumes nothing.
-use Rattle.std.specs.Prelude.{◌≡◌, refl, Bool, true, false, not, ◌&&◌, ◌||◌, ltb, leb, List, length, get_or, set, Option, Some, None}
+use Rattle.std.specs.Prelude.{if◌then◌else◌, ◌≡◌, refl, Bool, true, false, not, ◌&&◌, ◌||◌, ltb, leb, List, length, get_or, set, Option, Some, None}
 use Prim.Native.Nat.{ℕ, zero, suc, ◌+◌, ◌-◌, ◌*◌, ◌/◌, ◌<◌, ◌≤◌}
 use native.Mathlib.Omega.{arith}
 use borrow.Author.Tests.{eqb-true, eqb-false}
@@ -24,10 +24,10 @@ use Rattle.tables.specs.Records.{room, address_row, written}
 use Rattle.alloc.specs.declared.legacy_alloc.LegacyAlloc.{LegacyAlloc}
 use Rattle.alloc.specs.declared.legacy_alloc.Request.{Request}
 use Rattle.alloc.specs.Fill.{fill_to_align}
-use Rattle.alloc.specs.Allocation.{Outcome, outcome, pick_outcome, advance_of, placed, allocate_of}
+use Rattle.alloc.specs.Allocation.{Outcome, outcome, advance_of, placed, allocate_of}
 use Rattle.backref.specs.HotRing.{hot_at}
 use Rattle.backref.specs.Legacy.{is_single, single}
-use Rattle.definition.specs.Memory.{Input, word, Kept, in_map, in_slot, item, begins, Mem, Out, got, no, Reader, and_then, ◌>>=◌, ◌>>◌, choose, give, change, refuse_at, moved, with_skip, aligned, noted, tell, after_int, byte, int, has_room}
+use Rattle.definition.specs.Memory.{Input, word, Kept, in_map, in_slot, item, begins, Mem, Out, got, no, Reader, and_then, ◌>>=◌, ◌>>◌, give, change, refuse_at, moved, with_skip, aligned, noted, tell, after_int, byte, int, has_room}
 use Rattle.definition.specs.Slots.{add_value, add_slot, resolved, waits_of, keep_item, previous, place_item}
 use Rattle.definition.specs.Object.{peek, add_object, large_byte, change_chunk, allocate, alignment_byte, chunk_changes, map_first, read_map, flags, flag_object, keep_map, resolves, items, body, object}
 use Rattle.definition.specs.Reference.{skip_amount, backref_to, of_hot, hot_place, of_single, place_reference, after_first, legacy_reference, pending_reference, after_raw, raw_data, repeat_of, repeat_root, by_head, reference, ref_at}
@@ -55,7 +55,7 @@ seq r f h k m = then_known (r m) f (h m) k
 next : {A B : Type 0} (r : Reader A) (s : Reader B) → R r → R s → R (r >> s)
 next r s h k m = then_known (r m) (λ _. s) (h m) (λ _. k)
 
-pick : {A : Type 0} (t : Bool) (f g : Reader A) (m : Mem) → (t ≡ true → Known (f m)) → (t ≡ false → Known (g m)) → Known (choose t f g m)
+pick : {A : Type 0} (t : Bool) (f g : Reader A) (m : Mem) → (t ≡ true → Known (f m)) → (t ≡ false → Known (g m)) → Known ((if t then f else g) m)
 pick true f g m h k = h refl
 pick false f g m h k = k refl
 
@@ -134,11 +134,11 @@ number_low t n spaces want c =
     let d : Outcome = placed t n want c used in
     let e : Outcome = outcome 0 want.alignment c (written t n (address_row want.space 0 0 want.object 0)) in
     let f : Outcome = outcome 16 want.alignment c t in
-    picked (leb (room 5 t) n) (outcome 3 want.alignment c t) (pick_outcome (ltb 4294967295 want.size) f (pick_outcome (leb spaces want.space) e d)) (omega arith)
-    (picked (ltb 4294967295 want.size) f (pick_outcome (leb spaces want.space) e d) (omega arith)
+    picked (leb (room 5 t) n) (outcome 3 want.alignment c t) (if ltb 4294967295 want.size then f else if leb spaces want.space then e else d) (omega arith)
+    (picked (ltb 4294967295 want.size) f (if leb spaces want.space then e else d) (omega arith)
     (picked (leb spaces want.space) e d (omega arith) (picked full f g (omega arith) (omega arith))))
   where
-    picked : (b : Bool) (o p : Outcome) → o.number ≤ 16 → p.number ≤ 16 → (pick_outcome b o p).number ≤ 16
+    picked : (b : Bool) (o p : Outcome) → o.number ≤ 16 → p.number ≤ 16 → (if b then o else p).number ≤ 16
     picked true o p h k = h
     picked false o p h k = k
 
@@ -335,7 +335,7 @@ module _ (x : Input) where
   walk_known : R (walk x)
   unfolding walk closing
   walk_known =
-      next (byte x >>= (λ b. choose (opens x.sheet b) (object x (ref_at x 64) (top_space x b) 0) (refuse_at 5 0))) _
+      next (byte x >>= (λ b. if opens x.sheet b then object x (ref_at x 64) (top_space x b) 0 else refuse_at 5 0)) _
       (seq (byte x) _ (byte_known x) (λ b m. pick (opens x.sheet b) _ _ m (λ _. object_known (ref_at x 64) (ref_known 64) (top_space x b) 0 m) (λ _. omega arith)))
       (next (λ m. entries x (length x.payload - m.at + 1) m) _ (λ m. entries_known _ m) (λ m. padding_known _ m))
 

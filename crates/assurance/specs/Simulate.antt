@@ -2,7 +2,7 @@
 -- counts. The rules (`Pair`) say how far the payloads are the same, what the second reading's tables are, which refusals are compared, and how
 -- the bounds of the loops go together; from them every reader gives the same in both, reader by reader (SimulateSteps, SimulateLegacy,
 -- SimulateReaders, SimulateClosing). Quiet, Rooms, Prefix and Unused are four cases of it. Assumes nothing.
-use Rattle.std.specs.Prelude.{◌≡◌, refl, Bool, List, ℕ, suc, ◌+◌, ◌-◌, ◌*◌, ◌<◌, ◌≤◌, get_or, Option, Some, None}
+use Rattle.std.specs.Prelude.{if◌then◌else◌, ◌≡◌, refl, Bool, List, ℕ, suc, ◌+◌, ◌-◌, ◌*◌, ◌<◌, ◌≤◌, get_or, Option, Some, None}
 use Rattle.std.proofs.Common.{ap, ◌∙◌, arith}
 use Rattle.std.proofs.Math.Bool.{true, false}
 use borrow.Author.Tests.{ltb-true, lt-ltb}
@@ -13,7 +13,7 @@ use Rattle.stream.specs.PutInt.{int_at}
 use Rattle.stream.specs.Bytes.{peek_at}
 use Rattle.sheet.specs.Sheet.{is_legacy}
 use Rattle.tables.specs.Records.{field}
-use Rattle.definition.specs.Memory.{Input, Event, synchronize, Log, note, Table, table, Mem, Out, got, no, Reader, and_then, ◌>>=◌, ◌>>◌, choose, give, change, refuse, refuse_at, moved, noted, tell, cut, byte, after_int, int}
+use Rattle.definition.specs.Memory.{Input, Event, synchronize, Log, note, Table, table, Mem, Out, got, no, Reader, and_then, ◌>>=◌, ◌>>◌, give, change, refuse, refuse_at, moved, noted, tell, cut, byte, after_int, int, next_byte}
 use Rattle.definition.specs.Slots.{previous}
 use Rattle.definition.specs.Object.{peek}
 use Rattle.definition.specs.Closing.{ends_legacy}
@@ -191,7 +191,7 @@ module _ (S : Pair) where
             record { seen = record { fit = w.seen.fit; value = tt; up = omega arith; same = w.seen.same } }
         go (no n q m₂) w = record { seen = w.seen }
 
-    pub choose_at : (t : Bool) (f g f' g' : Reader A) → (t ≡ true → Follows S d P m (f m) (f' (φ S m))) → (t ≡ false → Follows S d P m (g m) (g' (φ S m))) → Follows S d P m (choose t f g m) (choose t f' g' (φ S m))
+    pub choose_at : (t : Bool) (f g f' g' : Reader A) → (t ≡ true → Follows S d P m (f m) (f' (φ S m))) → (t ≡ false → Follows S d P m (g m) (g' (φ S m))) → Follows S d P m ((if t then f else g) m) ((if t then f' else g') (φ S m))
     choose_at true f g f' g' y n = y refl
     choose_at false f g f' g' y n = n refl
 
@@ -212,7 +212,7 @@ module _ (S : Pair) where
   pub seq_law : {A B : Type 0} {d : ℕ} {P : A → Type 0} {Q : B → Type 0} {r r' : Reader A} {s s' : Reader B} → Alike S d P r r' → Alike S 0 Q s s' → Alike S d Q (r >> s) (r' >> s')
   seq_law w g = then_law w (λ a p. g)
 
-  pub choose_law : {A : Type 0} {d : ℕ} {P : A → Type 0} (t : Bool) {f g f' g' : Reader A} → Alike S d P f f' → Alike S d P g g' → Alike S d P (choose t f g) (choose t f' g')
+  pub choose_law : {A : Type 0} {d : ℕ} {P : A → Type 0} (t : Bool) {f g f' g' : Reader A} → Alike S d P f f' → Alike S d P g g' → Alike S d P (if t then f else g) (if t then f' else g')
   choose_law true y n = y
   choose_law false y n = n
 
@@ -241,7 +241,7 @@ module _ (S : Pair) where
   unfolding byte
   byte_law = record { at_law = (λ m fit. go m fit (ltb m.at (length S.x.payload)) refl) }
     where
-      go : (m : Mem) → Fits S m → (t : Bool) → ltb m.at (length S.x.payload) ≡ t → Follows S 1 Any m (choose t (λ m. got (get_or S.x.payload m.at 0) (moved (m.at + 1) m)) (cut S.x) m) (byte (x' S) (φ S m))
+      go : (m : Mem) → Fits S m → (t : Bool) → ltb m.at (length S.x.payload) ≡ t → Follows S 1 Any m ((if t then next_byte S.x else cut S.x) m) (byte (x' S) (φ S m))
       go m fit true e =
           let l : m.at < length S.x.payload = ltb-true _ _ e in
           gives (fit_moved (S.in_payload (m.at + 1) (omega arith)) fit) tt (omega arith)

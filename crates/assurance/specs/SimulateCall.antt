@@ -1,11 +1,11 @@
 -- Two readings compared: whole calls with the same payload. Assumes nothing.
-use Rattle.std.specs.Prelude.{◌≡◌, Bool, ℕ, ◌+◌, ◌<◌}
+use Rattle.std.specs.Prelude.{if◌then◌else◌, ◌≡◌, Bool, ℕ, ◌+◌, ◌<◌}
 use Rattle.std.proofs.Math.Path.{refl}
 use Rattle.std.proofs.Common.{sym, ◌∙◌, arith}
 use Rattle.std.proofs.Math.Bool.{true, false}
 use Rattle.std.proofs.lemmas.List.{length-replicate, replicate-append-replicate}
 use Rattle.sheet.specs.Sheet.{usable}
-use Rattle.definition.specs.Memory.{Input, Event, Log, note, Table, Mem, choose, refuse_at}
+use Rattle.definition.specs.Memory.{Input, Event, Log, note, Table, Mem, refuse_at}
 use Rattle.definition.specs.Slots.{previous}
 use Rattle.definition.specs.Closing.{ends_legacy}
 use Rattle.definition.specs.Call.{Rooms, Call, input_of, empty, start, walk, too_long, called}
@@ -89,7 +89,7 @@ module _ (c : Call) (rooms : Rooms) (W : Variant (input_of c)) where
   unfolding called
   called_law m fit = go (usable c.sheet) (too_long c)
     where
-      go : (t u : Bool) → Same calls (choose t (choose u (refuse_at 2 0) (walk (input_of c))) (refuse_at 1 0) m) (choose t (choose u (refuse_at 2 0) (walk (input_of c))) (refuse_at 1 0) (φ calls m))
+      go : (t u : Bool) → Same calls ((if t then (if u then refuse_at 2 0 else walk (input_of c)) else refuse_at 1 0) m) ((if t then (if u then refuse_at 2 0 else walk (input_of c)) else refuse_at 1 0) (φ calls m))
       go true true = λ v. refl
       go true false = walk-law calls (λ a. tt) refl m fit
       go false u = λ v. refl

@@ -1,5 +1,5 @@
 -- Two readings compared: the closing section, and a whole walk. Assumes nothing.
-use Rattle.std.specs.Prelude.{◌≡◌, Bool, leb, eqb, get_or}
+use Rattle.std.specs.Prelude.{if◌then◌else◌, ◌≡◌, Bool, leb, eqb, get_or}
 use Rattle.std.proofs.Math.Path.{refl}
 use Rattle.std.proofs.Common.{ap, ◌∙◌, arith, leb-true, leb-false, eqb-true, lt-ltb, le-leb}
 use Rattle.std.proofs.Math.Bool.{true, false}
@@ -15,7 +15,7 @@ use Rattle.tables.specs.declared.values.SlotValue.TheVariants.{Ref, Repeat, Repe
 use Rattle.tables.specs.declared.values.Fields.{Fields}
 use Rattle.tables.specs.Values.{fields_of}
 use Rattle.tables.specs.Records.{field}
-use Rattle.definition.specs.Memory.{Input, in_slot, dropped, value, begins, synchronize, Table, Mem, Out, got, no, Reader, and_then, ◌>>=◌, ◌>>◌, choose, give, refuse, refuse_at, moved, aligned, noted, tell, byte, int}
+use Rattle.definition.specs.Memory.{Input, in_slot, dropped, value, begins, synchronize, Table, Mem, Out, got, no, Reader, and_then, ◌>>=◌, ◌>>◌, give, refuse, refuse_at, moved, aligned, noted, tell, byte, int}
 use Rattle.definition.specs.Object.{peek, object}
 use Rattle.definition.specs.Reference.{ref_at}
 use Rattle.definition.specs.Closing.{entry_fields, add_slots, entry_slots, entry_count, entry_item, entry_items, entry_body, entry_of, entry, drop_reference, ends_legacy, after_entry, by_entry, entries, padding, closing}
@@ -48,7 +48,7 @@ entry_fields-wide k t ClearedWeak = refl
 entry_fields-wide k t (WeakRef i) = refl
 entry_fields-wide k t (PendingRef n) = refl
 
-entry_items_in : (x : Input) (o size n n₁ index done : ℕ) (m : Mem) → n ≡ suc n₁ → entry_items x o size n index done m ≡ choose (leb size done) (give tt) (ref_at x 64 >>= (λ v. entry_item x o index v >> entry_items x o size n₁ (index + entry_slots x v) (done + entry_count x v))) m
+entry_items_in : (x : Input) (o size n n₁ index done : ℕ) (m : Mem) → n ≡ suc n₁ → entry_items x o size n index done m ≡ (if leb size done then give tt else (ref_at x 64 >>= (λ v. entry_item x o index v >> entry_items x o size n₁ (index + entry_slots x v) (done + entry_count x v)))) m
 unfolding entry_items
 entry_items_in x o size n n₁ index done m e = rw e
 
@@ -60,7 +60,7 @@ pub sync_in : (x : Input) (k : Reader (Unit {0})) (m : Mem) → m.at < length x.
 sync_in x k m l = rw (byte_in x (noted (synchronize m.at) m) l)
 
 -- a turn of the section
-entries_out : (x : Input) (n n₁ : ℕ) (m : Mem) → n ≡ suc n₁ → length x.payload ≤ m.at → entries x n m ≡ choose (is_legacy x.sheet) (give tt) (refuse_at 13 (length x.payload)) m
+entries_out : (x : Input) (n n₁ : ℕ) (m : Mem) → n ≡ suc n₁ → length x.payload ≤ m.at → entries x n m ≡ (if is_legacy x.sheet then give tt else refuse_at 13 (length x.payload)) m
 unfolding entries
 entries_out x n n₁ m e l = rw (e, le-leb (length x.payload) m.at l)
 
@@ -72,7 +72,7 @@ entries_in x n n₁ b m e l f = rw (e, lt-leb (length x.payload) m.at l, f)
 
 -- the top object
 abbrev pub front : Input → Reader SlotValue
-front x = byte x >>= (λ b. choose (opens x.sheet b) (object x (ref_at x 64) (top_space x b) 0) (refuse_at 5 0))
+front x = byte x >>= (λ b. if opens x.sheet b then object x (ref_at x 64) (top_space x b) 0 else refuse_at 5 0)
 
 -- and the closing section, without what follows it
 abbrev pub ended : Input → Reader (Unit {0})
@@ -120,7 +120,7 @@ module _ (S : Pair) where
   entry_of_law : (f : Fields) → (f.kind ≡ 1 → Recorded S f.a) → Alike S 0 Any (entry_of S.x f) (entry_of (x' S) f)
   entry_of_law f recorded = go (eqb f.kind 1) refl
     where
-      go : (t : Bool) → eqb f.kind 1 ≡ t → Alike S 0 Any (choose t (int S.x >>= entry_body S.x f.a) (λ m. no 0 m.at m)) (choose t (int (x' S) >>= entry_body (x' S) f.a) (λ m. no 0 m.at m))
+      go : (t : Bool) → eqb f.kind 1 ≡ t → Alike S 0 Any (if t then int S.x >>= entry_body S.x f.a else refuse 0) (if t then int (x' S) >>= entry_body (x' S) f.a else refuse 0)
       go true e = then_law S (int_law S) (λ size _. entry_body_law f.a size (recorded (eqb-true _ _ e)))
       go false e = refuse_law S 0
 
@@ -158,7 +158,7 @@ module _ (S : Pair) where
   after_ends : {m : Mem} {o o' : Out (Unit {0})} (k k' : Reader (Unit {0})) → Follows S 1 Any m o o' → ((m₁ : Mem) → Fits S m₁ → m.at < m₁.at → Ends S m₁ (k m₁) (k' (φ S m₁))) → Ends S m (after_entry S.x k o) (after_entry (x' S) k' o')
   after_ends {m} {o} {o'} k k' w g = go o w
     where
-      refused : (t : Bool) (n q : ℕ) (m₁ : Mem) → ends_legacy S.x n ≡ t → Fits S m₁ → (S.Compared n → o' ≡ no n q (φ S m₁)) → Ends S m (choose t (give tt) (refuse_at n q) m₁) (after_entry (x' S) k' o')
+      refused : (t : Bool) (n q : ℕ) (m₁ : Mem) → ends_legacy S.x n ≡ t → Fits S m₁ → (S.Compared n → o' ≡ no n q (φ S m₁)) → Ends S m ((if t then give tt else refuse_at n q) m₁) (after_entry (x' S) k' o')
       refused true n q m₁ e f w = record { seen = (f, λ v. let compared = S.legacy_compared n e in (S.compared_shared n compared m.at, rw (w compared, e)), S.stop_legacy (and_parts _ _ e).0 m₁) }
       refused false n q m₁ e f w = record { seen = (f, λ v. rw (w v, e)) }
 
@@ -186,7 +186,7 @@ module _ (S : Pair) where
   entries_ends zero n' m fuel fit = record { seen = (fit, λ v. let z = S.fuel_zero 1 m.at n' v fuel in (z.1, rw z.0), S.stop_fuel m n' fit.inside fuel) }
   entries_ends (suc n) n' m fuel fit = turn (leb (length S.x.payload) m.at) refl (λ m₁ fit₁ l. entries_ends n (n' - 1) m₁ (S.fuel_step 1 m.at m₁.at n n' l fuel) fit₁)
     where
-      out : (t : Bool) → is_legacy S.x.sheet ≡ t → length S.x.payload ≤ m.at → Ends S m (choose t (give tt) (refuse_at 13 (length S.x.payload)) m) (entries (x' S) n' (φ S m))
+      out : (t : Bool) → is_legacy S.x.sheet ≡ t → length S.x.payload ≤ m.at → Ends S m ((if t then give tt else refuse_at 13 (length S.x.payload)) m) (entries (x' S) n' (φ S m))
       out true e l =
           let compared : S.Compared 4 = S.legacy_compared 4 (legacy-ends S.x 4 e refl) in
           let shared : S.Shared m.at = S.compared_shared 4 compared m.at in
@@ -195,7 +195,7 @@ module _ (S : Pair) where
       out false e l =
           record { seen = (fit, λ v. let same : S.p' ≡ S.x.payload = S.compared_same 13 v in entries_out (x' S) n' (n' - 1) (φ S m) (S.fuel_more 1 m.at n n' (S.compared_shared 13 v m.at) fuel) (rw same l) ∙ rw (e, same)) }
 
-      turn : (t : Bool) → leb (length S.x.payload) m.at ≡ t → ((m₁ : Mem) → Fits S m₁ → m.at < m₁.at → Ends S m₁ (entries S.x n m₁) (entries (x' S) (n' - 1) (φ S m₁))) → Ends S m (choose t (choose (is_legacy S.x.sheet) (give tt) (refuse_at 13 (length S.x.payload))) (tell (begins m.at) >> by_entry S.x (entries S.x n) (closing_of S.x.sheet (peek S.x m))) m) (entries (x' S) n' (φ S m))
+      turn : (t : Bool) → leb (length S.x.payload) m.at ≡ t → ((m₁ : Mem) → Fits S m₁ → m.at < m₁.at → Ends S m₁ (entries S.x n m₁) (entries (x' S) (n' - 1) (φ S m₁))) → Ends S m ((if t then (if is_legacy S.x.sheet then give tt else refuse_at 13 (length S.x.payload)) else (tell (begins m.at) >> by_entry S.x (entries S.x n) (closing_of S.x.sheet (peek S.x m)))) m) (entries (x' S) n' (φ S m))
       turn true e g = out (is_legacy S.x.sheet) refl (leb-true _ _ e)
       turn false e g =
           let l : m.at < length S.x.payload = leb-false _ _ e in
@@ -221,10 +221,10 @@ module _ (S : Pair) where
     unfolding padding
     padding-law zero m fit = (give_law S {P = Any} tt tt).at_law m fit
     padding-law (suc n) m fit =
-        via S (λ v. ap (λ p. choose (leb (length p) m.at) (give tt) (choose (is_nop S.x.sheet (peek (over S.x p) m)) (byte (x' S) >> padding (x' S) n) (choose (is_legacy S.x.sheet) (give tt) (refuse 14))) (φ S m)) same)
-        (choose_at S (leb (length S.x.payload) m.at) _ _ (give tt) (choose (is_nop S.x.sheet (peek S.x m)) (byte (x' S) >> padding (x' S) n) (choose (is_legacy S.x.sheet) (give tt) (refuse 14)))
+        via S (λ v. ap (λ p. (if leb (length p) m.at then give tt else if is_nop S.x.sheet (peek (over S.x p) m) then byte (x' S) >> padding (x' S) n else if is_legacy S.x.sheet then give tt else refuse 14) (φ S m)) same)
+        (choose_at S (leb (length S.x.payload) m.at) _ _ (give tt) (if is_nop S.x.sheet (peek S.x m) then byte (x' S) >> padding (x' S) n else if is_legacy S.x.sheet then give tt else refuse 14)
         (λ _. (give_law S {P = Any} tt tt).at_law m fit)
-        (λ _. choose_at S (is_nop S.x.sheet (peek S.x m)) _ _ (byte (x' S) >> padding (x' S) n) (choose (is_legacy S.x.sheet) (give tt) (refuse 14))
+        (λ _. choose_at S (is_nop S.x.sheet (peek S.x m)) _ _ (byte (x' S) >> padding (x' S) n) (if is_legacy S.x.sheet then give tt else refuse 14)
         (λ _. lower_at S (then_at S _ (λ _. padding (x' S) n) ((byte_law S).at_law m fit) (λ _ m₁ fit₁ _ up. padding-law n m₁ fit₁)))
         (λ _. (choose_law S (is_legacy S.x.sheet) (give_law S {P = Any} tt tt) (refuse_law S 14)).at_law m fit)))
 

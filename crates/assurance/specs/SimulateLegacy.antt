@@ -1,5 +1,5 @@
 -- Two readings compared: what only legacy sheets have, back-references by address and allocation. Assumes nothing.
-use Rattle.std.specs.Prelude.{◌≡◌, Bool, ◌||◌, get_or, Option, Some, None}
+use Rattle.std.specs.Prelude.{if◌then◌else◌, ◌≡◌, Bool, ◌||◌, get_or, Option, Some, None}
 use Rattle.std.proofs.Math.Path.{refl, ap, subst}
 use Rattle.std.proofs.Common.{sym, ◌∙◌, ⊎_elim, eq-or-lt_of_le, arith}
 use Rattle.std.proofs.Math.Bool.{true, false}
@@ -10,17 +10,17 @@ use Rattle.std.proofs.Math.Dec.{ltb, leb, eqb}
 use Rattle.sheet.specs.Sheet.{word_bytes}
 use Rattle.tables.specs.declared.values.Ref.{Ref}
 use Rattle.tables.specs.declared.values.SlotValue.{SlotValue}
-use Rattle.tables.specs.Values.{pick_ℕ, ref_fields, fields_of}
+use Rattle.tables.specs.Values.{ref_fields, fields_of}
 use Rattle.tables.specs.Records.{room, field, written, address_row}
 use Rattle.tables.proofs.RecordLaws.{written_same, written_else}
 use Rattle.alloc.specs.declared.legacy_alloc.LegacyAlloc.{LegacyAlloc}
 use Rattle.alloc.specs.declared.legacy_alloc.Request.{Request}
 use Rattle.alloc.specs.declared.resolve.Place.{Place}
 use Rattle.alloc.specs.Fill.{fill_to_align}
-use Rattle.alloc.specs.Resolve.{pick_found, is_address, addressed, or_else, resolve_of, ordinal_from}
-use Rattle.alloc.specs.Allocation.{Outcome, outcome, pick_outcome, advance_of, allocate_of}
-use Rattle.backref.specs.Legacy.{pick_ref, numbered_as, is_single, by_number, by_place, placed, index_of, number_in, unpacked, single}
-use Rattle.definition.specs.Memory.{word, table, Mem, choose, change, refuse, with_alloc, int, ◌>>=◌}
+use Rattle.alloc.specs.Resolve.{is_address, addressed, or_else, resolve_of, ordinal_from}
+use Rattle.alloc.specs.Allocation.{Outcome, outcome, advance_of, allocate_of}
+use Rattle.backref.specs.Legacy.{numbered_as, by_number, by_place, placed, index_of, unpacked, is_single, number_in, single}
+use Rattle.definition.specs.Memory.{word, table, Mem, change, refuse, with_alloc}
 use Rattle.definition.specs.Object.{after_allocation, allocate}
 use Rattle.definition.specs.Reference.{of_single, single_reference, place_reference, after_first, legacy_reference}
 use Rattle.assurance.specs.Wider.{resolve_of_same, ordinal_from_same}
@@ -41,7 +41,7 @@ RecordedFound S (Some o) = Recorded S o
 RecordedFound S None = Unit {0}
 
 module _ (S : Pair) (t : List ℕ) where
-  pick_recorded : (b : Bool) (f g : Option ℕ) → RecordedFound S f → RecordedFound S g → RecordedFound S (pick_found b f g)
+  pick_recorded : (b : Bool) (f g : Option ℕ) → RecordedFound S f → RecordedFound S g → RecordedFound S (if b then f else g)
   pick_recorded true f g y n = y
   pick_recorded false f g y n = n
 
@@ -58,7 +58,7 @@ module _ (S : Pair) (t : List ℕ) where
   resolve_recorded : (n space chunk offset alignment w : ℕ) → ((k : ℕ) → k < n → Recorded S (field 5 t k 3)) → RecordedFound S (resolve_of t n space chunk offset alignment w)
   unfolding resolve_of
   resolve_recorded n space chunk offset alignment w recorded =
-      or_else_recorded (addressed t space chunk offset n) (pick_found (eqb (fill_to_align offset alignment w) 0) None (addressed t space chunk (offset + fill_to_align offset alignment w) n))
+      or_else_recorded (addressed t space chunk offset n) (if eqb (fill_to_align offset alignment w) 0 then None else addressed t space chunk (offset + fill_to_align offset alignment w) n)
       (addressed_recorded space chunk offset n recorded)
       (pick_recorded (eqb (fill_to_align offset alignment w) 0) None (addressed t space chunk (offset + fill_to_align offset alignment w) n) tt (addressed_recorded space chunk (offset + fill_to_align offset alignment w) n recorded))
 
@@ -76,7 +76,7 @@ RecordedIf S (Some r) = RecordedRef S r
 RecordedIf S None = Unit {0}
 
 module _ (S : Pair) where
-  pick_ref_recorded : (b : Bool) (f g : Option Ref) → RecordedIf S f → RecordedIf S g → RecordedIf S (pick_ref b f g)
+  pick_ref_recorded : (b : Bool) (f g : Option Ref) → RecordedIf S f → RecordedIf S g → RecordedIf S (if b then f else g)
   pick_ref_recorded true f g y n = y
   pick_ref_recorded false f g y n = n
 
@@ -153,9 +153,9 @@ module _ (S : Pair) where
 
 -- from n records: what is given then, one record more where an object is placed
 abbrev mapped_outcome : TableMap 5 → ℕ → Outcome → Outcome
-mapped_outcome f n r = outcome r.number r.alignment r.alloc (f.rows (pick_ℕ (eqb r.number 0) (n + 1) n) r.table)
+mapped_outcome f n r = outcome r.number r.alignment r.alloc (f.rows (if eqb r.number 0 then n + 1 else n) r.table)
 
-pick-mapped : (f : TableMap 5) (n : ℕ) (b : Bool) (r s r' s' : Outcome) → r' ≡ mapped_outcome f n r → s' ≡ mapped_outcome f n s → pick_outcome b r' s' ≡ mapped_outcome f n (pick_outcome b r s)
+pick-mapped : (f : TableMap 5) (n : ℕ) (b : Bool) (r s r' s' : Outcome) → r' ≡ mapped_outcome f n r → s' ≡ mapped_outcome f n s → (if b then r' else s') ≡ mapped_outcome f n (if b then r else s)
 pick-mapped f n true r s r' s' y z = y
 pick-mapped f n false r s r' s' y z = z
 
@@ -191,7 +191,7 @@ module _ (S : Pair) (t : List ℕ) (n spaces : ℕ) (want : Request) (c : Legacy
   abbrev RecordedRows : Outcome → Type 0
   RecordedRows r = r.number ≡ 0 → (j : ℕ) → j < n + 1 → Recorded S (field 5 r.table j 3)
 
-  pick_rows : (b : Bool) (r s : Outcome) → RecordedRows r → RecordedRows s → RecordedRows (pick_outcome b r s)
+  pick_rows : (b : Bool) (r s : Outcome) → RecordedRows r → RecordedRows s → RecordedRows (if b then r else s)
   pick_rows true r s y n = y
   pick_rows false r s y n = n
 
@@ -236,7 +236,7 @@ module _ (S : Pair) where
       go : (m : Mem) → Fits S m → (r r' : Outcome) → (r.number ≡ 0 → (j : ℕ) → j < m.addresses.count + 1 → Recorded S (field 5 r.table j 3)) → ((r.number ≡ 3 → S.Compared 3) → r' ≡ mapped_outcome S.maps.addresses m.addresses.count r) → Follows S 0 Any m (after_allocation r m) (after_allocation r' (φ S m))
       go m fit r r' rows e = turn (eqb r.number 0) refl
         where
-          turn : (b : Bool) → eqb r.number 0 ≡ b → Follows S 0 Any m (choose b (change (with_alloc (table r.table (m.addresses.count + 1)) r.alignment r.alloc)) (refuse r.number) m) (after_allocation r' (φ S m))
+          turn : (b : Bool) → eqb r.number 0 ≡ b → Follows S 0 Any m ((if b then change (with_alloc (table r.table (m.addresses.count + 1)) r.alignment r.alloc) else refuse r.number) m) (after_allocation r' (φ S m))
           turn true z =
               let placed : r.number ≡ 0 = eqb-true _ _ z in
               gives S (record { inside = fit.inside; logged = fit.logged; filed = fit.filed; objects_length = fit.objects_length; slots_within = fit.slots_within; recorded = rows placed }) tt (omega arith) (λ v. rw (e (λ three. absurd (omega arith)), z))

@@ -1,5 +1,5 @@
 -- Two readings compared: items, objects and references. Assumes nothing.
-use Rattle.std.specs.Prelude.{◌≡◌, refl, Bool, true, false, not, ◌&&◌, ◌||◌, List, leb, length}
+use Rattle.std.specs.Prelude.{if◌then◌else◌, ◌≡◌, refl, Bool, true, false, not, ◌&&◌, ◌||◌, List, leb, length}
 use Rattle.std.proofs.Common.{ap, arith}
 use Prim.Native.Nat.{ℕ, zero, suc, ◌+◌, ◌-◌, ◌*◌, ◌/◌, ◌^◌}
 use Rattle.std.proofs.Math.Dec.{eqb}
@@ -15,7 +15,7 @@ use Rattle.tables.specs.declared.values.Ref.TheVariants.{Object, Root, RoRef, At
 use Rattle.tables.specs.declared.values.SlotValue.{SlotValue}
 use Rattle.tables.specs.declared.values.SlotValue.TheVariants.{Ref, Repeat, RepeatPrev, Skip, StreamBytes, Raw, ClearedWeak, WeakRef, PendingRef}
 use Rattle.tables.specs.Values.{fields_of, width_of}
-use Rattle.definition.specs.Memory.{Input, word, in_map, in_slot, item, Mem, Reader, ◌>>=◌, ◌>>◌, choose, give, change, moved, with_skip, aligned, byte, int}
+use Rattle.definition.specs.Memory.{Input, word, in_map, in_slot, item, Mem, Reader, ◌>>=◌, ◌>>◌, give, change, moved, with_skip, aligned, byte, int}
 use Rattle.definition.specs.Slots.{resolved, waits_of, keep_item, previous, repeat_previous as repeatPreviousSlot, place_item}
 use Rattle.definition.specs.Object.{peek, large_byte, change_chunk, alignment_byte, chunk_changes, map_first, map_then_allocate, read_map, flags, flag_object, keep_map, resolves, items, body, object}
 use Rattle.definition.specs.Closing.{ends_legacy}
@@ -25,11 +25,11 @@ use Rattle.assurance.specs.SimulateSteps.{add_value_law, add_object_law, add_slo
 use Rattle.assurance.specs.SimulateLegacy.{legacy_reference_law, allocate_law}
 
 -- a turn of each loop, at the byte that it peeks at
-resolves_in : (x : Input) (o n n₁ b : ℕ) (m : Mem) → n ≡ suc n₁ → peek x m ≡ b → resolves x o n m ≡ choose (is_resolve x.sheet b) (byte x >> int x >>= (λ number. change (resolved number o)) >> resolves x o n₁) (give tt) m
+resolves_in : (x : Input) (o n n₁ b : ℕ) (m : Mem) → n ≡ suc n₁ → peek x m ≡ b → resolves x o n m ≡ (if is_resolve x.sheet b then byte x >> int x >>= (λ number. change (resolved number o)) >> resolves x o n₁ else give tt) m
 unfolding resolves
 resolves_in x o n n₁ b m e f = rw (e, f)
 
-items_in_lem : (x : Input) (r : Reader SlotValue) (o size n n₁ done b : ℕ) (m : Mem) → n ≡ suc n₁ → peek x m ≡ b → items x r o size n done m ≡ choose (leb size done) (give done) (choose (is_deferred x.sheet b) (byte x >> give size) (r >>= place_item x o done >>= items x r o size n₁)) m
+items_in_lem : (x : Input) (r : Reader SlotValue) (o size n n₁ done b : ℕ) (m : Mem) → n ≡ suc n₁ → peek x m ≡ b → items x r o size n done m ≡ (if leb size done then give done else if is_deferred x.sheet b then byte x >> give size else (r >>= place_item x o done >>= items x r o size n₁)) m
 unfolding items
 items_in_lem x r o size n n₁ done b m e f = rw (e, f)
 
@@ -121,7 +121,7 @@ module _ (S : Pair) where
     unfolding chunk_changes
     chunk_changes-law space zero m fit = (give_law S {P = Any} tt tt).at_law m fit
     chunk_changes-law space (suc n) m fit =
-        via S (λ v. ap (λ p. choose (is_next_chunk S.x.sheet (peek (over S.x p) m) && eqb (peek_at p (m.at + 1)) space) (change (λ m. change_chunk (x' S) space (moved (m.at + 2) m)) >> chunk_changes (x' S) space n) (give tt) (φ S m)) same)
+        via S (λ v. ap (λ p. (if is_next_chunk S.x.sheet (peek (over S.x p) m) && eqb (peek_at p (m.at + 1)) space then change (λ m. change_chunk (x' S) space (moved (m.at + 2) m)) >> chunk_changes (x' S) space n else give tt) (φ S m)) same)
         (choose_at S (is_next_chunk S.x.sheet (peek S.x m) && eqb (peek_at S.x.payload (m.at + 1)) space) _ _ (change (λ m. change_chunk (x' S) space (moved (m.at + 2) m)) >> chunk_changes (x' S) space n) (give tt)
         (λ _. then_at S _ (λ _. chunk_changes (x' S) space n) ((change_law S (λ m. change_chunk S.x space (moved (m.at + 2) m)) (λ m. change_chunk (x' S) space (moved (m.at + 2) m)) (λ m fit. fit_moved (S.in_legacy legacy (m.at + 2)) fit) (λ m. omega arith) (λ m fit. refl)).at_law m fit) (λ a m₁ fit₁ _ up. chunk_changes-law space n m₁ fit₁))
         (λ _. (give_law S {P = Any} tt tt).at_law m fit))
@@ -154,7 +154,7 @@ module _ (S : Pair) where
     read_map-law : (space bytes o : ℕ) → Recorded S o → Alike S 0 Any (read_map S.x r space bytes o) (read_map (x' S) r' space bytes o)
     read_map-law space bytes o recorded = go (is_map_first S.x.sheet) refl
       where
-        go : (t : Bool) → is_map_first S.x.sheet ≡ t → Alike S 0 Any (choose t (map_first S.x r space bytes o) (choose (is_legacy S.x.sheet) (map_then_allocate S.x r space bytes o) r)) (choose t (map_first (x' S) r' space bytes o) (choose (is_legacy S.x.sheet) (map_then_allocate (x' S) r' space bytes o) r'))
+        go : (t : Bool) → is_map_first S.x.sheet ≡ t → Alike S 0 Any (if t then map_first S.x r space bytes o else if is_legacy S.x.sheet then map_then_allocate S.x r space bytes o else r) (if t then map_first (x' S) r' space bytes o else if is_legacy S.x.sheet then map_then_allocate (x' S) r' space bytes o else r')
         go true e = map_first-law (and_parts _ _ e).0 space bytes o recorded
         go false e = choose_law S (is_legacy S.x.sheet) (then_law S (lower S law) (λ v _. seq_law S (allocate_law S space bytes o recorded) (give_law S v tt))) (lower S law)
 

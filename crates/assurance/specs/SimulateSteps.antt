@@ -1,5 +1,5 @@
 -- Two readings compared: the steps that touch the tables, and the references without others in them. Assumes nothing.
-use Rattle.std.specs.Prelude.{◌≡◌, refl, Bool, set, replicate, Option, Some, None}
+use Rattle.std.specs.Prelude.{if◌then◌else◌, ◌≡◌, refl, Bool, set, replicate, Option, Some, None}
 use Rattle.std.proofs.Math.Path.{ap, ap₂}
 use Rattle.std.proofs.Common.{◌∙◌, ltb-true, ltb-false, lt-ltb, le-ltb}
 use Rattle.std.proofs.Math.Bool.{true, false}
@@ -9,15 +9,14 @@ use native.Mathlib.Omega.{arith}
 use Rattle.std.proofs.Math.Dec.{ltb}
 use Rattle.std.proofs.Math.ListN.{length, length-set}
 use Rattle.std.proofs.lemmas.List.{set-append_left}
-use Rattle.stream.specs.Bytes.{pick_range, raw_at}
+use Rattle.stream.specs.Bytes.{raw_at}
 use Rattle.tables.specs.declared.values.Ref.{Ref}
 use Rattle.tables.specs.declared.values.Ref.TheVariants.{Object}
 use Rattle.tables.specs.declared.values.Fields.{Fields}
-use Rattle.tables.specs.Values.{pick_ℕ}
 use Rattle.tables.specs.Records.{room, field, object_row, slot_row, value_row}
 use Rattle.tables.proofs.RecordLaws.{record_end, written_length, filled_length}
 use Rattle.backref.specs.HotRing.{hot_at}
-use Rattle.definition.specs.Memory.{word, Kept, in_value, opened, passed, value, resolve, Table, table, Mem, got, choose, change, refuse, with_objects, with_slots, with_values, with_pending, noted, has_room, added, append}
+use Rattle.definition.specs.Memory.{word, Kept, in_value, opened, passed, value, resolve, Table, table, Mem, change, refuse, with_objects, with_slots, with_values, with_pending, noted, has_room, added, append, appended}
 use Rattle.definition.specs.Slots.{add_value, counted, add_slot, waits_for, waiter, fill_waiter, resolved}
 use Rattle.definition.specs.Object.{add_object, flagged}
 use Rattle.definition.specs.Reference.{skip_amount, refers_hot, backref_to, of_hot, hot_place, pending_reference, after_raw, raw_data}
@@ -30,7 +29,7 @@ unfolding waiter
 waiter_low st number zero = omega arith
 waiter_low st number (suc n) = go (waits_for st number n) (waiter_low st number n)
   where
-    go : (t : Bool) → waiter st number n ≤ n → pick_ℕ t (suc n) (waiter st number n) ≤ suc n
+    go : (t : Bool) → waiter st number n ≤ n → (if t then suc n else waiter st number n) ≤ suc n
     go true h = omega arith
     go false h = omega arith
 
@@ -47,7 +46,7 @@ module _ (S : Pair) where
   append_law : (fields : ℕ) (b : TableMap fields) (t : Mem → Table) (f f' : Mem → Mem) (P : ℕ → Type 0) → 0 < fields → (S.Compared 3 → SameLength b) → ((m : Mem) → t (φ S m) ≡ mapped b (t m)) → ((m : Mem) → Fits S m → (t m).count < room fields (t m).rows → (Fits S (f m)) × (P (t m).count) × (m.at ≤ (f m).at) × (f' (φ S m) ≡ φ S (f m))) → Alike S 0 P (append fields t f) (append fields t f')
   append_law fields b t f f' P pos full e on = record { at_law = (λ m fit. go m fit (has_room fields (t m)) refl) }
     where
-      go : (m : Mem) → Fits S m → (y : Bool) → has_room fields (t m) ≡ y → Follows S 0 P m (choose y (λ m. got (t m).count (f m)) (refuse 3) m) (append fields t f' (φ S m))
+      go : (m : Mem) → Fits S m → (y : Bool) → has_room fields (t m) ≡ y → Follows S 0 P m ((if y then appended t f else refuse 3) m) (append fields t f' (φ S m))
       go m fit true r =
           let l : (t m).count < room fields (t m).rows = ltb-true _ _ r in
           let z = on m fit l in
@@ -152,7 +151,7 @@ module _ (S : Pair) where
   unfolding raw_data raw_at
   raw_data_law n advances = record { at_law = (λ m fit. go m fit (ltb (length S.x.payload) (m.at + n)) refl) }
     where
-      go : (m : Mem) → Fits S m → (b : Bool) → ltb (length S.x.payload) (m.at + n) ≡ b → Follows S 0 Any m (after_raw n advances (pick_range b None (Some (m.at + n))) m) (raw_data (x' S) n advances (φ S m))
+      go : (m : Mem) → Fits S m → (b : Bool) → ltb (length S.x.payload) (m.at + n) ≡ b → Follows S 0 Any m (after_raw n advances (if b then None else Some (m.at + n)) m) (raw_data (x' S) n advances (φ S m))
       go m fit true e = stops S fit (λ v. rw (S.compared_same 7 v, e))
       go m fit false e =
           gives S (fit_noted (passed m.at n) (fit_moved (S.in_payload (m.at + n) (ltb-false _ _ e)) fit)) tt (omega arith) (λ v. rw (le-ltb (length S.p') (m.at + n) (S.on_raw (m.at + n) v (ltb-false _ _ e)), S.on_note (passed m.at n) m.log))

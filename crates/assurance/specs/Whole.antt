@@ -1,5 +1,5 @@
 -- What the rules keep holds of every accepted payload, under a plain sheet. Assumes nothing.
-use Rattle.std.specs.Prelude.{◌≡◌, ◌≢◌, leb, eqb, get_or}
+use Rattle.std.specs.Prelude.{if◌then◌else◌, ◌≡◌, ◌≢◌, leb, eqb, get_or}
 use Rattle.std.proofs.Math.Path.{refl, sym, subst}
 use Rattle.std.proofs.Common.{◌∙◌}
 use Rattle.std.proofs.Math.Bool.{true, false}
@@ -15,7 +15,7 @@ use Rattle.sheet.specs.Tests.{opens, is_nop}
 use Rattle.std.proofs.lemmas.Bool.{eqb-false, and_parts}
 use Rattle.tables.specs.declared.values.SlotValue.{SlotValue}
 use Rattle.tables.specs.Values.{fields_of}
-use Rattle.definition.specs.Memory.{Input, value, dropped, begins, synchronize, Table, Mem, Out, got, no, Reader, ◌>>=◌, ◌>>◌, choose, change, tell, refuse_at, moved, aligned, noted, byte}
+use Rattle.definition.specs.Memory.{Input, value, dropped, begins, synchronize, Table, Mem, Out, got, no, Reader, ◌>>=◌, ◌>>◌, change, tell, refuse_at, moved, aligned, noted, byte}
 use Rattle.definition.specs.Object.{peek, object}
 use Rattle.definition.specs.Reference.{ref_at}
 use Rattle.definition.specs.Closing.{drop_reference, ends_legacy, after_entry, by_entry, entries, padding, closing}
@@ -139,7 +139,7 @@ module _ (x : Input) (bytes : Bytes x.payload) (plainly : PlainSheet x.sheet) wh
     pub walk_has : (m : Mem) → m.at ≡ 0 → G m → Gives (λ u. End) (walk x m)
     unfolding walk closing
     walk_has m z g =
-        let R : Reader SlotValue = byte x >>= (λ b. choose (opens x.sheet b) (object x (ref_at x 64) (top_space x b) 0) (refuse_at 5 0)) in
+        let R : Reader SlotValue = byte x >>= (λ b. if opens x.sheet b then object x (ref_at x 64) (top_space x b) 0 else refuse_at 5 0) in
         let H : SlotValue → Mem → Type 0 = Has x bytes plainly I W rules [] in
         let Q : ℕ → Mem → Type 0 = λ b m. (G m) × (m.at ≡ 1) × (opens x.sheet b ≡ true → OpensAt x 0) in
         gives_then H (λ u. End) (R m) _

@@ -3,18 +3,19 @@ use mathlib.Core.Path.{◌≡◌, refl}
 use mathlib.Core.Bool.{Bool, true, false}
 use mathlib.Core.List.{List}
 use mathlib.Core.Logic.{⊎_elim}
-use Prim.Native.Nat.{ℕ, ◌+◌, ◌-◌, ◌*◌, ◌%◌, ◌^◌, ◌<◌, ◌≤◌}
+use Prim.Native.Nat.{ℕ, ◌-◌, ◌*◌, ◌%◌, ◌^◌, ◌<◌, ◌≤◌}
 use native.Mathlib.Nat.{mod-lt, lt_of_lt_of_le, mul-le-mul_left}
 use native.Mathlib.Omega.{arith}
 use lib.Dec.{eqb}
 use lib.Pow.{pow_pos, pow_mono}
-use Rattle.sheet.specs.Sheet.{pick_ℕ, space_tag_size, page_size_bits, word_bytes, usable}
+use Rattle.std.specs.Prelude.{if◌then◌else◌}
+use Rattle.sheet.specs.Sheet.{space_tag_size, page_size_bits, word_bytes, usable}
 use Rattle.sheet.proofs.UsableSheet.{usable_gives}
 use Rattle.backref.specs.Legacy.{offset_bits, index_of}
 
 -- ---- what a usable sheet bounds
 
-two_or_three : (b : Bool) → 2 ≤ pick_ℕ b 2 3
+two_or_three : (b : Bool) → 2 ≤ (if b then 2 else 3)
 two_or_three true = omega arith
 two_or_three false = omega arith
 

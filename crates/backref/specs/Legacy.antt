@@ -1,7 +1,7 @@
 -- Legacy back-references: what the integers of one stand for, as the Rust's `legacy_backref` has it.
 -- Assumes nothing: these are definitions.
-use Rattle.std.specs.Prelude.{Bool, true, false, not, ◌||◌, List, ℕ, ◌-◌, ◌*◌, ◌/◌, ◌%◌, ◌^◌, eqb, Option, Some, None}
-use Rattle.sheet.specs.Sheet.{pick_ℕ, is_six_x, map_space, lo_space, space_tag_size, page_size_bits, word_bytes}
+use Rattle.std.specs.Prelude.{if◌then◌else◌, Bool, not, ◌||◌, List, ℕ, ◌-◌, ◌*◌, ◌/◌, ◌%◌, ◌^◌, eqb, Option, Some, None}
+use Rattle.sheet.specs.Sheet.{is_six_x, map_space, lo_space, space_tag_size, page_size_bits, word_bytes}
 use Rattle.tables.specs.declared.values.Ref.{Ref}
 use Rattle.tables.specs.declared.values.Ref.TheVariants.{Object, RoRef}
 use Rattle.alloc.specs.declared.resolve.Place.{Place}
@@ -10,7 +10,7 @@ use Rattle.alloc.specs.Resolve.{resolve_of, ordinal_from}
 -- map and large objects are referred to by number. Spaces kMapSpace and kLoSpace refer, but spaces
 -- 4 and 5 are numbered (difference D27); 0 for a space that is not numbered
 abbrev pub numbered_as : List ℕ → ℕ → ℕ
-numbered_as v space = pick_ℕ (eqb space (map_space v)) 4 (pick_ℕ (eqb space (lo_space v)) 5 0)
+numbered_as v space = if eqb space (map_space v) then 4 else if eqb space (lo_space v) then 5 else 0
 
 -- a back-reference to a space has one integer: in 6.x, and where the space is numbered. Else it has
 -- two, a chunk and an offset
@@ -39,7 +39,7 @@ placed v t n alignment space place =
 
 -- 6.x: of the one integer the low bits are an index: a number, or a chunk above an offset in words
 abbrev pub word_bits : List ℕ → ℕ
-word_bits v = pick_ℕ (eqb (word_bytes v) 4) 2 3
+word_bits v = if eqb (word_bytes v) 4 then 2 else 3
 
 abbrev pub offset_bits : List ℕ → ℕ
 offset_bits v = page_size_bits v - word_bits v
@@ -52,14 +52,10 @@ unpacked v index = record { chunk = index / 2 ^ offset_bits v; offset = index % 
 
 -- the number that an integer gives
 abbrev pub number_in : List ℕ → ℕ → ℕ
-number_in v value = pick_ℕ (is_six_x v) (index_of v value) value
-
-abbrev pub pick_ref : Bool → Option Ref → Option Ref → Option Ref
-pick_ref true a b = a
-pick_ref false a b = b
+number_in v value = if is_six_x v then index_of v value else value
 
 -- what the integer of a back-reference that has one stands for; none: no object has the number
 unfoldable pub single : List ℕ → List ℕ → ℕ → ℕ → ℕ → ℕ → Option Ref
 single v t n alignment space value =
-    pick_ref (eqb (numbered_as v space) 0) (Some (placed v t n alignment space (unpacked v (index_of v value))))
-    (numbered v t n space (number_in v value))
+    if eqb (numbered_as v space) 0 then Some (placed v t n alignment space (unpacked v (index_of v value)))
+    else numbered v t n space (number_in v value)

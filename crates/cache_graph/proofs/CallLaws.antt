@@ -35,13 +35,14 @@ use Rattle.walker.specs.Ready.{Ready}
 use Rattle.cache_graph.specs.declared.parse.Tables.{Tables}
 use Rattle.cache_graph.specs.declared.parse.Graph.{Graph}
 use Rattle.cache_graph.specs.declared.parse.Refused.{Refused}
-use Rattle.cache_graph.specs.Promise.{rooms_in, answer, graph_of, Reads, Assures, Cleared, Prepared, Started, begun_in, Ended}
-use Rattle.cache_graph.specs.SecondCall.{accepted_graph}
+use Rattle.cache_graph.specs.Promise.{rooms_in, answer, graph_of, RefusalNumber, Reads, Assures, Cleared, Prepared, Started, begun_in, Ended}
+use Rattle.cache_graph.specs.SecondCall.{SecondCalls}
+use Rattle.cache_graph.proofs.SecondLaws.{accepted_graph, second_calls}
 
 -- ---- the start
 
 abbrev pub first : State
-first = record { at = 0; objects = 0; slots = 0; values = 0; addresses = 0; pending = 0; waiting = 0; skip = 0; alignment = 0 }
+first = record { at = 0; objects = 0; slots = 0; values = 0; addresses = 0; pending = 0; waiting = 0; skip = 0; alignment = 0; long_integers = 0 }
 
 pub same_input : (c : Call) {k : ℕ} → k ≡ spaces_of c.reservations → input c.sheet c.payload k c.trusted ≡ input_of c
 same_input c e = rw e
@@ -145,14 +146,18 @@ module _ (c : Call) (rooms : Rooms) where
     -- refused, with all cleared
     pub reads_refused : (f : Refused) → (m : Mem) × (called c (begun_in t) ≡ no (number_of f.refusal) f.place m) → {after : Rooms} → after ≡ rooms_in t → {ot st vt dt : List ℕ} → Cleared after ot st vt dt → Reads c rooms (answer (Err f)) ot st vt dt
     reads_refused f w s {ot} {st} {vt} {dt} y =
-        let z = subst (λ (r : Rooms). Cleared r ot st vt dt) (s ∙ prepared_rooms p) y in
+        let z : Cleared rooms ot st vt dt = subst (λ (r : Rooms). Cleared r ot st vt dt) (s ∙ prepared_rooms p) y in
         reads (no (number_of f.refusal) f.place (cleaned w.0)) (from_zeros ∙ ap clean w.1) refl z.objects_zero z.slots_zero z.values_zero z.addresses_zero
 
     -- a refusal has a number
-    pub numbered : (f : Refused) → (m : Mem) × (called c (begun_in t) ≡ no (number_of f.refusal) f.place m) → 0 < number_of f.refusal
-    numbered f w = (subst Known (from_zeros ∙ ap clean w.1) (refusal_known c (start rooms off))).0
+    pub numbered : (f : Refused) → (m : Mem) × (called c (begun_in t) ≡ no (number_of f.refusal) f.place m) → RefusalNumber (number_of f.refusal)
+    numbered f w = subst Known (from_zeros ∙ ap clean w.1) (refusal_known c (start rooms off))
 
-  -- demand 3
+    -- and leaves every number zero
+    pub cleared : {after : Rooms} → after ≡ rooms_in t → {ot st vt dt : List ℕ} → Cleared after ot st vt dt → Cleared rooms ot st vt dt
+    cleared s {ot} {st} {vt} {dt} y = subst (λ (r : Rooms). Cleared r ot st vt dt) (s ∙ prepared_rooms p) y
+
+  -- what is guaranteed, of it and of a second call
   pub assures : {r : Answer} {ot st vt dt : List ℕ} → Reads c rooms r ot st vt dt → Bytes c.payload → plain c.sheet ≡ true → r.number ≡ 0 → Assures c rooms r ot st vt dt
   assures {r} w b p z =
       let g = accepted_graph c rooms r w.outcome z in
@@ -167,10 +172,14 @@ module _ (c : Call) (rooms : Rooms) where
         values_held = table_is (w.values_are ∙ ap (table_of (λ m. m.values) rooms.values) e) (ap (λ (a : Answer). a.values) a);
         addresses_held = table_is (w.addresses_are ∙ ap (table_of (λ m. m.addresses) rooms.addresses) e) (ap (λ (a : Answer). a.addresses) a);
         end_held = sym (ap (λ (a : Answer). a.end) a);
+        long_held = sym (ap (λ (a : Answer). a.long_integers) a);
       }
     where
       table_is : {t : Table} {rows : List ℕ} {count : ℕ} → rows ≡ t.rows → count ≡ t.count → t ≡ table rows count
       table_is h e = λ i. table (sym h i) (sym e i)
+
+  pub seconds : {r : Answer} {ot st vt dt : List ℕ} → Reads c rooms r ot st vt dt → Bytes c.payload → plain c.sheet ≡ true → r.number ≡ 0 → SecondCalls c rooms r ot st vt dt
+  seconds {r} {ot} {st} {vt} {dt} w b p z = second_calls c rooms r ot st vt dt (assures w b p z)
 
 -- ---- what the code's steps give
 

@@ -1,1 +1,2 @@
+pub mod SecondLaws
 pub mod CallLaws

@@ -36,15 +36,26 @@ rooms_in t = rooms_of t.objects.now t.slots.now t.values.now t.addresses.now
 -- the answer as the definition's numbers
 abbrev pub graph_answer : Graph → Answer
 graph_answer g =
-    record { number = 0; objects = g.objects; slots = g.slots; values = g.values; addresses = g.addresses; end = g.end; place = 0 }
+    record { number = 0; objects = g.objects; slots = g.slots; values = g.values; addresses = g.addresses; end = g.end; place = 0; long_integers = g.long_integers }
 
 abbrev pub refused_answer : Refused → Answer
 refused_answer e =
-    record { number = number_of e.refusal; objects = 0; slots = 0; values = 0; addresses = 0; end = 0; place = e.place }
+    record { number = number_of e.refusal; objects = 0; slots = 0; values = 0; addresses = 0; end = 0; place = e.place; long_integers = 0 }
 
 abbrev pub answer : Result Graph Refused → Answer
 answer (Ok g) = graph_answer g
 answer (Err e) = refused_answer e
+
+-- the number of a refusal: docs/FORMAT.md, "Refusals"
+abbrev pub RefusalNumber : ℕ → Type 0
+RefusalNumber n = (1 ≤ n) × (n ≤ 16)
+
+-- what the definition gives of a call
+abbrev pub IsAccepted : Call → Rooms → Type 0
+IsAccepted c rooms = (m : Mem) × (graph c rooms ≡ got tt m)
+
+abbrev pub IsRefused : Call → Rooms → Type 0
+IsRefused c rooms = (n : ℕ) × (q : ℕ) × (m : Mem) × (graph c rooms ≡ no n q m)
 
 -- demand 2: the answer, and every number of every table, after a refusal too, are what the definition gives
 pub record Reads (c : Call) (rooms : Rooms) (r : Answer) (objects slots values addresses : List ℕ) : Type 0 where
@@ -64,6 +75,7 @@ pub record Assures (c : Call) (rooms : Rooms) (r : Answer) (objects slots values
   pub values_held : held.values ≡ table values r.values
   pub addresses_held : held.addresses ≡ table addresses r.addresses
   pub end_held : held.at ≡ r.end
+  pub long_held : held.long_integers ≡ r.long_integers
 
 -- the call writes what was lent, and lends nothing else in its place
 pub record SameTables (t t' : Tables) : Type 0 where
@@ -77,7 +89,7 @@ pub record SameTables (t t' : Tables) : Type 0 where
 
 -- what it answers, as the call does
 abbrev pub graph_of : State → Graph
-graph_of s = record { objects = s.objects; slots = s.slots; values = s.values; addresses = s.addresses; end = s.at }
+graph_of s = record { objects = s.objects; slots = s.slots; values = s.values; addresses = s.addresses; end = s.at; long_integers = s.long_integers }
 
 abbrev pub refused_of : WalkRefused → Refused
 refused_of e = record { refusal = e.refusal; place = e.place }

@@ -4,7 +4,8 @@ ghost use Rattle.refusals.specs.Numbers.{number_of};
 ghost use Rattle.sheet.specs.Sheet as Sheet;
 ghost use Rattle.definition.specs.Call as Definition;
 ghost use Rattle.assurance.specs.Unused.{zeros_from};
-ghost use Rattle.cache_graph.specs.Promise.{call_of, entered, rooms_in, answer, graph_of, refused_of, Reads, Assures, SameTables, Cleared, Prepared, Fitting, Trimmed, Started, begun_in, Walked};
+ghost use Rattle.cache_graph.specs.Promise.{call_of, entered, rooms_in, answer, graph_of, refused_of, RefusalNumber, Reads, Assures, SameTables, Cleared, Prepared, Fitting, Trimmed, Started, begun_in, Walked};
+ghost use Rattle.cache_graph.specs.SecondCall.{SecondCalls};
 
 use address_index::layout::LISTED_SPACES;
 use alloc::legacy_alloc::{LegacyAlloc, spaces};
@@ -43,6 +44,7 @@ pub struct Graph {
     pub values: u64,
     pub addresses: u64,
     pub end: u64,
+    pub long_integers: u64,
 }
 
 // Why a payload is refused, and where.
@@ -62,6 +64,7 @@ impl From<State> for Graph {
             values: s.values as u64,
             addresses: s.addresses as u64,
             end: s.at as u64,
+            long_integers: s.long_integers,
         }
     }
 }
@@ -188,6 +191,7 @@ fn walk_payload<'a>(
         waiting: 0,
         skip: 0,
         alignment: 0,
+        long_integers: 0,
     };
     let ((), s) = walk(&mut w, start)?;
     Ok(Graph::from(s))
@@ -215,13 +219,20 @@ fn read(call: Call<'_>, tables: &mut Tables<'_>) -> Result<Graph, Refused>
     walk_payload(call, &heads, lent)
 }
 
-// The object graph of a payload, in the four tables. `Reads` says what the answer and the tables are, in refusal too; `Assures` says what
-// is guaranteed of an accepted payload under a plain sheet. Both hold whatever the tables hold before, for every length of scratch and
-// whatever it holds; what scratch holds at the end is not said. A refusal has a number above 0, and the tables that were lent are the ones that are written.
+/// The object graph of a payload, in the four tables; or a refusal's number, 1 to 16, with its place.
+///
+/// `reads` says what the answer and every number of the tables are, after a refusal too. `assured` says
+/// what is guaranteed of an accepted payload under a plain sheet, and `second` what then holds of a
+/// second call whose payload begins as this one does. `cleared` says that a refusal leaves every table
+/// zero, and `same` that the tables that were lent are those that are written. All of it holds whatever
+/// the tables hold before, for every length of scratch and whatever it holds; what scratch holds at the
+/// end is not said.
 pub fn parse_with(call: Call<'_>, tables: &mut Tables<'_>) -> Result<Graph, Refused>
     ensures reads { Reads (entered call.entry) (rooms_in tables.old) (answer result) tables.new.objects.now tables.new.slots.now tables.new.values.now tables.new.addresses.now }
     ensures assured { Sheet.plain call.entry.sheet.now ≡ true → (answer result).number ≡ 0 → Assures (entered call.entry) (rooms_in tables.old) (answer result) tables.new.objects.now tables.new.slots.now tables.new.values.now tables.new.addresses.now }
-    ensures refused { IfErr result (λ e. 0 < number_of e.refusal) }
+    ensures second { Sheet.plain call.entry.sheet.now ≡ true → (answer result).number ≡ 0 → SecondCalls (entered call.entry) (rooms_in tables.old) (answer result) tables.new.objects.now tables.new.slots.now tables.new.values.now tables.new.addresses.now }
+    ensures numbered { IfErr result (λ e. RefusalNumber (number_of e.refusal)) }
+    ensures cleared { IfErr result (λ e. Cleared (rooms_in tables.old) tables.new.objects.now tables.new.slots.now tables.new.values.now tables.new.addresses.now) }
     ensures same { SameTables tables.old tables.new }
 {
     tables.prepare();

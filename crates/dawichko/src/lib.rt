@@ -1,15 +1,16 @@
 // The entry point for C and Rust; include/dawichko.h declares it.
 #![tactic(auto)]
 
-ghost use Rattle.std.specs.Prelude.{true, ◌≡◌};
+ghost use Rattle.std.specs.Prelude.{true, ◌≡◌, ◌≢◌, ◌≤◌};
 ghost use Rattle.sheet.specs.Sheet as Sheet;
-ghost use Rattle.cache_graph.specs.Promise.{call_of, rooms_of, Reads, Assures};
+ghost use Rattle.cache_graph.specs.Promise.{call_of, rooms_of, IsAccepted, IsRefused, RefusalNumber, Reads, Assures, Cleared};
+ghost use Rattle.cache_graph.specs.SecondCall.{SecondCalls};
 ghost use Rattle.dawichko.specs.Export.{outcome_of};
 
 use cache_graph::parse::{Call, Tables, parse_with};
 
 // The object graph of a payload, in the four tables: 0 or the refusal's number. The outcome is the four record counts, the cursor at the
-// finish and the refusal's place.
+// finish, the refusal's place, and how many integers were longer than their values need.
 #[unsafe(no_mangle)]
 pub extern "C" fn dawichko_graph(
     sheet: &[u16],
@@ -21,9 +22,14 @@ pub extern "C" fn dawichko_graph(
     values: &mut [u64],
     addresses: &mut [u64],
     scratch: &mut [u64],
-    outcome: &mut [u64; 6],
+    outcome: &mut [u64; 7],
 ) -> u64
     ensures reads { Reads (call_of sheet.now payload.now reservations.now trusted.now) (rooms_of objects.old slots.old values.old addresses.old) (outcome_of result outcome.new) objects.new slots.new values.new addresses.new }
+    ensures accepted { IsAccepted (call_of sheet.now payload.now reservations.now trusted.now) (rooms_of objects.old slots.old values.old addresses.old) → result ≡ 0 }
+    ensures refused { IsRefused (call_of sheet.now payload.now reservations.now trusted.now) (rooms_of objects.old slots.old values.old addresses.old) → RefusalNumber result }
+    ensures numbered { result ≤ 16 }
+    ensures cleared { result ≢ 0 → Cleared (rooms_of objects.old slots.old values.old addresses.old) objects.new slots.new values.new addresses.new }
+    ensures second { Sheet.plain sheet.now ≡ true → result ≡ 0 → SecondCalls (call_of sheet.now payload.now reservations.now trusted.now) (rooms_of objects.old slots.old values.old addresses.old) (outcome_of result outcome.new) objects.new slots.new values.new addresses.new }
     ensures assured { Sheet.plain sheet.now ≡ true → result ≡ 0 → Assures (call_of sheet.now payload.now reservations.now trusted.now) (rooms_of objects.old slots.old values.old addresses.old) (outcome_of result outcome.new) objects.new slots.new values.new addresses.new }
 {
     let call = Call {
@@ -41,11 +47,11 @@ pub extern "C" fn dawichko_graph(
     };
     match parse_with(call, &mut tables) {
         Ok(g) => {
-            *outcome = [g.objects, g.slots, g.values, g.addresses, g.end, 0];
+            *outcome = [g.objects, g.slots, g.values, g.addresses, g.end, 0, g.long_integers];
             0
         }
         Err(e) => {
-            *outcome = [0, 0, 0, 0, 0, e.place];
+            *outcome = [0, 0, 0, 0, 0, e.place, 0];
             e.refusal.number()
         }
     }

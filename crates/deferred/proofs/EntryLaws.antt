@@ -7,15 +7,15 @@ use native.Mathlib.Omega.{arith}
 use borrow.Author.Tests.{le-leb, lt-leb}
 use lib.Dec.{ltb, eqb}
 use lib.ListN.{length, get_or}
-use Rattle.std.specs.Prelude.{Option, Some, None as Nothing, Ok, Err, ok_or}
+use Rattle.std.specs.Prelude.{if◌then◌else◌, Option, Some, None as Nothing, Ok, Err, ok_or}
 use Rattle.sheet.specs.Sheet.{is_legacy}
 use Rattle.tables.specs.declared.values.SlotValue.{SlotValue}
 use Rattle.tables.specs.declared.values.SlotValue.TheVariants.{Ref as IsRef}
 use Rattle.tables.specs.declared.values.Ref.TheVariants.{Object}
 use Rattle.tables.specs.declared.values.Fields.{Fields}
-use Rattle.tables.specs.Values.{pick_ℕ, fields_of, width_of}
+use Rattle.tables.specs.Values.{fields_of, width_of}
 use Rattle.tables.specs.Records.{room, field}
-use Rattle.definition.specs.Memory.{Input, word, Table, Mem, Out, got, no, Reader, and_then, ◌>>=◌, ◌>>◌, choose, moved, cut, byte, int, in_slot}
+use Rattle.definition.specs.Memory.{Input, word, Table, Mem, Out, got, no, Reader, and_then, ◌>>=◌, ◌>>◌, moved, cut, byte, int, in_slot, next_byte, give, refuse}
 use Rattle.definition.specs.Slots.{add_slot}
 use Rattle.definition.specs.Reference.{legacy_reference, ref_at}
 use Rattle.definition.specs.Closing.{add_slots, entry_fields, is_skip, entry_slots, entry_count, entry_item, entry_items, entry_body, entry_of, entry}
@@ -28,7 +28,7 @@ use Rattle.laws.proofs.Fuel.{entry_items_fuel}
 use Rattle.readers.specs.declared.state.State.{State}
 use Rattle.readers.specs.declared.state.Refused.{Refused}
 use Rattle.readers.specs.declared.walker.Walker.{Walker}
-use Rattle.readers.specs.Views.{mem}
+use Rattle.readers.specs.Views.{mem, Counts}
 use Rattle.readers.specs.Lent.{input_of, lent_of, Fixed}
 use Rattle.readers.specs.Lent as Lent
 use Rattle.readers.proofs.ViewLaws.{then_got, then_no, nothing}
@@ -50,12 +50,26 @@ byte_same : (x : Input) (m : Mem) {m1 : Mem} {b : ℕ} → got b m1 ≡ byte x m
 unfolding byte
 byte_same x m {m1} {b} e = go (ltb m.at (length x.payload)) e
   where
-    go : (t : Bool) → got b m1 ≡ choose t (λ m. got (get_or x.payload m.at 0) (moved (m.at + 1) m)) (cut x) m → m1.addresses ≡ m.addresses
+    go : (t : Bool) → got b m1 ≡ (if t then next_byte x else cut x) m → m1.addresses ≡ m.addresses
     go true e = let z : m1 ≡ moved (m.at + 1) m = cc in ap (λ (m : Mem). m.addresses) z
     go false e = absurd (let z : ◌≡◌ {A = ℕ} 0 1 = cc in omega arith)
 
 pub byte_addresses : (x : Input) (s : State) {b : ℕ} {t : State} → got b (mem t nothing) ≡ byte x (mem s nothing) → t.addresses ≡ s.addresses
 byte_addresses x s e = ap (λ (t : Table). t.count) (byte_same x (mem s nothing) e)
+
+-- and the count of long integers
+byte_moved : (x : Input) (m : Mem) {m1 : Mem} {b : ℕ} → got b m1 ≡ byte x m → m1 ≡ moved (m.at + 1) m
+unfolding byte
+byte_moved x m {m1} {b} e = go (ltb m.at (length x.payload)) e
+  where
+    go : (t : Bool) → got b m1 ≡ (if t then next_byte x else cut x) m → m1 ≡ moved (m.at + 1) m
+    go true e = cc
+    go false e = absurd (let z : ◌≡◌ {A = ℕ} 0 1 = cc in omega arith)
+
+pub byte_counts : (x : Input) (s : State) {b : ℕ} {t : State} → got b (mem t nothing) ≡ byte x (mem s nothing) → Counts s → Counts t
+byte_counts x s {t = t} e h =
+    let q = byte_moved x (mem s nothing) e in
+    omega (arith, h, ap (λ (m : Mem). m.at) q, ap (λ (m : Mem). m.long_integers) q)
 
 -- the object that a value is, or the fault where it is none
 pub an_object : (v : SlotValue) (r : Option ℕ) (u : Refused) {o : ℕ} → Named v r → Ok o ≡ ok_or r u → v ≡ IsRef (Object o)
@@ -91,7 +105,7 @@ module _ (x : Input) (space : ℕ) (m : Mem) where
   unfolding entry
   entry_parts = by_byte (byte x m)
     where
-      by_kind : (t : Bool) (o : ℕ) (m2 : Mem) → and_then (choose t (λ m. got o m) (λ m. no 0 m.at m) m2) (λ o. int x >>= entry_body x o) ≡ choose t (int x >>= entry_body x o) (λ m. no 0 m.at m) m2
+      by_kind : (t : Bool) (o : ℕ) (m2 : Mem) → and_then ((if t then give o else refuse 0) m2) (λ o. int x >>= entry_body x o) ≡ (if t then int x >>= entry_body x o else refuse 0) m2
       by_kind true o m2 = refl
       by_kind false o m2 = refl
 
@@ -197,7 +211,7 @@ module _ {o size : ℕ} {w₀ : Walker} {s₀ : State} {index done : ℕ} {w : W
       pub count_low : entry_count (input_of w) v ≤ 2 ^ 34
       count_low = go (is_skip v)
         where
-          go : (t : Bool) → pick_ℕ t (width_of (word (input_of w)) v) (max (width_of (word (input_of w)) v) (word (input_of w))) ≤ 2 ^ 34
+          go : (t : Bool) → (if t then width_of (word (input_of w)) v else max (width_of (word (input_of w)) v) (word (input_of w))) ≤ 2 ^ 34
           go true = read.more.narrow
           go false = omega (arith, read.more.narrow, word_low a.ready.proper)
 

@@ -1,11 +1,11 @@
 -- A whole call: its checks, the walk of the payload, and what it leaves in the tables. Assumes nothing: these are definitions.
-use Rattle.std.specs.Prelude.{Bool, ◌||◌, List, [], ℕ, ◌-◌, ltb, length, replicate}
+use Rattle.std.specs.Prelude.{if◌then◌else◌, Bool, ◌||◌, List, [], ℕ, ◌-◌, ltb, length, replicate}
 use Rattle.sheet.specs.Names.{k_new_object}
-use Rattle.sheet.specs.Sheet.{pick_ℕ, number, is_legacy, usable}
+use Rattle.sheet.specs.Sheet.{number, is_legacy, usable}
 use Rattle.sheet.specs.Tests.{opens}
 use Rattle.alloc.specs.Allocation.{spaces_of, zero_counters}
 use Rattle.backref.specs.HotRing.{empty_ring}
-use Rattle.definition.specs.Memory.{Input, Event, Log, off, told, Table, table, Mem, Out, got, no, Reader, ◌>>=◌, ◌>>◌, choose, refuse_at, byte}
+use Rattle.definition.specs.Memory.{Input, Event, Log, off, told, Table, table, Mem, Out, got, no, Reader, ◌>>=◌, ◌>>◌, refuse_at, byte}
 use Rattle.definition.specs.Object.{object}
 use Rattle.definition.specs.Reference.{ref_at}
 use Rattle.definition.specs.Closing.{closing}
@@ -40,13 +40,13 @@ start rooms log =
 
 -- the top object's space, in legacy
 abbrev pub top_space : Input → ℕ → ℕ
-top_space x b = pick_ℕ (is_legacy x.sheet) (b - number x.sheet k_new_object) 0
+top_space x b = if is_legacy x.sheet then b - number x.sheet k_new_object else 0
 
 -- the first byte opens the top object, at depth 0 (else refusal 5; difference D19); then the closing section
 unfoldable pub walk : Input → Reader (Unit {0})
 walk x =
     byte x
-    >>= (λ b. choose (opens x.sheet b) (object x (ref_at x 64) (top_space x b) 0) (refuse_at 5 0))
+    >>= (λ b. if opens x.sheet b then object x (ref_at x 64) (top_space x b) 0 else refuse_at 5 0)
     >> closing x
 
 -- refusals 1 and 2 come first
@@ -54,7 +54,7 @@ abbrev pub too_long : Call → Bool
 too_long c = ltb 16777216 (length c.payload) || ltb 65536 (length c.reservations)
 
 unfoldable pub called : Call → Reader (Unit {0})
-called c = choose (usable c.sheet) (choose (too_long c) (refuse_at 2 0) (walk (input_of c))) (refuse_at 1 0)
+called c = if usable c.sheet then (if too_long c then refuse_at 2 0 else walk (input_of c)) else refuse_at 1 0
 
 -- the reading of a call's payload, with its events
 unfoldable pub graph : Call → Rooms → Out (Unit {0})

@@ -1,4 +1,4 @@
--- Cases a to l of document 01, as one table with one proof. Assumes nothing.
+-- Examples a to l of docs/FORMAT.md ("Examples"), as one table with one proof. Assumes nothing.
 use Rattle.std.specs.Prelude.{◌≡◌, refl, List, [], ◌∷◌, map, reverse, ℕ, ◌*◌, ◌^◌, take, replicate}
 use Rattle.stream.specs.Bytes.{peek_at, little_endian, raw_at}
 use Rattle.stream.specs.PutInt.{int_length, int_at, shortest, is_long}
@@ -19,7 +19,7 @@ use Rattle.definition.specs.Reference.{backref_to, legacy_reference, pending_ref
 use Rattle.definition.specs.Closing.{add_slots, entry_items, entry, entries, padding, closing}
 use Rattle.definition.specs.Call.{Rooms, Call, walk, called, graph, events_of}
 
--- sheet A of document 01, in the order of docs/SHEET.md
+-- sheet A (docs/FORMAT.md, "Examples"), in the order of docs/SHEET.md
 abbrev pub sheet_a : List ℕ
 sheet_a =
     0 ∷ 8 ∷ 10 ∷ 11 ∷ 13 ∷ 12 ∷ 144 ∷ 64 ∷ 96 ∷ 65535 ∷
@@ -83,11 +83,15 @@ cases =
     ((0x00 ∷ 0x08 ∷ 0x45 ∷ 0x12 ∷ 0x00 ∷ 0xAA ∷ 0x46 ∷ 0x0D ∷ []), ((12 ∷ 0 ∷ []) ∷ [])) ∷
     []
 
-pub cases_hold : map (λ (c : Case). shown (graph (call_a c.0) rooms_a)) cases ≡ map (λ (c : Case). c.1) cases
+-- each payload gives what the table says
+abbrev pub CasesHold : Type 0
+CasesHold = map (λ (c : Case). shown (graph (call_a c.0) rooms_a)) cases ≡ map (λ (c : Case). c.1) cases
+
+pub cases_hold : CasesHold
 unfolding peek_at little_endian raw_at int_length int_at shortest is_long all_within usable order first_of head_of alignment_of closing_of written filled spaces_of entered hot_at byte int add_value add_slot waiter resolved keep_item place_item add_object flag_object keep_map resolves items body object backref_to pending_reference raw_data by_head reference ref_at entries padding closing walk called graph
 cases_hold = refl
 
--- sheet L8 of the notes, in the manner of V8 7.8, with six reservations of the top bit alone
+-- a legacy sheet of words of 8 bytes, in the manner of V8 7.8, with six reservations of the top bit alone
 abbrev pub sheet_l : List ℕ
 sheet_l =
     0 ∷ 8 ∷ 17 ∷ 18 ∷ 20 ∷ 19 ∷ 144 ∷ 64 ∷ 96 ∷ 21 ∷
@@ -122,7 +126,11 @@ further_cases =
     ((call_l (0x00 ∷ 0x04 ∷ 0x45 ∷ 0x1D ∷ 0x08 ∷ 0x01 ∷ 0x00 ∷ [])), ((0 ∷ 1 ∷ 1 ∷ 0 ∷ 1 ∷ 7 ∷ 1 ∷ []) ∷ (8 ∷ 0 ∷ 0 ∷ 1 ∷ []) ∷ (0 ∷ 0 ∷ 2 ∷ 5 ∷ 0 ∷ 0 ∷ []) ∷ ([]) ∷ (0 ∷ 0 ∷ 0 ∷ 0 ∷ 1 ∷ []) ∷ [])) ∷
     []
 
-pub further_hold : map (λ (c : CallCase). shown (graph c.0 rooms_a)) further_cases ≡ map (λ (c : CallCase). c.1) further_cases
+abbrev pub FurtherCasesHold : Type 0
+FurtherCasesHold =
+    map (λ (c : CallCase). shown (graph c.0 rooms_a)) further_cases ≡ map (λ (c : CallCase). c.1) further_cases
+
+pub further_hold : FurtherCasesHold
 unfolding peek_at little_endian raw_at int_length int_at shortest is_long all_within usable order first_of head_of alignment_of closing_of written filled spaces_of entered hot_at byte int add_value add_slot waiter resolved keep_item place_item add_object flag_object keep_map resolves items body object backref_to pending_reference raw_data by_head reference ref_at entries padding closing walk called graph fill_to_align max_fill_to_align advance_of allocate_of next_chunk addressed resolve_of ordinal_from placed single allocate chunk_changes map_first legacy_reference add_slots entry_items entry
 further_hold = refl
 
@@ -155,6 +163,9 @@ told_events =
     synchronize 21 ∷
     []
 
-pub told_holds : events_of (graph (call_a told_payload) rooms_a) ≡ reverse told_events
+abbrev pub EventsHold : Type 0
+EventsHold = events_of (graph (call_a told_payload) rooms_a) ≡ reverse told_events
+
+pub told_holds : EventsHold
 unfolding peek_at little_endian raw_at int_length int_at shortest is_long all_within usable order first_of head_of alignment_of closing_of written filled spaces_of entered hot_at byte int add_value add_slot waiter resolved keep_item place_item add_object flag_object keep_map resolves items body object backref_to pending_reference raw_data by_head reference ref_at entries padding closing walk called graph
 told_holds = refl

@@ -1,15 +1,15 @@
 -- The closing section, with legacy deferred entries, and the padding after it. Assumes nothing: these are definitions.
-use Rattle.std.specs.Prelude.{Bool, true, false, not, ◌&&◌, ◌||◌, ℕ, zero, suc, ◌+◌, ◌-◌, ◌/◌, max, leb, eqb, length}
+use Rattle.std.specs.Prelude.{if◌then◌else◌, Bool, true, false, not, ◌&&◌, ◌||◌, ℕ, zero, suc, ◌+◌, ◌-◌, ◌/◌, max, leb, eqb, length}
 use Rattle.sheet.specs.Sheet.{is_legacy}
 use Rattle.sheet.specs.declared.tests.Closing.{Closing}
 use Rattle.sheet.specs.declared.tests.Closing.TheVariants.{Synchronize, Alignment, Deferred, Reference}
 use Rattle.sheet.specs.Tests.{closing_of, is_nop}
 use Rattle.tables.specs.declared.values.SlotValue.{SlotValue}
-use Rattle.tables.specs.declared.values.SlotValue.TheVariants.{Ref as IsRef, Repeat, RepeatPrev, Skip, StreamBytes, Raw, ClearedWeak, WeakRef, PendingRef}
+use Rattle.tables.specs.declared.values.SlotValue.TheVariants.{Repeat, Skip}
 use Rattle.tables.specs.declared.values.Fields.{Fields}
-use Rattle.tables.specs.Values.{pick_ℕ, triple, fields_of, width_of}
+use Rattle.tables.specs.Values.{triple, fields_of, width_of}
 use Rattle.tables.specs.Records.{field}
-use Rattle.definition.specs.Memory.{Input, word, in_slot, dropped, value, begins, synchronize, Table, Out, got, no, Reader, ◌>>=◌, ◌>>◌, choose, give, change, refuse, refuse_at, aligned, tell, byte, int}
+use Rattle.definition.specs.Memory.{Input, word, in_slot, dropped, value, begins, synchronize, Table, Out, got, no, Reader, ◌>>=◌, ◌>>◌, give, change, refuse, refuse_at, aligned, tell, byte, int}
 use Rattle.definition.specs.Slots.{add_slot}
 use Rattle.definition.specs.Object.{peek}
 use Rattle.definition.specs.Reference.{legacy_reference, ref_at}
@@ -19,25 +19,11 @@ use Rattle.definition.specs.Reference.{legacy_reference, ref_at}
 -- a slot of an entry: what a repeat holds, else the value itself
 abbrev pub entry_fields : Table → SlotValue → Fields
 entry_fields values (Repeat n k) = triple (field 3 values.rows k 0) (field 3 values.rows k 1) (field 3 values.rows k 2)
-entry_fields values (IsRef r) = fields_of (IsRef r)
-entry_fields values (RepeatPrev n) = fields_of (RepeatPrev n)
-entry_fields values (Skip n) = fields_of (Skip n)
-entry_fields values (StreamBytes n) = fields_of (StreamBytes n)
-entry_fields values (Raw r) = fields_of (Raw r)
-entry_fields values ClearedWeak = fields_of ClearedWeak
-entry_fields values (WeakRef k) = fields_of (WeakRef k)
-entry_fields values (PendingRef n) = fields_of (PendingRef n)
+entry_fields values v = fields_of v
 
 abbrev pub is_skip : SlotValue → Bool
 is_skip (Skip n) = true
-is_skip (IsRef r) = false
-is_skip (Repeat n k) = false
-is_skip (RepeatPrev n) = false
-is_skip (StreamBytes n) = false
-is_skip (Raw r) = false
-is_skip ClearedWeak = false
-is_skip (WeakRef k) = false
-is_skip (PendingRef n) = false
+is_skip v = false
 
 -- n slots with the same value, from an index on; none waits
 unfoldable pub add_slots : ℕ → Fields → ℕ → ℕ → Reader (Unit {0})
@@ -46,11 +32,11 @@ add_slots o v index (suc n) = add_slot o index v 0 in_slot >> add_slots o v (ind
 
 -- how many slots an item makes: its words, one at least; a skip none
 abbrev pub entry_slots : Input → SlotValue → ℕ
-entry_slots x v = pick_ℕ (is_skip v) 0 (max (width_of (word x) v / word x) 1)
+entry_slots x v = if is_skip v then 0 else max (width_of (word x) v / word x) 1
 
 -- what it adds to the count: its bytes, one word at least; a skip its bytes. The count is then compared with words
 abbrev pub entry_count : Input → SlotValue → ℕ
-entry_count x v = pick_ℕ (is_skip v) (width_of (word x) v) (max (width_of (word x) v) (word x))
+entry_count x v = if is_skip v then width_of (word x) v else max (width_of (word x) v) (word x)
 
 -- the slots of an item
 abbrev pub entry_item : Input → ℕ → ℕ → SlotValue → Reader (Unit {0})
@@ -60,8 +46,8 @@ entry_item x o index v m = add_slots o (entry_fields m.values v) index (entry_sl
 unfoldable pub entry_items : Input → ℕ → ℕ → ℕ → ℕ → ℕ → Reader (Unit {0})
 entry_items x o size zero index done = give tt
 entry_items x o size (suc n) index done =
-    choose (leb size done) (give tt)
-    (ref_at x 64
+    if leb size done then give tt
+    else (ref_at x 64
     >>= (λ v. entry_item x o index v >> entry_items x o size n (index + entry_slots x v) (done + entry_count x v)))
 
 -- the object's slots go on from its slot count; the count starts at 1
@@ -71,7 +57,7 @@ entry_body x o size m =
 
 -- a back-reference that finds no object ends the section without a number
 abbrev pub entry_of : Input → Fields → Reader (Unit {0})
-entry_of x f = choose (eqb f.kind 1) (int x >>= entry_body x f.a) (refuse 0)
+entry_of x f = if eqb f.kind 1 then int x >>= entry_body x f.a else refuse 0
 
 unfoldable pub entry : Input → ℕ → Reader (Unit {0})
 entry x space = byte x >> legacy_reference x space >>= (λ v. entry_of x (fields_of v))
@@ -89,7 +75,7 @@ ends_legacy x n = is_legacy x.sheet && not (eqb n 3 || eqb n 16)
 -- after an entry: k reads on; a fault ends a legacy section where it left the cursor, and refuses otherwise
 abbrev pub after_entry : Input → Reader (Unit {0}) → Out (Unit {0}) → Out (Unit {0})
 after_entry x k (got v m) = k m
-after_entry x k (no n q m) = choose (ends_legacy x n) (give tt) (refuse_at n q) m
+after_entry x k (no n q m) = (if ends_legacy x n then give tt else refuse_at n q) m
 
 -- one entry, by the byte at the cursor; k reads what follows
 abbrev pub by_entry : Input → Reader (Unit {0}) → Closing → Reader (Unit {0})
@@ -102,18 +88,17 @@ by_entry x k Reference m = after_entry x k (drop_reference x m)
 unfoldable pub entries : Input → ℕ → Reader (Unit {0})
 entries x zero m = give tt m
 entries x (suc n) m =
-    choose (leb (length x.payload) m.at)
-    (choose (is_legacy x.sheet) (give tt) (refuse_at 13 (length x.payload)))
-    (tell (begins m.at) >> by_entry x (entries x n) (closing_of x.sheet (peek x m)))
+    (if leb (length x.payload) m.at then (if is_legacy x.sheet then give tt else refuse_at 13 (length x.payload))
+    else (tell (begins m.at) >> by_entry x (entries x n) (closing_of x.sheet (peek x m))))
     m
 
 -- only kNop after it (else refusal 14 at that byte, in legacy the reading ends; difference D21)
 unfoldable pub padding : Input → ℕ → Reader (Unit {0})
 padding x zero m = give tt m
 padding x (suc n) m =
-    choose (leb (length x.payload) m.at) (give tt)
-    (choose (is_nop x.sheet (peek x m)) (byte x >> padding x n)
-    (choose (is_legacy x.sheet) (give tt) (refuse 14)))
+    (if leb (length x.payload) m.at then give tt
+    else if is_nop x.sheet (peek x m) then byte x >> padding x n
+    else if is_legacy x.sheet then give tt else refuse 14)
     m
 
 -- the closing section and what follows it (differences D17, D22)

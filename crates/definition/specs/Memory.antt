@@ -1,12 +1,12 @@
 -- What a reader has and gives, and the steps that readers are made of. Assumes nothing: these are definitions.
 --
 -- How to read these files. A reader takes what it has (`Mem`) and gives a value, or a refusal (`Out`). `r >>= f` is r and then f on the value
--- that r gave; `r >> s` is r and then s; `choose test r s` is r where the test is true, else s; `λ m. ..` is a function of m. `ltb`, `leb`
+-- that r gave; `r >> s` is r and then s; `λ m. ..` is a function of m. `ltb`, `leb`
 -- and `eqb` test <, ≤ and =; `a - b` is 0 where b is greater; `get_or l i d` is number i of the list l, or d past its end; `set l i n` is l
 -- with n as number i; `Unit` stands for no value. Where a reader repeats a step, a number that falls bounds the repetitions; it is chosen so
 -- large that it is never used up. `abbrev` and `unfoldable` both define; they differ in when a proof computes with the definition.
 -- Order: Memory, Slots, Object, Reference, Closing, Call, and Cases with the examples.
-use Rattle.std.specs.Prelude.{Bool, true, false, List, ◌∷◌, ℕ, ◌+◌, ltb, length, get_or, Option, Some, None}
+use Rattle.std.specs.Prelude.{if◌then◌else◌, Bool, List, ◌∷◌, ℕ, ◌+◌, ltb, length, get_or, Option, Some, None}
 use Rattle.stream.specs.declared.putint.Int.{Int}
 use Rattle.std.specs.Int.{from_bool}
 use Rattle.stream.specs.PutInt.{int_at, is_long}
@@ -104,10 +104,6 @@ infixl 1 ◌>>◌
 abbrev pub ◌>>◌ : {A B : Type 0} → Reader A → Reader B → Reader B
 ◌>>◌ r s m = and_then (r m) (λ _. s)
 
-abbrev pub choose : {A : Type 0} → Bool → Reader A → Reader A → Reader A
-choose true f g = f
-choose false f g = g
-
 abbrev pub give : {A : Type 0} → A → Reader A
 give a m = got a m
 
@@ -175,9 +171,12 @@ abbrev pub cut : {A : Type 0} → Input → Reader A
 cut x m = no 4 (length x.payload) (moved (length x.payload) m)
 
 -- a byte
+abbrev pub next_byte : Input → Reader ℕ
+next_byte x m = got (get_or x.payload m.at 0) (moved (m.at + 1) m)
+
 unfoldable pub byte : Input → Reader ℕ
 byte x m =
-    choose (ltb m.at (length x.payload)) (λ m. got (get_or x.payload m.at 0) (moved (m.at + 1) m)) (cut x) m
+    (if ltb m.at (length x.payload) then next_byte x else cut x) m
 
 -- an integer was read whole, and is counted if it is longer than its value needs. Nothing else counts
 -- integers; plain bytes are none
@@ -200,6 +199,10 @@ has_room fields t = ltb t.count (room fields t.rows)
 abbrev pub added : Table → List ℕ → Table
 added t row = table (written t.rows t.count row) (t.count + 1)
 
+-- the change f, by which table t has a record more: that record's number
+abbrev pub appended : (Mem → Table) → (Mem → Mem) → Reader ℕ
+appended t f m = got (t m).count (f m)
+
 -- a record of so many fields is appended to table t by the change f, if there is room for it, and its number is given; else refusal 3
 abbrev pub append : ℕ → (Mem → Table) → (Mem → Mem) → Reader ℕ
-append fields t f m = choose (has_room fields (t m)) (λ m. got (t m).count (f m)) (refuse 3) m
+append fields t f m = (if has_room fields (t m) then appended t f else refuse 3) m

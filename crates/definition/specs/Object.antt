@@ -1,18 +1,18 @@
 -- An object: its head, map, resolves and items. Assumes nothing: these are definitions.
 -- Where the Rust leaves V8 here: an object is numbered before its map is read (D1, D2, D3), its map is any value and one word (D4), resolves
 -- stand directly after the map (D5, D7), kNop is no item (D6), kDeferred may stand before any item (D34); docs/DIFFERENCES.md.
-use Rattle.std.specs.Prelude.{Bool, false, not, ◌&&◌, ℕ, zero, suc, ◌+◌, ◌-◌, ◌*◌, leb, eqb, length, get_or, set}
+use Rattle.std.specs.Prelude.{if◌then◌else◌, Bool, false, not, ◌&&◌, ℕ, zero, suc, ◌+◌, ◌-◌, ◌*◌, leb, eqb, length, get_or, set}
 use Rattle.stream.specs.Bytes.{peek_at}
 use Rattle.sheet.specs.Sheet.{is_legacy, is_six_x, is_map_first, lo_space}
 use Rattle.sheet.specs.Tests.{is_resolve, is_deferred, is_next_chunk, alignment_of}
 use Rattle.tables.specs.declared.values.Ref.{Ref}
-use Rattle.tables.specs.declared.values.Ref.TheVariants.{Object, Root, RoRef, Attached}
+use Rattle.tables.specs.declared.values.Ref.TheVariants.{Object, Root}
 use Rattle.tables.specs.declared.values.SlotValue.{SlotValue}
-use Rattle.tables.specs.declared.values.SlotValue.TheVariants.{Ref as IsRef, Repeat, RepeatPrev, Skip, StreamBytes, Raw, ClearedWeak, WeakRef, PendingRef}
+use Rattle.tables.specs.declared.values.SlotValue.TheVariants.{Ref as IsRef}
 use Rattle.tables.specs.Values.{fields_of}
 use Rattle.tables.specs.Records.{object_row}
 use Rattle.alloc.specs.Allocation.{Outcome, allocate_of, next_chunk}
-use Rattle.definition.specs.Memory.{Input, word, in_map, opened, item, Table, table, Mem, Reader, ◌>>=◌, ◌>>◌, choose, give, change, refuse, refuse_at, moved, with_objects, with_alloc, aligned, noted, tell, byte, int, added, append}
+use Rattle.definition.specs.Memory.{Input, word, in_map, opened, item, Table, table, Mem, Reader, ◌>>=◌, ◌>>◌, give, change, refuse, refuse_at, moved, with_objects, with_alloc, aligned, noted, tell, byte, int, added, append}
 use Rattle.definition.specs.Slots.{add_slot, resolved, place_item}
 
 -- the byte at the cursor; 256 where none is left
@@ -29,7 +29,7 @@ add_object x tag words =
 
 -- a 6.x large-object header has one more byte
 abbrev pub large_byte : Input → ℕ → Reader (Unit {0})
-large_byte x space = choose (is_six_x x.sheet && eqb space (lo_space x.sheet)) (byte x >> give tt) (give tt)
+large_byte x space = if is_six_x x.sheet && eqb space (lo_space x.sheet) then byte x >> give tt else give tt
 
 -- ---- legacy allocation
 
@@ -39,9 +39,8 @@ change_chunk x space m = with_alloc m.addresses m.alignment (next_chunk m.alloc 
 
 abbrev pub after_allocation : Outcome → Reader (Unit {0})
 after_allocation r m =
-    choose (eqb r.number 0)
-    (change (with_alloc (table r.table (m.addresses.count + 1)) r.alignment r.alloc))
-    (refuse r.number)
+    (if eqb r.number 0 then change (with_alloc (table r.table (m.addresses.count + 1)) r.alignment r.alloc)
+    else refuse r.number)
     m
 
 -- an address record: refusals 3 and 16
@@ -56,17 +55,16 @@ allocate x space bytes o m =
 -- after a map that comes first, at most one alignment prefix
 abbrev pub alignment_byte : Input → Reader (Unit {0})
 alignment_byte x m =
-    choose (eqb (alignment_of x.sheet (peek x m)) 0) (give tt)
-    (change (λ m. aligned (alignment_of x.sheet (peek x m)) (moved (m.at + 1) m)))
+    (if eqb (alignment_of x.sheet (peek x m)) 0 then give tt
+    else (change (λ m. aligned (alignment_of x.sheet (peek x m)) (moved (m.at + 1) m))))
     m
 
 -- then chunk changes, as long as they name the object's own space (difference D33), n at most
 unfoldable pub chunk_changes : Input → ℕ → ℕ → Reader (Unit {0})
 chunk_changes x space zero m = give tt m
 chunk_changes x space (suc n) m =
-    choose (is_next_chunk x.sheet (peek x m) && eqb (peek_at x.payload (m.at + 1)) space)
-    (change (λ m. change_chunk x space (moved (m.at + 2) m)) >> chunk_changes x space n)
-    (give tt)
+    (if is_next_chunk x.sheet (peek x m) && eqb (peek_at x.payload (m.at + 1)) space then change (λ m. change_chunk x space (moved (m.at + 2) m)) >> chunk_changes x space n
+    else give tt)
     m
 
 -- ---- the map
@@ -87,34 +85,25 @@ map_then_allocate x r space bytes o = r >>= (λ v. allocate x space bytes o >> g
 
 abbrev pub read_map : Input → Reader SlotValue → ℕ → ℕ → ℕ → Reader SlotValue
 read_map x r space bytes o =
-    choose (is_map_first x.sheet) (map_first x r space bytes o)
-    (choose (is_legacy x.sheet) (map_then_allocate x r space bytes o) r)
+    if is_map_first x.sheet then map_first x r space bytes o
+    else if is_legacy x.sheet then map_then_allocate x r space bytes o else r
 
 -- a root that the trusted list flags
 abbrev pub is_trusted : Input → Ref → Bool
 is_trusted x (Root i) = not (eqb (get_or x.trusted i 0) 0)
-is_trusted x (Object o) = false
-is_trusted x (RoRef c o) = false
-is_trusted x (Attached i) = false
+is_trusted x r = false
 
 -- a map that is such a root
 abbrev pub flags : Input → SlotValue → Bool
 flags x (IsRef r) = is_trusted x r
-flags x (Repeat n k) = false
-flags x (RepeatPrev n) = false
-flags x (Skip n) = false
-flags x (StreamBytes n) = false
-flags x (Raw r) = false
-flags x ClearedWeak = false
-flags x (WeakRef k) = false
-flags x (PendingRef n) = false
+flags x v = false
 
 -- `raw_len` of an object with such a map is 1 (difference D44)
 abbrev pub flagged : ℕ → Table → Table
 flagged o t = table (set t.rows (o * 4 + 2) 1) t.count
 
 unfoldable pub flag_object : Input → ℕ → SlotValue → Reader (Unit {0})
-flag_object x o v = choose (flags x v) (change (λ m. with_objects (flagged o m.objects) m)) (give tt)
+flag_object x o v = if flags x v then change (λ m. with_objects (flagged o m.objects) m) else give tt
 
 -- slot 0 is the map, whatever its value: one word
 unfoldable pub keep_map : Input → ℕ → SlotValue → Reader (Unit {0})
@@ -126,9 +115,8 @@ keep_map x o v = flag_object x o v >> add_slot o 0 (fields_of v) 0 in_map >>= (�
 unfoldable pub resolves : Input → ℕ → ℕ → Reader (Unit {0})
 resolves x o zero m = give tt m
 resolves x o (suc n) m =
-    choose (is_resolve x.sheet (peek x m))
-    (byte x >> int x >>= (λ number. change (resolved number o)) >> resolves x o n)
-    (give tt)
+    (if is_resolve x.sheet (peek x m) then byte x >> int x >>= (λ number. change (resolved number o)) >> resolves x o n
+    else give tt)
     m
 
 -- items until `done` bytes have filled `size`: the bytes read then. Each reads a byte at least, so the bytes left bound their number.
@@ -136,14 +124,14 @@ resolves x o (suc n) m =
 unfoldable pub items : Input → Reader SlotValue → ℕ → ℕ → ℕ → ℕ → Reader ℕ
 items x r o size zero done m = give done m
 items x r o size (suc n) done m =
-    choose (leb size done) (give done)
-    (choose (is_deferred x.sheet (peek x m)) (byte x >> give size)
-    (r >>= place_item x o done >>= items x r o size n))
+    (if leb size done then give done
+    else if is_deferred x.sheet (peek x m) then byte x >> give size
+    else (r >>= place_item x o done >>= items x r o size n))
     m
 
 -- the bytes read are the declared ones; else refusal 12 at the object's tag
 abbrev pub closed : ℕ → ℕ → ℕ → ℕ → Reader SlotValue
-closed o tag size done = choose (eqb done size) (give (IsRef (Object o))) (refuse_at 12 tag)
+closed o tag size done = if eqb done size then give (IsRef (Object o)) else refuse_at 12 tag
 
 -- what comes after an object's head: map, resolves, items. r reads references, one level deeper
 unfoldable pub body : Input → Reader SlotValue → ℕ → ℕ → ℕ → ℕ → Reader SlotValue

@@ -1,8 +1,8 @@
 -- A reference: what its head byte says, in the order of the Rust's `parse_ref_inner` (specs/Heads.antt of the crate `heads`). Assumes nothing:
 -- these are definitions.
-use Rattle.std.specs.Prelude.{Bool, true, ℕ, zero, suc, ◌+◌, ◌*◌, ◌^◌, ◌-◌, max, ltb, Option, Some, None, Ok, Err}
+use Rattle.std.specs.Prelude.{if◌then◌else◌, Bool, true, ℕ, zero, suc, ◌+◌, ◌*◌, ◌^◌, ◌-◌, max, ltb, Option, Some, None}
 use Rattle.stream.specs.Bytes.{raw_at}
-use Rattle.sheet.specs.Sheet.{pick_ℕ, is_legacy, raw_advances}
+use Rattle.sheet.specs.Sheet.{is_legacy, raw_advances}
 use Rattle.heads.specs.declared.kinds.Kind.{Kind}
 use Rattle.heads.specs.declared.kinds.Kind.TheVariants.{NoMeaning, NewObject, Backref, LegacyBackref, LegacyBackrefWithSkip, NextChunk, Alignment, Hot, HotWithSkip, RootArray, RootConstant, RootConstantWithSkip, ReadOnly, Attached, Builtin, External, Api, Internal, Deoptimizer, StreamBytes, EmbedderFields, OffHeapTarget, Cache, RegisterPending, ClearedWeak, WeakPrefix, PointerPrefix, DispatchEntry, FixedRaw, VariableRaw, Skip, FixedRepeat, FixedRepeatRoot, RepeatPrevious, VariableRepeat, VariableRepeatPrevious, VariableRepeatRoot, MetaMap}
 use Rattle.heads.specs.Heads.{head_of}
@@ -12,9 +12,9 @@ use Rattle.tables.specs.declared.values.SlotValue.{SlotValue}
 use Rattle.tables.specs.declared.values.SlotValue.TheVariants.{Ref as IsRef, Repeat, RepeatPrev, Skip, StreamBytes, Raw as IsRaw, ClearedWeak, WeakRef, PendingRef}
 use Rattle.tables.specs.Values.{fields_of}
 use Rattle.backref.specs.HotRing.{entered, hot_at}
-use Rattle.alloc.specs.declared.resolve.Place.{Place}
 use Rattle.backref.specs.Legacy.{is_single, placed, single}
-use Rattle.definition.specs.Memory.{Input, word, passed, got, Reader, ◌>>=◌, ◌>>◌, choose, give, change, refuse, refuse_at, moved, with_hot, with_pending, with_skip, aligned, noted, here, cut, byte, int}
+use Rattle.definition.specs.Memory.{Input, word, passed, got, Reader, ◌>>=◌, ◌>>◌, give, change, refuse, refuse_at, moved, with_hot, with_pending, with_skip, aligned, noted, here, byte, int}
+use Rattle.alloc.specs.declared.resolve.Place.{Place}
 use Rattle.definition.specs.Slots.{add_value}
 use Rattle.definition.specs.Object.{change_chunk, object}
 
@@ -33,7 +33,7 @@ refers_hot r m = got (IsRef r) (with_hot (entered m.hot r) m)
 
 -- a plain index is below the object count (else refusal 8)
 unfoldable pub backref_to : ℕ → Reader SlotValue
-backref_to i m = choose (ltb i m.objects.count) (refers_hot (Object i)) (refuse 8) m
+backref_to i m = (if ltb i m.objects.count then refers_hot (Object i) else refuse 8) m
 
 -- a place of the hot ring; empty: refusal 9 (difference D18)
 abbrev pub of_hot : Option Ref → Reader SlotValue
@@ -59,8 +59,8 @@ place_reference x space place m =
 
 abbrev pub after_first : Input → ℕ → ℕ → Reader SlotValue
 after_first x space first =
-    choose (is_single x.sheet space) (single_reference x space first)
-    (int x >>= (λ second. place_reference x space (record { chunk = first; offset = second })))
+    if is_single x.sheet space then single_reference x space first
+    else (int x >>= (λ second. place_reference x space (record { chunk = first; offset = second })))
 
 unfoldable pub legacy_reference : Input → ℕ → Reader SlotValue
 legacy_reference x space = int x >>= after_first x space
@@ -84,7 +84,7 @@ raw_data x n advances m = after_raw n advances (raw_at x.payload m.at n) m
 
 -- variable raw data counts words, in legacy bytes; a length of 0 reads one byte (difference D16)
 abbrev pub raw_bytes : Input → ℕ → ℕ
-raw_bytes x n = max (pick_ℕ (is_legacy x.sheet) n (n * word x)) 1
+raw_bytes x n = max (if is_legacy x.sheet then n else n * word x) 1
 
 -- ---- references with others in them; r reads those, one level deeper
 

@@ -1,9 +1,9 @@
 -- Slots, values and pending forward references. Assumes nothing: these are definitions.
-use Rattle.std.specs.Prelude.{Bool, ◌&&◌, List, ℕ, zero, suc, ◌+◌, ◌-◌, ◌*◌, ◌/◌, eqb, set}
+use Rattle.std.specs.Prelude.{if◌then◌else◌, Bool, ◌&&◌, List, ℕ, zero, suc, ◌+◌, ◌-◌, ◌*◌, ◌/◌, eqb, set}
 use Rattle.tables.specs.declared.values.SlotValue.{SlotValue}
-use Rattle.tables.specs.declared.values.SlotValue.TheVariants.{Ref, Repeat, RepeatPrev, Skip, StreamBytes, Raw, ClearedWeak, WeakRef, PendingRef}
+use Rattle.tables.specs.declared.values.SlotValue.TheVariants.{Repeat, RepeatPrev, Skip, StreamBytes, PendingRef}
 use Rattle.tables.specs.declared.values.Fields.{Fields}
-use Rattle.tables.specs.Values.{pick_ℕ, triple, fields_of, width_of}
+use Rattle.tables.specs.Values.{triple, fields_of, width_of}
 use Rattle.tables.specs.Records.{field, slot_row, value_row, filled}
 use Rattle.definition.specs.Memory.{Input, word, Kept, in_slot, in_value, item, value, resolve, Table, table, Mem, Reader, ◌>>=◌, ◌>>◌, give, change, with_objects, with_slots, with_values, with_pending, with_skip, noted, tell, added, append}
 
@@ -36,11 +36,11 @@ waits_for st number k = eqb (field 6 st k 5) 1 && eqb (field 6 st k 3) number
 -- of the first n slots the newest that waits under a number, counted from 1; 0: none does. (In one walk at most one does.)
 unfoldable pub waiter : List ℕ → ℕ → ℕ → ℕ
 waiter st number zero = 0
-waiter st number (suc n) = pick_ℕ (waits_for st number n) (suc n) (waiter st number n)
+waiter st number (suc n) = if waits_for st number n then suc n else waiter st number n
 
 -- when none waits, numbering returns to 0 (difference D9)
 abbrev pub renumbered : ℕ → ℕ → ℕ
-renumbered pending waiting = pick_ℕ (eqb waiting 0) 0 pending
+renumbered pending waiting = if eqb waiting 0 then 0 else pending
 
 -- the slot that waits, counted from 1, becomes this object; 0, an unknown number, changes no slot (differences D8 and D10)
 abbrev pub fill_waiter : ℕ → ℕ → Mem → Mem
@@ -58,14 +58,7 @@ resolved number o m = noted (resolve number o) (fill_waiter (waiter m.slots.rows
 -- only a pending value that is itself the slot waits (difference D11)
 abbrev pub waits_of : SlotValue → ℕ
 waits_of (PendingRef n) = 1
-waits_of (Ref r) = 0
-waits_of (Repeat n k) = 0
-waits_of (RepeatPrev n) = 0
-waits_of (Skip n) = 0
-waits_of (StreamBytes n) = 0
-waits_of (Raw r) = 0
-waits_of ClearedWeak = 0
-waits_of (WeakRef k) = 0
+waits_of v = 0
 
 -- an item that becomes a slot, after the with-skip amount that stands; its index is its first byte divided by the word, rounded down
 unfoldable pub keep_item : Input → ℕ → ℕ → SlotValue → Reader ℕ
@@ -90,9 +83,4 @@ unfoldable pub place_item : Input → ℕ → ℕ → SlotValue → Reader ℕ
 place_item x o done (Skip n) = change (with_skip 0) >> give (done + n)
 place_item x o done (StreamBytes n) = change (with_skip 0) >> give done
 place_item x o done (RepeatPrev n) = repeat_previous >>= (λ k. keep_item x o done (Repeat n k))
-place_item x o done (Ref r) = keep_item x o done (Ref r)
-place_item x o done (Repeat n k) = keep_item x o done (Repeat n k)
-place_item x o done (Raw r) = keep_item x o done (Raw r)
-place_item x o done ClearedWeak = keep_item x o done ClearedWeak
-place_item x o done (WeakRef k) = keep_item x o done (WeakRef k)
-place_item x o done (PendingRef n) = keep_item x o done (PendingRef n)
+place_item x o done v = keep_item x o done v

@@ -5,7 +5,7 @@ use Prim.Native.Nat.{ℕ, suc, ◌+◌, ◌-◌, ◌<◌, ◌≤◌}
 use native.Mathlib.Omega.{arith}
 use borrow.Author.Tests.{le-leb, lt-leb, lt-ltb}
 use lib.ListN.{length}
-use Rattle.std.specs.Prelude.{Ok, Err}
+use Rattle.std.specs.Prelude.{if◌then◌else◌, Ok, Err}
 use Rattle.stream.specs.Bytes.{peek_at}
 use Rattle.refusals.specs.Numbers.{number_of}
 use Rattle.sheet.specs.Sheet.{is_legacy}
@@ -14,7 +14,7 @@ use Rattle.sheet.specs.declared.tests.Closing.TheVariants.{Synchronize, Alignmen
 use Rattle.sheet.specs.Tests.{closing_of}
 use Rattle.tables.specs.declared.values.SlotValue.{SlotValue}
 use Rattle.tables.specs.Values.{fields_of}
-use Rattle.definition.specs.Memory.{Input, dropped, value, begins, Mem, Out, got, no, Reader, choose, give, refuse_at, noted, tell, byte}
+use Rattle.definition.specs.Memory.{Input, dropped, value, begins, Mem, Out, got, no, Reader, give, refuse_at, noted, tell, byte}
 use Rattle.definition.specs.Object.{peek}
 use Rattle.definition.specs.Reference.{ref_at}
 use Rattle.definition.specs.Closing.{entry, drop_reference, ends_legacy, after_entry, by_entry, entries, closing}
@@ -152,7 +152,7 @@ module _ {w₀ : Walker} {s₀ : State} {w : Walker} {s : State} (a : Loop w₀ 
 
   -- after it, by its answer
   module _ {r : Answer (Unit {0})} {w₁ : Walker} (z : Answered w₀ s₀ w s r w₁) where
-    pub loop_fault : {f : Refused} → r ≡ Err f → choose (ends_legacy (input_of w₁) (number_of f.refusal)) (give tt) (refuse_at (number_of f.refusal) f.place) (mem f.state (lent_of w₁)) ≡ whole
+    pub loop_fault : {f : Refused} → r ≡ Err f → (if ends_legacy (input_of w₁) (number_of f.refusal) then give tt else refuse_at (number_of f.refusal) f.place) (mem f.state (lent_of w₁)) ≡ whole
     loop_fault q = rw z.after.fixed.sheet (rw q at z.same)
 
     module _ {s₁ : State} (q : r ≡ Ok (tt {0}, s₁)) where

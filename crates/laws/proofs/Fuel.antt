@@ -1,6 +1,6 @@
 -- The number that bounds a reader's repetitions does not matter where it is large enough: each repetition reads a byte at least.
 -- Assumes nothing.
-use Rattle.std.specs.Prelude.{◌≡◌, Bool, true, false, ◌&&◌, leb, eqb, length}
+use Rattle.std.specs.Prelude.{if◌then◌else◌, ◌≡◌, Bool, true, false, ◌&&◌, leb, eqb, length}
 use Rattle.std.proofs.Math.Path.{refl, sym, subst}
 use mathlib.Core.List.{[], ◌∷◌}
 use Prim.Native.Nat.{ℕ, zero, suc, ◌+◌, ◌-◌, ◌<◌, ◌≤◌}
@@ -13,7 +13,7 @@ use Rattle.sheet.specs.declared.tests.Closing.TheVariants.{Synchronize, Alignmen
 use Rattle.sheet.specs.Tests.{is_resolve, is_deferred, is_next_chunk, is_nop, closing_of}
 use Rattle.std.proofs.lemmas.Bool.{and_parts}
 use Rattle.tables.specs.declared.values.SlotValue.{SlotValue}
-use Rattle.definition.specs.Memory.{Input, begins, Mem, Out, got, no, Reader, and_then, ◌>>=◌, ◌>>◌, choose, change, moved, aligned, noted, byte, int}
+use Rattle.definition.specs.Memory.{Input, begins, Mem, Out, got, no, Reader, and_then, ◌>>=◌, ◌>>◌, change, moved, aligned, noted, byte, int}
 use Rattle.definition.specs.Slots.{resolved, place_item}
 use Rattle.definition.specs.Object.{peek, change_chunk, chunk_changes, resolves, items}
 use Rattle.definition.specs.Reference.{ref_at}
@@ -29,7 +29,7 @@ use Rattle.laws.proofs.Theorems.{rules, holds, begin, keeping, byte_keeps, ref_k
 
 -- ---- two readings alike
 
-choose_same : {A : Type 0} {m : Mem} (t : Bool) (f f' h h' : Reader A) → (t ≡ true → f m ≡ f' m) → (t ≡ false → h m ≡ h' m) → choose t f h m ≡ choose t f' h' m
+choose_same : {A : Type 0} {m : Mem} (t : Bool) (f f' h h' : Reader A) → (t ≡ true → f m ≡ f' m) → (t ≡ false → h m ≡ h' m) → (if t then f else h) m ≡ (if t then f' else h') m
 choose_same true f f' h h' y n = y refl
 choose_same false f f' h h' y n = n refl
 
@@ -37,11 +37,11 @@ then_same : {A B : Type 0} (o : Out A) (f f' : A → Reader B) → ((a : A) (m :
 then_same (got a m) f f' h = h a m refl
 then_same (no n q m) f f' h = refl
 
-choose_no : {A : Type 0} {m : Mem} (t : Bool) (f h : Reader A) → (t ≡ true → ⊥) → choose t f h m ≡ h m
+choose_no : {A : Type 0} {m : Mem} (t : Bool) (f h : Reader A) → (t ≡ true → ⊥) → (if t then f else h) m ≡ h m
 choose_no true f h n = absurd (n refl)
 choose_no false f h n = refl
 
-choose_yes : {A : Type 0} {m : Mem} (t : Bool) (f h : Reader A) → t ≡ true → choose t f h m ≡ f m
+choose_yes : {A : Type 0} {m : Mem} (t : Bool) (f h : Reader A) → t ≡ true → (if t then f else h) m ≡ f m
 choose_yes t f h e = rw e
 
 module _ {x : Input} (g : Proper x) where

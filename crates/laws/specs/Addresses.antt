@@ -1,7 +1,7 @@
 -- THE THEOREM on legacy addresses: in every reading the addresses of a space do not fall, in the order of allocating. They are at most the
 -- space's counters, since a filler is no longer than what the next free offset moves by: with words of 8 bytes offsets are multiples of 8,
 -- and there is none. Assumes nothing.
-use Rattle.std.specs.Prelude.{◌≡◌, ◌⊎◌, Bool, ◌&&◌, ◌||◌, List, [], ◌∷◌, ℕ, zero, suc, ◌+◌, ◌-◌, ◌%◌, ◌<◌, ◌≤◌, leb, length, get_or, set}
+use Rattle.std.specs.Prelude.{if◌then◌else◌, ◌≡◌, ◌⊎◌, Bool, ◌&&◌, ◌||◌, List, [], ◌∷◌, ℕ, zero, suc, ◌+◌, ◌-◌, ◌%◌, ◌<◌, ◌≤◌, leb, length, get_or, set}
 use Rattle.std.proofs.Math.Path.{refl}
 use Rattle.std.proofs.Common.{sym, ap, subst, ◌∙◌, inl, inr, length-set, get_or-set_same, get_or-set_other}
 use Rattle.std.proofs.Math.Bool.{true, false, not}
@@ -12,10 +12,10 @@ use Rattle.std.proofs.Math.Dec.{ltb, eqb}
 use Rattle.std.proofs.Math.Seq.{set_out}
 use Rattle.tables.specs.Records.{room, field, address_row, written}
 use Rattle.tables.proofs.RecordLaws.{written_same, written_else}
-use Rattle.alloc.specs.Fill.{pick_ℕ, max_fill_to_align, fill_to_align}
+use Rattle.alloc.specs.Fill.{max_fill_to_align, fill_to_align}
 use Rattle.alloc.specs.declared.legacy_alloc.LegacyAlloc.{LegacyAlloc}
 use Rattle.alloc.specs.declared.legacy_alloc.Request.{Request}
-use Rattle.alloc.specs.Allocation.{zero_counters, pick_alloc, next_chunk, advance_of, Outcome, allocate_of}
+use Rattle.alloc.specs.Allocation.{zero_counters, next_chunk, advance_of, Outcome, allocate_of}
 use Rattle.address_index.specs.Links.{space_of}
 use Rattle.address_index.specs.Sorted.{AtMost, Sorted}
 use Rattle.address_index.proofs.CountLaws.{space_field}
@@ -62,12 +62,12 @@ module _ (used alignment w size : ℕ) (words : (w ≡ 4) ⊎ (w ≡ 8)) (whole 
   unfolding fill_to_align advance_of max_fill_to_align
   fill_low = go (eqb alignment 1) (eqb alignment 2) (eqb alignment 0) (eqb (used % 8) 0) refl refl refl refl words
     where
-      go : (a b z d : Bool) → eqb alignment 1 ≡ a → eqb alignment 2 ≡ b → eqb alignment 0 ≡ z → eqb (used % 8) 0 ≡ d → (w ≡ 4) ⊎ (w ≡ 8) → pick_ℕ (a && not d) w (pick_ℕ (b && d) (8 - w) 0) ≤ pick_ℕ z size (size + (8 - w))
+      go : (a b z d : Bool) → eqb alignment 1 ≡ a → eqb alignment 2 ≡ b → eqb alignment 0 ≡ z → eqb (used % 8) 0 ≡ d → (w ≡ 4) ⊎ (w ≡ 8) → (if a && not d then w else if b && d then 8 - w else 0) ≤ (if z then size else size + (8 - w))
       go true b true d p q r s v = let x = eqb-true alignment 1 p in let y = eqb-true alignment 0 r in absurd (omega (arith, x, y))
       go false true true d p q r s v = let x = eqb-true alignment 2 q in let y = eqb-true alignment 0 r in absurd (omega (arith, x, y))
       go true b false true p q r s v = second b v
         where
-          second : (b : Bool) → (w ≡ 4) ⊎ (w ≡ 8) → pick_ℕ (b && true) (8 - w) 0 ≤ size + (8 - w)
+          second : (b : Bool) → (w ≡ 4) ⊎ (w ≡ 8) → (if b && true then 8 - w else 0) ≤ size + (8 - w)
           second true v = omega arith
           second false v = omega arith
       go true b false false p q r s (inl v) = omega (arith, v)
@@ -80,7 +80,7 @@ module _ (used alignment w size : ℕ) (words : (w ≡ 4) ⊎ (w ≡ 8)) (whole 
   unfolding advance_of max_fill_to_align
   advance_whole e = go (eqb alignment 0) words
     where
-      go : (z : Bool) → (w ≡ 4) ⊎ (w ≡ 8) → (used + pick_ℕ z size (size + (8 - w))) % w ≡ 0
+      go : (z : Bool) → (w ≡ 4) ⊎ (w ≡ 8) → (used + (if z then size else size + (8 - w))) % w ≡ 0
       go true (inl v) = rw v (let a = rw v at whole in let b = rw v at e in omega (arith, a, b))
       go true (inr v) = rw v (let a = rw v at whole in let b = rw v at e in omega (arith, a, b))
       go false (inl v) = rw v (let a = rw v at whole in let b = rw v at e in omega (arith, a, b))
@@ -100,7 +100,7 @@ module _ (x : Input) where
     pub offsets : length c.used ≡ 256
     pub whole : (s : ℕ) → get_or c.used s 0 % word x ≡ 0
     pub small : (i : ℕ) → i < a.count → space_of a.rows i < 256
-    pub flags : (i : ℕ) → i < a.count → field 5 a.rows i 4 ≡ pick_ℕ (leb x.spaces (space_of a.rows i)) 0 1
+    pub flags : (i : ℕ) → i < a.count → field 5 a.rows i 4 ≡ (if leb x.spaces (space_of a.rows i) then 0 else 1)
     pub bares : (i : ℕ) → i < a.count → x.spaces ≤ space_of a.rows i → (field 5 a.rows i 1 ≡ 0) × (field 5 a.rows i 2 ≡ 0)
     pub bounded : (i : ℕ) → i < a.count → AtMost (field 5 a.rows i 1) (field 5 a.rows i 2) (get_or c.cur (space_of a.rows i) 0) (get_or c.used (space_of a.rows i) 0)
     pub rising : (i j : ℕ) → i < j → j < a.count → space_of a.rows i ≡ space_of a.rows j → AtMost (field 5 a.rows i 1) (field 5 a.rows i 2) (field 5 a.rows j 1) (field 5 a.rows j 2)
@@ -109,7 +109,7 @@ module _ (x : Input) where
   ascending_sorted a c p =
       record {
         rising = p.rising;
-        alike = λ i j l b e. p.flags i (omega (arith, l, b)) ∙ ap (λ (s : ℕ). pick_ℕ (leb x.spaces s) 0 1) e ∙ sym (p.flags j b);
+        alike = λ i j l b e. p.flags i (omega (arith, l, b)) ∙ ap (λ (s : ℕ). if leb x.spaces s then 0 else 1) e ∙ sym (p.flags j b);
       }
 
 at_most_trans : {a b c d e f : ℕ} → AtMost a b c d → AtMost c d e f → AtMost a b e f
@@ -160,7 +160,7 @@ module _ (x : Input) (a : Table) (c : LegacyAlloc) (space : ℕ) (p : Ascending 
   unfolding next_chunk
   chunk_ascending = go (leb x.spaces space)
     where
-      go : (b : Bool) → Ascending x a (pick_alloc b c next)
+      go : (b : Bool) → Ascending x a (if b then c else next)
       go true = p
       go false = chunk_next
 
@@ -207,7 +207,7 @@ module _ (x : Input) (words : (word x ≡ 4) ⊎ (word x ≡ 8)) (m : Mem) (p : 
     after = written t n row
 
     with_record : length c.cur ≡ 256 → length c.used ≡ 256 → ((s : ℕ) → get_or c.used s 0 % word x ≡ 0)
-        → flag ≡ pick_ℕ (leb x.spaces space) 0 1 → (x.spaces ≤ space → (chunk ≡ 0) × (offset ≡ 0))
+        → flag ≡ (if leb x.spaces space then 0 else 1) → (x.spaces ≤ space → (chunk ≡ 0) × (offset ≡ 0))
         → ((s : ℕ) → AtMost (get_or m.alloc.cur s 0) (get_or m.alloc.used s 0) (get_or c.cur s 0) (get_or c.used s 0))
         → AtMost chunk offset (get_or c.cur space 0) (get_or c.used space 0)
         → ((i : ℕ) → i < n → space_of t i ≡ space → AtMost (field 5 t i 1) (field 5 t i 2) chunk offset)
@@ -223,7 +223,7 @@ module _ (x : Input) (words : (word x ≡ 4) ⊎ (word x ≡ 8)) (m : Mem) (p : 
           offsets = b;
           whole = d;
           small = λ i l. old_or_new (λ i. space_of after i < 256) n i l (λ h. rw (olds i h) (p.small i h)) (rw news low);
-          flags = λ i l. old_or_new (λ i. field 5 after i 4 ≡ pick_ℕ (leb x.spaces (space_of after i)) 0 1) n i l (λ h. rw (oldf i 4 h (omega arith), olds i h) (p.flags i h)) (rw (newf 4 (omega arith), news) e);
+          flags = λ i l. old_or_new (λ i. field 5 after i 4 ≡ (if leb x.spaces (space_of after i) then 0 else 1)) n i l (λ h. rw (oldf i 4 h (omega arith), olds i h) (p.flags i h)) (rw (newf 4 (omega arith), news) e);
           bares = λ i l. old_or_new (λ i. x.spaces ≤ space_of after i → (field 5 after i 1 ≡ 0) × (field 5 after i 2 ≡ 0)) n i l (λ h. rw (olds i h, oldf i 1 h (omega arith), oldf i 2 h (omega arith)) (p.bares i h)) (rw (news, newf 1 (omega arith), newf 2 (omega arith)) f);
           bounded = λ i l. old_or_new (λ i. AtMost (field 5 after i 1) (field 5 after i 2) (get_or c.cur (space_of after i) 0) (get_or c.used (space_of after i) 0)) n i l (λ h. rw (olds i h, oldf i 1 h (omega arith), oldf i 2 h (omega arith)) (at_most_trans (p.bounded i h) (up (space_of t i)))) (rw (news, newf 1 (omega arith), newf 2 (omega arith)) top);
           rising = λ i j l b. old_or_new (λ j. i < j → space_of after i ≡ space_of after j → AtMost (field 5 after i 1) (field 5 after i 2) (field 5 after j 1) (field 5 after j 2)) n j b

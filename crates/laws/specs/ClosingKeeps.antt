@@ -1,11 +1,11 @@
 -- The closing section, the padding and the whole walk keep what they have in order (Sound.antt) and an invariant with its rules
 -- (Rules.antt); a call starts in order. Assumes nothing.
-use Rattle.std.specs.Prelude.{◌≡◌, refl, Bool, true, false, leb, eqb, length, get_or, replicate}
+use Rattle.std.specs.Prelude.{if◌then◌else◌, ◌≡◌, refl, Bool, true, false, leb, eqb, length, get_or, replicate}
 use mathlib.Core.List.{List, []}
 use Prim.Native.Nat.{ℕ, zero, suc, ◌+◌, ◌-◌, ◌*◌, ◌<◌, max}
 use Rattle.std.proofs.Common.{arith, leb-false}
 use Rattle.sheet.specs.Names.{k_new_object}
-use Rattle.sheet.specs.Sheet.{pick_ℕ, is_legacy, number}
+use Rattle.sheet.specs.Sheet.{is_legacy, number}
 use Rattle.std.proofs.lemmas.Bool.{and_parts}
 use Rattle.sheet.specs.declared.tests.Closing.{Closing}
 use Rattle.sheet.specs.declared.tests.Closing.TheVariants.{Synchronize, Alignment, Deferred, Reference}
@@ -15,7 +15,7 @@ use Rattle.tables.specs.declared.values.Fields.{Fields}
 use Rattle.tables.specs.Values.{fields_of}
 use Rattle.tables.specs.Records.{field}
 use Rattle.alloc.specs.Allocation.{zero_counters}
-use Rattle.definition.specs.Memory.{Input, Log, in_slot, begins, synchronize, table, Mem, Out, got, no, Reader, and_then, ◌>>=◌, choose, refuse_at, with_slots, with_alloc, noted, byte}
+use Rattle.definition.specs.Memory.{Input, Log, in_slot, begins, synchronize, table, Mem, Out, got, no, Reader, and_then, ◌>>=◌, refuse_at, with_slots, with_alloc, noted, byte}
 use Rattle.definition.specs.Object.{peek, object}
 use Rattle.definition.specs.Reference.{ref_at}
 use Rattle.definition.specs.Closing.{add_slots, entry_fields, entry_slots, entry_count, entry_item, entry_items, entry_of, entry, drop_reference, ends_legacy, after_entry, by_entry, entries, padding, closing}
@@ -35,7 +35,7 @@ pub record Slots (n : ℕ) (m m' : Mem) : Type 0 where
 top_space_lem : (x : Input) (b : ℕ) → b < 256 → top_space x b < 256
 top_space_lem x b h = picked (is_legacy x.sheet)
   where
-    picked : (t : Bool) → pick_ℕ t (b - number x.sheet k_new_object) 0 < 256
+    picked : (t : Bool) → (if t then b - number x.sheet k_new_object else 0) < 256
     picked true = omega arith
     picked false = omega arith
 
@@ -125,7 +125,7 @@ module _ {x : Input} {I : List Frame → Mem → Type 0} {W : Mem → SlotValue 
 
   -- ---- the walk
 
-  top_keeps : Keeping x I Reads (byte x >>= (λ b. choose (opens x.sheet b) (object x (ref_at x 64) (top_space x b) 0) (refuse_at 5 0)))
+  top_keeps : Keeping x I Reads (byte x >>= (λ b. if opens x.sheet b then object x (ref_at x 64) (top_space x b) 0 else refuse_at 5 0))
   top_keeps =
       law (λ S m w. then₁ w (by w (byte_keeps g R)) _
       (λ b m1 w1 k1 p. either (opens x.sheet b) _ _

@@ -1,6 +1,6 @@
 -- Steps, records, objects and their items: each keeps what it has in order (Sound.antt) and an invariant with its rules (Rules.antt), and
 -- gives what its callers need. Assumes nothing.
-use Rattle.std.specs.Prelude.{◌≡◌, Bool, ◌&&◌, List, ◌∷◌, leb, Option, Some, None}
+use Rattle.std.specs.Prelude.{if◌then◌else◌, ◌≡◌, Bool, ◌&&◌, List, ◌∷◌, leb, Option, Some, None}
 use Rattle.std.proofs.Math.Path.{refl, ap}
 use Rattle.std.proofs.Common.{sym, ◌∙◌, subst, ⊎_elim}
 use Rattle.std.proofs.Math.Bool.{true, false}
@@ -22,11 +22,11 @@ use Rattle.sheet.proofs.UsableSheet.{usable_gives}
 use Rattle.tables.specs.declared.values.SlotValue.{SlotValue}
 use Rattle.tables.specs.declared.values.SlotValue.TheVariants.{Ref as IsRef, Repeat, RepeatPrev, Skip, StreamBytes, Raw, ClearedWeak, WeakRef, PendingRef}
 use Rattle.tables.specs.declared.values.Fields.{Fields}
-use Rattle.tables.specs.Values.{pick_ℕ, fields_of, width_of}
+use Rattle.tables.specs.Values.{fields_of, width_of}
 use Rattle.tables.specs.Records.{room}
 use Rattle.tables.proofs.RecordLaws.{filled_length}
 use Rattle.alloc.specs.Allocation.{Outcome, allocate_of}
-use Rattle.definition.specs.Memory.{Input, word, Kept as Where, item, tell, Table, Mem, Out, got, no, Reader, and_then, ◌>>=◌, choose, change, give, refuse, moved, with_skip, with_long, byte, after_int, int}
+use Rattle.definition.specs.Memory.{Input, word, Kept as Where, item, tell, Table, Mem, Out, got, no, Reader, and_then, ◌>>=◌, change, give, refuse, moved, with_skip, byte, after_int, int, appended, with_long}
 use Rattle.definition.specs.Slots.{add_value, add_slot, waiter, fill_waiter, resolved, waits_of, keep_item, repeat_previous, place_item}
 use Rattle.definition.specs.Object.{peek, add_object, large_byte, change_chunk, after_allocation, allocate, alignment_byte, chunk_changes, map_first, map_then_allocate, read_map, flags, flag_object, keep_map, resolves, items, closed, body, object}
 use Rattle.laws.specs.Sound.{Proper, Kept}
@@ -97,7 +97,7 @@ module _ {x : Input} (g : Proper x) where
   space_inside : (space at : ℕ) → space < 256 → eqb (peek_at x.payload at) space ≡ true → at < length x.payload
   space_inside space at h e = let same : peek_at x.payload at ≡ space = eqb-true _ _ e in peek-inside x.payload at (λ z. omega arith)
 
-pick_low : (t : Bool) (n : ℕ) → pick_ℕ t 0 n ≤ n
+pick_low : (t : Bool) (n : ℕ) → (if t then 0 else n) ≤ n
 pick_low true n = omega arith
 pick_low false n = omega arith
 
@@ -178,7 +178,7 @@ module _ {x : Input} {I : List Frame → Mem → Type 0} {W : Mem → SlotValue 
   unfolding add_slot
   slot_then {m₀} {m} {U} {Q} w o index f waits k K p h = test (ltb m.slots.count (room 6 m.slots.rows)) refl
     where
-      test : (t : Bool) → ltb m.slots.count (room 6 m.slots.rows) ≡ t → Ends x I m₀ U Q (K (choose t (λ m. got m.slots.count (with_slot o index f waits k m)) (refuse 3) m))
+      test : (t : Bool) → ltb m.slots.count (room 6 m.slots.rows) ≡ t → Ends x I m₀ U Q (K ((if t then appended (λ m. m.slots) (with_slot o index f waits k) else refuse 3) m))
       test true e = h (ltb-true _ _ e)
       test false e = rw (p 3 m.at m) (refuses w)
 

@@ -1,18 +1,18 @@
 -- What the definitions below the walk keep: integers, raw ranges, back-references, the ring, allocation, head bytes. Assumes nothing.
-use Rattle.std.specs.Prelude.{◌≡◌, Bool, not, ◌&&◌, ◌||◌, ◌≢◌, List, [], ◌∷◌, ℕ, zero, suc, ◌+◌, ◌-◌, ◌%◌, ◌^◌, ◌<◌, ◌≤◌, ltb, leb, eqb, get_or, set, Option, Some, None}
+use Rattle.std.specs.Prelude.{if◌then◌else◌, ◌≡◌, Bool, not, ◌&&◌, ◌||◌, ◌≢◌, List, [], ◌∷◌, ℕ, zero, suc, ◌+◌, ◌-◌, ◌%◌, ◌^◌, ◌<◌, ◌≤◌, ltb, leb, eqb, get_or, set, Option, Some, None}
 use Rattle.std.proofs.Math.Path.{refl}
 use Rattle.std.proofs.Common.{◌∙◌, ⊎_elim, arith, lt_of_lt_of_le, length-set, pow_mono}
 use Rattle.std.proofs.Math.Bool.{true, false}
 use borrow.Author.Tests.{ltb-true, ltb-false, leb-true, leb-false, eqb-true, not-false}
 use Rattle.std.proofs.Math.ListN.{length, get_or-eq_default}
 use Rattle.stream.specs.declared.putint.Int.{Int}
-use Rattle.stream.specs.Bytes.{peek_at, little_endian, raw_at, pick_range}
-use Rattle.stream.specs.PutInt.{pick_int, int_length, int_at}
+use Rattle.stream.specs.Bytes.{peek_at, little_endian, raw_at}
+use Rattle.stream.specs.PutInt.{int_length, int_at}
 use Rattle.stream.proofs.ByteLaws.{Bytes, le_below, peek-byte}
 use Rattle.sheet.specs.Names.{k_new_object, k_synchronize, k_alignment_prefix, k_new_meta_map}
-use Rattle.sheet.specs.Sheet.{pick_ℕ, number, present, number_of_spaces, is_legacy}
+use Rattle.sheet.specs.Sheet.{number, present, number_of_spaces, is_legacy}
 use Rattle.sheet.specs.declared.tests.Closing.TheVariants.{Synchronize, Alignment, Deferred, Reference}
-use Rattle.sheet.specs.Tests.{in_span, alignment_of, pick_closing, is_entry, closing_of}
+use Rattle.sheet.specs.Tests.{in_span, alignment_of, is_entry, closing_of}
 use Rattle.sheet.specs.Usable.{Usable}
 use Rattle.std.proofs.lemmas.Bool.{and_parts}
 use Rattle.tables.specs.declared.values.Ref.{Ref}
@@ -21,13 +21,13 @@ use Rattle.tables.proofs.RecordLaws.{written_length}
 use Rattle.alloc.specs.declared.legacy_alloc.LegacyAlloc.{LegacyAlloc}
 use Rattle.alloc.specs.declared.legacy_alloc.Request.{Request}
 use Rattle.alloc.specs.Fill.{fill_to_align}
-use Rattle.alloc.specs.Allocation.{advance_of, pick_alloc, next_chunk, Outcome, pick_outcome, placed, allocate_of}
+use Rattle.alloc.specs.Allocation.{advance_of, next_chunk, Outcome, placed, allocate_of}
 use Rattle.backref.specs.declared.hot_ring.HotRing.{HotRing}
 use Rattle.backref.specs.HotRing.{entered}
 
 -- ---- integers and raw ranges
 
-pick_int_case : (P : Option Int → Type 0) (t : Bool) (a b : Option Int) → (t ≡ true → P a) → (t ≡ false → P b) → P (pick_int t a b)
+pick_int_case : (P : Option Int → Type 0) (t : Bool) (a b : Option Int) → (t ≡ true → P a) → (t ≡ false → P b) → P (if t then a else b)
 pick_int_case P true a b y n = y refl
 pick_int_case P false a b y n = n refl
 
@@ -49,7 +49,7 @@ int_ends p at bs =
     let value : little_endian p at (int_length p at) < 2 ^ 32 = lt_of_lt_of_le (le_below p at (int_length p at) bs) (pow_mono {j = 32} (omega arith)) in
     omega (arith, leb-false (length p) at e, ltb-false (length p - at) (int_length p at) f)))
 
-pick_range_case : (P : Option ℕ → Type 0) (t : Bool) (a b : Option ℕ) → (t ≡ true → P a) → (t ≡ false → P b) → P (pick_range t a b)
+pick_range_case : (P : Option ℕ → Type 0) (t : Bool) (a b : Option ℕ) → (t ≡ true → P a) → (t ≡ false → P b) → P (if t then a else b)
 pick_range_case P true a b y n = y refl
 pick_range_case P false a b y n = n refl
 
@@ -93,7 +93,7 @@ module _ (v : List ℕ) (u : Usable v) where
   unfolding alignment_of
   alignment_inside p at h = within (in_span v k_alignment_prefix 3 (peek_at p at)) refl h
     where
-      within : (t : Bool) → in_span v k_alignment_prefix 3 (peek_at p at) ≡ t → pick_ℕ t (peek_at p at - number v k_alignment_prefix + 1) 0 ≢ 0 → at < length p
+      within : (t : Bool) → in_span v k_alignment_prefix 3 (peek_at p at) ≡ t → (if t then peek_at p at - number v k_alignment_prefix + 1 else 0) ≢ 0 → at < length p
       within true e f = prefix_inside p at e
       within false e f = absurd (f refl)
 
@@ -123,7 +123,7 @@ pub chunk_counters : (c : LegacyAlloc) (spaces space n : ℕ) → Counters n c �
 unfolding next_chunk
 chunk_counters c spaces space n h = pick (leb spaces space)
   where
-    pick : (t : Bool) → Counters (n + 1) (pick_alloc t c (record { cur = set c.cur space (get_or c.cur space 0 + 1); used = set c.used space 0 }))
+    pick : (t : Bool) → Counters (n + 1) (if t then c else record { cur = set c.cur space (get_or c.cur space 0 + 1); used = set c.used space 0 })
     pick true = record { cur_length = h.cur_length; used_length = h.used_length; low = λ s. omega (arith, h.low s) }
     pick false =
         record {
@@ -139,7 +139,7 @@ pub record Allocates (t : List ℕ) (n : ℕ) (c : LegacyAlloc) (r : Outcome) : 
   pub cur_same : r.alloc.cur ≡ c.cur
   pub used_length : length r.alloc.used ≡ length c.used
 
-pub pick_outcome_case : (P : Outcome → Type 0) (t : Bool) (a b : Outcome) → (t ≡ true → P a) → (t ≡ false → P b) → P (pick_outcome t a b)
+pub pick_outcome_case : (P : Outcome → Type 0) (t : Bool) (a b : Outcome) → (t ≡ true → P a) → (t ≡ false → P b) → P (if t then a else b)
 pick_outcome_case P true a b y n = y refl
 pick_outcome_case P false a b y n = n refl
 
@@ -172,7 +172,7 @@ pub deferred_legacy : (v : List ℕ) (b space : ℕ) → closing_of v b ≡ Defe
 unfolding closing_of
 deferred_legacy v b space e = by (eqb (number v k_synchronize) b) (in_span v k_alignment_prefix 3 b) (is_entry v b) refl e
   where
-    by : (s a d : Bool) → is_entry v b ≡ d → pick_closing s Synchronize (pick_closing a (Alignment (b - number v k_alignment_prefix + 1)) (pick_closing d (Deferred (b - number v k_new_object)) Reference)) ≡ Deferred space → is_legacy v ≡ true
+    by : (s a d : Bool) → is_entry v b ≡ d → (if s then Synchronize else if a then Alignment (b - number v k_alignment_prefix + 1) else if d then Deferred (b - number v k_new_object) else Reference) ≡ Deferred space → is_legacy v ≡ true
     by true a d q e = absurd (let z : ◌≡◌ {A = ℕ} 0 1 = cc in omega arith)
     by false true d q e = absurd (let z : ◌≡◌ {A = ℕ} 0 1 = cc in omega arith)
     by false false true q e = (and_parts (is_legacy v) (not (present v k_new_meta_map)) (and_parts (is_legacy v && not (present v k_new_meta_map)) (in_span v k_new_object (number_of_spaces v) b) q).0).0

@@ -1,10 +1,10 @@
 -- THE THEOREMS on pending numbers: in every reading waits is 1 only at kind 13, at most one slot waits under a number, none under a number
 -- that was not given out, and the count of those that wait is exact (Waiting.antt). Assumes nothing.
-use Rattle.std.specs.Prelude.{◌≡◌, refl, Bool, true, false, List, [], ◌∷◌, ℕ, zero, suc, ◌+◌, ◌*◌, ◌^◌, ◌<◌, ◌≤◌, eqb, length}
+use Rattle.std.specs.Prelude.{if◌then◌else◌, ◌≡◌, refl, Bool, true, false, List, [], ◌∷◌, ℕ, zero, suc, ◌+◌, ◌*◌, ◌^◌, ◌<◌, ◌≤◌, eqb, length}
 use Rattle.std.proofs.Common.{sym, subst, arith, eqb-true}
 use Rattle.tables.specs.declared.values.SlotValue.{SlotValue}
 use Rattle.tables.specs.declared.values.SlotValue.TheVariants.{Ref as IsRef, Repeat, RepeatPrev, Skip, StreamBytes, Raw, ClearedWeak, WeakRef, PendingRef}
-use Rattle.tables.specs.Values.{pick_ℕ, fields_of, width_of}
+use Rattle.tables.specs.Values.{fields_of, width_of}
 use Rattle.tables.specs.Records.{room}
 use Rattle.definition.specs.Memory.{Input, word, Log, Mem, Out, got, no}
 use Rattle.definition.specs.Slots.{waiter, fill_waiter, resolved, waits_of, place_item}
@@ -71,7 +71,7 @@ slot_fresh m ClearedWeak h e = never e
 slot_fresh m (WeakRef k) h e = never e
 
 -- numbering returns to 0 where none waits
-renumbers : (st : List ℕ) (count pending waiting : ℕ) → Waits st count pending waiting → (t : Bool) → eqb waiting 0 ≡ t → Waits st count (pick_ℕ t 0 pending) waiting
+renumbers : (st : List ℕ) (count pending waiting : ℕ) → Waits st count pending waiting → (t : Bool) → eqb waiting 0 ≡ t → Waits st count (if t then 0 else pending) waiting
 renumbers st count pending waiting w true e = waits_restart w (eqb-true _ _ e)
 renumbers st count pending waiting w false e = w
 

@@ -1,6 +1,6 @@
 -- A reference keeps what it has in order (Sound.antt) and an invariant with its rules (Rules.antt), reads a byte at least, and no item is
 -- wider than 2 ^ 34 bytes. Assumes nothing.
-use Rattle.std.specs.Prelude.{◌≡◌, Bool, ltb, length, Option, Some, None}
+use Rattle.std.specs.Prelude.{if◌then◌else◌, ◌≡◌, Bool, ltb, length, Option, Some, None}
 use Rattle.std.proofs.Math.Path.{refl}
 use Rattle.std.proofs.Math.Bool.{true, false}
 use Rattle.std.proofs.Common.{⊎_elim, ltb-true}
@@ -16,17 +16,17 @@ use Rattle.tables.specs.declared.values.Ref.{Ref}
 use Rattle.tables.specs.declared.values.Ref.TheVariants.{Object, Root, RoRef, Attached}
 use Rattle.tables.specs.declared.values.SlotValue.{SlotValue}
 use Rattle.tables.specs.declared.values.SlotValue.TheVariants.{Ref as IsRef, RepeatPrev, Skip, StreamBytes, ClearedWeak}
-use Rattle.tables.specs.Values.{pick_ℕ, width_of}
+use Rattle.tables.specs.Values.{width_of}
 use Rattle.backref.specs.HotRing.{entered, hot_at}
 use Rattle.alloc.specs.declared.resolve.Place.{Place}
-use Rattle.backref.specs.Legacy.{is_single, placed, single}
-use Rattle.definition.specs.Memory.{Input, word, Mem, Reader, ◌>>=◌, ◌>>◌, give, change, moved, with_hot, int, aligned}
-use Rattle.definition.specs.Reference.{skip_amount, refers, refers_hot, backref_to, of_hot, hot_place, of_single, single_reference, place_reference, after_first, legacy_reference, outside, pending_reference, after_raw, raw_data, raw_bytes, weak_of, repeat_of, repeat_root, by_head, reference, ref_at}
+use Rattle.backref.specs.Legacy.{is_single, single}
+use Rattle.definition.specs.Memory.{Input, word, Mem, Reader, ◌>>=◌, ◌>>◌, give, change, with_hot, int, aligned}
+use Rattle.definition.specs.Reference.{skip_amount, refers, refers_hot, backref_to, of_hot, hot_place, of_single, place_reference, legacy_reference, outside, pending_reference, after_raw, raw_data, raw_bytes, weak_of, repeat_of, repeat_root, by_head, reference, ref_at}
 use Rattle.laws.specs.Sound.{Proper}
 use Rattle.heads.proofs.Rules.{Argued, head_argued}
 use Rattle.laws.specs.Leaves.{RawEnds, raw_ends}
 use Rattle.laws.specs.Rules.{Frame, HeadOf, with_amount, gives_skip, gives_bytes, gives_previous, GivenRef, Given, Rules}
-use Rattle.laws.specs.Steps.{Good, Ends, Keeping, gives, refuses, either, here, by, last, then₁, then₂, law, weaken, kept_noted, kept_moved, kept_pending, kept_skip, good_moved, good_entered, good_aligned}
+use Rattle.laws.specs.Steps.{Good, Ends, Keeping, gives, refuses, either, here, by, last, then₁, then₂, law, weaken, kept_noted, kept_moved, kept_pending, kept_skip, good_entered, good_aligned}
 use Rattle.laws.specs.Keeps.{Reads, Refers, word_low, sheet_gives, byte_keeps, int_keeps, value_ends, chunk_byte_keeps, object-keeping}
 
 module _ {x : Input} (g : Proper x) where
@@ -116,7 +116,7 @@ module _ {x : Input} {I : List Frame → Mem → Type 0} {W : Mem → SlotValue 
   unfolding raw_data
   raw_data_keeps n advances = law (λ S m w. after w (raw_at x.payload m.at n) (raw_ends x.payload m.at n))
     where
-      width_low : (t : Bool) → n ≤ 2 ^ 34 → pick_ℕ t n 0 ≤ 2 ^ 34
+      width_low : (t : Bool) → n ≤ 2 ^ 34 → (if t then n else 0) ≤ 2 ^ 34
       width_low true h = h
       width_low false h = omega arith
 

@@ -9,7 +9,7 @@ use Rattle.heads.specs.declared.kinds.Kind.{Kind}
 use Rattle.heads.specs.declared.kinds.Kind.TheVariants.{LegacyBackrefWithSkip, HotWithSkip, RootConstantWithSkip, Internal, Deoptimizer, StreamBytes, EmbedderFields, OffHeapTarget, Api, Skip, RepeatPrevious, VariableRepeatPrevious}
 use Rattle.heads.specs.Heads.{head_of}
 use Rattle.tables.specs.declared.values.Ref.{Ref}
-use Rattle.tables.specs.declared.values.Ref.TheVariants.{Object, Root, RoRef, Attached}
+use Rattle.tables.specs.declared.values.Ref.TheVariants.{Object}
 use Rattle.tables.specs.declared.values.SlotValue.{SlotValue}
 use Rattle.tables.specs.declared.values.SlotValue.TheVariants.{Ref as IsRef, Repeat, RepeatPrev, Skip, StreamBytes, Raw as IsRaw, ClearedWeak, WeakRef, PendingRef}
 use Rattle.tables.specs.declared.values.Fields.{Fields}
@@ -67,9 +67,7 @@ gives_previous kind = false
 
 abbrev pub GivenRef : Ref → Type 0
 GivenRef (Object o) = ⊥
-GivenRef (Root i) = Unit {0}
-GivenRef (RoRef c o) = Unit {0}
-GivenRef (Attached i) = Unit {0}
+GivenRef r = Unit {0}
 
 -- a value that a head gives by itself
 abbrev pub Given : Input → SlotValue → Type 0
@@ -78,22 +76,14 @@ Given x ClearedWeak = Unit {0}
 Given x (Skip n) = HeadOf x gives_skip
 Given x (StreamBytes n) = HeadOf x gives_bytes
 Given x (RepeatPrev n) = HeadOf x gives_previous
-Given x (Repeat n k) = ⊥
-Given x (IsRaw r) = ⊥
-Given x (WeakRef k) = ⊥
-Given x (PendingRef n) = ⊥
+Given x v = ⊥
 
 -- a value that becomes a slot as it is
 abbrev pub Slotted : SlotValue → Type 0
 Slotted (Skip n) = ⊥
 Slotted (StreamBytes n) = ⊥
 Slotted (RepeatPrev n) = ⊥
-Slotted (IsRef r) = Unit {0}
-Slotted (Repeat n k) = Unit {0}
-Slotted (IsRaw r) = Unit {0}
-Slotted ClearedWeak = Unit {0}
-Slotted (WeakRef k) = Unit {0}
-Slotted (PendingRef n) = Unit {0}
+Slotted v = Unit {0}
 
 -- what values speak of: the number of objects, the slots, the values, and the pending numbers
 pub record Sides : Type 0 where

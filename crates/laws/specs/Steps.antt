@@ -1,5 +1,5 @@
 -- Ways to prove that a reader keeps what it has in order: laws of the combinators, and of each change of what a reader has. Assumes nothing.
-use Rattle.std.specs.Prelude.{◌≡◌, refl, Bool, true, false, List, [], ◌∷◌, ℕ, ◌+◌, ◌*◌, ◌^◌, ◌<◌, ◌≤◌, ltb, eqb, length, get_or, set}
+use Rattle.std.specs.Prelude.{if◌then◌else◌, ◌≡◌, refl, Bool, true, false, List, [], ◌∷◌, ℕ, ◌+◌, ◌*◌, ◌^◌, ◌<◌, ◌≤◌, ltb, eqb, length, get_or, set}
 use Rattle.std.proofs.Common.{ap, le_trans, arith, ltb-true, eqb-true, length-set}
 use Rattle.std.proofs.lemmas.Bool.{eqb-false}
 use Rattle.tables.specs.declared.values.Ref.{Ref}
@@ -12,7 +12,7 @@ use Rattle.alloc.specs.declared.legacy_alloc.LegacyAlloc.{LegacyAlloc}
 use Rattle.alloc.specs.Allocation.{Outcome}
 use Rattle.backref.specs.declared.hot_ring.HotRing.{HotRing}
 use Rattle.backref.specs.HotRing.{entered}
-use Rattle.definition.specs.Memory.{Input, Event, Table, table, Mem, Out, got, no, Reader, and_then, choose, moved, with_objects, with_slots, with_values, with_hot, with_pending, with_skip, with_long, with_alloc, aligned, noted, added, append}
+use Rattle.definition.specs.Memory.{Input, Event, Table, table, Mem, Out, got, no, Reader, and_then, moved, with_objects, with_slots, with_values, with_hot, with_pending, with_skip, with_alloc, aligned, noted, added, append, with_long}
 use Rattle.definition.specs.Slots.{counted}
 use Rattle.definition.specs.Object.{flagged}
 use Rattle.laws.specs.Sound.{Onward, Kept}
@@ -59,7 +59,7 @@ module _ {x : Input} {I : List Frame → Mem → Type 0} {m₀ m : Mem} {A : Typ
   refuses {S} w = record { result = (S, w) }
 
   -- a test
-  pub either : (t : Bool) (f g : Reader A) → (t ≡ true → Ends x I m₀ T Q (f m)) → (t ≡ false → Ends x I m₀ T Q (g m)) → Ends x I m₀ T Q (choose t f g m)
+  pub either : (t : Bool) (f g : Reader A) → (t ≡ true → Ends x I m₀ T Q (f m)) → (t ≡ false → Ends x I m₀ T Q (g m)) → Ends x I m₀ T Q ((if t then f else g) m)
   either true f g y n = y refl
   either false f g y n = n refl
 

@@ -1,6 +1,6 @@
 -- Which slots wait, after each change of the slot table: waits is 1 only at kind 13, under a number that was given out, at most one slot
 -- waits under a number, and the count of those that wait is exact. Assumes nothing.
-use Rattle.std.specs.Prelude.{◌≡◌, Bool, ◌≢◌, List, eqb, get_or}
+use Rattle.std.specs.Prelude.{if◌then◌else◌, ◌≡◌, Bool, ◌≢◌, List, eqb, get_or}
 use Rattle.std.proofs.Math.Path.{refl}
 use Rattle.std.proofs.Common.{sym, ap, ◌∙◌, subst, add-one}
 use Rattle.std.proofs.Math.Bool.{true, false}
@@ -9,7 +9,6 @@ use native.Mathlib.Omega.{arith}
 use borrow.Author.Tests.{eqb-true, eqb-false, eq-eqb, ne_eqb}
 use Rattle.std.proofs.lemmas.Bool.{and_parts}
 use Rattle.tables.specs.declared.values.Fields.{Fields}
-use Rattle.tables.specs.Values.{pick_ℕ}
 use Rattle.tables.specs.Records.{room, field, slot_row, written, filled}
 use Rattle.tables.proofs.RecordLaws.{written_same, written_else, filled_same, filled_else}
 use Rattle.definition.specs.Slots.{waits_for, waiter}
@@ -21,7 +20,7 @@ Waiting st k = field 6 st k 5 ≡ 1
 -- how many of the first n slots wait
 unfoldable pub waiters_in : List ℕ → ℕ → ℕ
 waiters_in st zero = 0
-waiters_in st (suc n) = pick_ℕ (eqb (field 6 st n 5) 1) (suc (waiters_in st n)) (waiters_in st n)
+waiters_in st (suc n) = if eqb (field 6 st n 5) 1 then suc (waiters_in st n) else waiters_in st n
 
 -- of the first `count` slots, with the next pending number and how many wait
 pub record Waits (st : List ℕ) (count pending waiting : ℕ) : Type 0 where
@@ -100,7 +99,7 @@ module _ (st : List ℕ) (number : ℕ) where
   waiter_found zero k e = absurd (omega arith)
   waiter_found (suc n) k e = by (waits_for st number n) refl e (λ z. waiter_found n k z)
     where
-      by : (t : Bool) → waits_for st number n ≡ t → pick_ℕ t (suc n) (waiter st number n) ≡ suc k → (waiter st number n ≡ suc k → (k < n) × (Waiting st k) × (field 6 st k 3 ≡ number)) → (k < suc n) × (Waiting st k) × (field 6 st k 3 ≡ number)
+      by : (t : Bool) → waits_for st number n ≡ t → (if t then suc n else waiter st number n) ≡ suc k → (waiter st number n ≡ suc k → (k < n) × (Waiting st k) × (field 6 st k 3 ≡ number)) → (k < suc n) × (Waiting st k) × (field 6 st k 3 ≡ number)
       by true y z r = let q : n ≡ k = omega arith in let w = said n y in (omega arith, rw q at w.0, rw q at w.1)
       by false y z r = let w = r z in (omega arith, w.1, w.2)
 
@@ -110,7 +109,7 @@ module _ (st : List ℕ) (number : ℕ) where
   waiter_missed zero e k l y q = omega arith
   waiter_missed (suc n) e k l y q = by (waits_for st number n) refl e (λ z h. waiter_missed n z k h y q)
     where
-      by : (t : Bool) → waits_for st number n ≡ t → pick_ℕ t (suc n) (waiter st number n) ≡ 0 → (waiter st number n ≡ 0 → k < n → ⊥) → ⊥
+      by : (t : Bool) → waits_for st number n ≡ t → (if t then suc n else waiter st number n) ≡ 0 → (waiter st number n ≡ 0 → k < n → ⊥) → ⊥
       by true f z r = omega arith
       by false f z r =
           same_or {P = ⊥} k n

@@ -13,7 +13,7 @@ use Rattle.backref.specs.declared.hot_ring.HotRing.{HotRing}
 use Rattle.backref.specs.HotRing.{entered}
 use Rattle.definition.specs.Memory.{Input, word, Mem, Out, got, no, Reader, ◌>>=◌}
 use Rattle.definition.specs.Slots.{waits_of, keep_item, place_item}
-use Rattle.definition.specs.Reference.{by_head}
+use Rattle.definition.specs.Reference.{by_head, reference}
 use Rattle.readers.specs.declared.state.State.{State}
 use Rattle.readers.specs.declared.walker.Walker.{Walker}
 use Rattle.readers.specs.Views.{Lent, input, mem, hot_is, moved_to}
@@ -51,7 +51,7 @@ Found p hot objects ts at kind a (Some r) =
     (v tr : List ℕ) (sp tag : ℕ) (s : State) (l : Lent) → word_bytes v ≡ ts → s.at ≡ at → s.objects ≡ objects → Stands (input v p sp tr) tag kind a s (hot_is hot l) r
 Found p hot objects ts at kind a None = Unit {0}
 
--- a reader of the definition refused
+-- a reader of the definition has refused
 abbrev pub Refused : {A : Type 0} → Out A → Type 0
 Refused (got a m) = ⊥
 Refused (no n q m) = Unit {0}
@@ -59,8 +59,9 @@ Refused (no n q m) = Unit {0}
 -- where none was found, the definition refuses in every such state
 abbrev pub Missing : List ℕ → HotRing → ℕ → ℕ → ℕ → Kind → ℕ → Type 0
 Missing p hot objects ts at kind a =
-    (v tr : List ℕ) (sp tag : ℕ) (s : State) (l : Lent) (inner : Reader SlotValue) → word_bytes v ≡ ts → s.at ≡ at
-    → s.objects ≡ objects → Refused (by_head (input v p sp tr) inner tag kind a (mem s (hot_is hot l)))
+    (v tr : List ℕ) (sp tag : ℕ) (s : State) (l : Lent) (inner : Reader SlotValue)
+    → word_bytes v ≡ ts → s.at ≡ at → s.objects ≡ objects
+    → Refused (by_head (input v p sp tr) inner tag kind a (mem s (hot_is hot l)))
 
 -- heads of these kinds begin what may be a leaf
 abbrev pub begins_leaf : Kind → Bool
@@ -81,12 +82,15 @@ argument_at w at = (head_at w.heads.now (get_or w.payload.now at 0)).argument
 
 -- such a head stands at a place
 abbrev pub LeafByte : Walker → ℕ → Type 0
-LeafByte w at = ((at < length w.payload.now) × (get_or w.payload.now at 0 < 256)) × (begins_leaf (kind_at w at) ≡ true)
+LeafByte w at =
+    ((at < length w.payload.now) × (get_or w.payload.now at 0 < 256))
+    × (begins_leaf (kind_at w at) ≡ true)
 
 -- the definition refuses what stands there
 abbrev pub NoLeafAt : Walker → ℕ → ℕ → Type 0
 NoLeafAt w at objects =
-    Missing w.payload.now w.hot objects (word_bytes w.sheet.now) (at + 1) (kind_at w at) (argument_at w at)
+    Missing w.payload.now w.hot objects (word_bytes w.sheet.now) (at + 1) (kind_at w at)
+    (argument_at w at)
 
 -- the leaf that stands at a place, where the head byte there begins one
 abbrev pub LeafAt : Walker → ℕ → ℕ → Option Leaf → Type 0
@@ -101,7 +105,8 @@ FoundIn w s at kind a None = Unit {0}
 
 abbrev pub MissingIn : Walker → State → ℕ → Kind → ℕ → Type 0
 MissingIn w s at kind a =
-    (tag : ℕ) (inner : Reader SlotValue) → Refused (by_head (input_of w) inner tag kind a (mem (moved_to at s) (lent_of w)))
+    (tag : ℕ) (inner : Reader SlotValue)
+    → Refused (by_head (input_of w) inner tag kind a (mem (moved_to at s) (lent_of w)))
 
 -- heads of these kinds begin what may be a leaf that is an item
 abbrev pub begins_item : Kind → Bool
@@ -110,7 +115,9 @@ begins_item kind = begins_leaf kind
 
 -- such a head stands at a place
 abbrev pub ItemByte : Walker → ℕ → Type 0
-ItemByte w at = ((at < length w.payload.now) × (get_or w.payload.now at 0 < 256)) × (begins_item (kind_at w at) ≡ true)
+ItemByte w at =
+    ((at < length w.payload.now) × (get_or w.payload.now at 0 < 256))
+    × (begins_item (kind_at w at) ≡ true)
 
 -- the bytes read of an object, with those of any leaf, stay below 2^64
 abbrev pub RoomyItem : Walker → State → Level → Type 0
@@ -119,6 +126,11 @@ RoomyItem w s level = (level.done + s.skip + 2 ^ 20 ≤ 2 ^ 64) × (word_bytes w
 -- a reference as an item of object o, `done` bytes of which have been read
 abbrev pub slot_in : Input → Reader SlotValue → ℕ → ℕ → Reader ℕ
 slot_in x r o done = r >>= place_item x o done
+
+-- a reference at the cursor as an item of the object that is read
+abbrev pub item_of : Walker → Level → Reader SlotValue → Reader ℕ
+item_of w level inner =
+    slot_in (input_of w) (reference (input_of w) inner) level.object level.done
 
 -- scratch that is in order stays so: the places of pending numbers, and the index of legacy
 -- addresses; where nothing is read, nothing is changed

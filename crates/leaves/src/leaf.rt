@@ -17,8 +17,8 @@ ghost use Rattle.tables.specs.declared.values.SlotValue.TheVariants.{Ref as IsRe
 ghost use Rattle.backref.specs.declared.hot_ring.HotRing.{HotRing};
 ghost use Rattle.definition.specs.Reference.{reference as referenceOf};
 ghost use Rattle.readers.specs.Lent.{input_of, Kept, Addressed};
+ghost use Rattle.leaves.specs.Leaf.{Found, Missing, LeafAt, LeafByte, NoLeafAt, begins_leaf, RefusedAs, ItemByte, RoomyItem, item_of, kind_at, argument_at, FoundIn, MissingIn, StaysInOrder, ReadAs, slot_in, ring_with};
 ghost use Rattle.readers.specs.Views.{Counts};
-ghost use Rattle.leaves.specs.Leaf.{Found, Missing, LeafAt, LeafByte, NoLeafAt, begins_leaf, RefusedAs, ItemByte, RoomyItem, kind_at, argument_at, FoundIn, MissingIn, StaysInOrder, ReadAs, slot_in, ring_with};
 
 use backref::hot_ring::HotRing;
 use backref::legacy::is_single;
@@ -66,8 +66,10 @@ fn reference(r: Ref, next: usize, word: u64, enters: bool, long_integers: u64) -
 #[tactic(auto, unfolding(backref::specs::HotRing::hot_at))]
 #[inline(always)]
 fn hot_leaf(hot: &HotRing, place: usize, next: usize, word: u64) -> Option<Leaf>
-    ensures some { (p : List ℕ) (objects : ℕ) → Found p hot.now objects word next Hot place result }
-    ensures none { IsNone result → (p : List ℕ) (objects : ℕ) → Missing p hot.now objects word next Hot place }
+    ensures some { (p : List ℕ) (objects : ℕ)
+        → Found p hot.now objects word next Hot place result }
+    ensures none { IsNone result → (p : List ℕ) (objects : ℕ)
+        → Missing p hot.now objects word next Hot place }
 {
     let r = (*hot.places.get(place)?)?;
     Some(reference(r, next, word, false, 0))
@@ -77,7 +79,8 @@ fn hot_leaf(hot: &HotRing, place: usize, next: usize, word: u64) -> Option<Leaf>
 #[inline(always)]
 fn back_leaf(p: &[u8], at: usize, objects: usize, word: u64) -> Option<Leaf>
     ensures some { (hot : HotRing) (i : ℕ) → Found p.now hot objects word at Backref i result }
-    ensures none { IsNone result → (hot : HotRing) (i : ℕ) → Missing p.now hot objects word at Backref i }
+    ensures none { IsNone result → (hot : HotRing) (i : ℕ)
+        → Missing p.now hot objects word at Backref i }
 {
     let i = putint(p, at)?;
     if objects as u64 <= i.value as u64 {
@@ -90,8 +93,10 @@ fn back_leaf(p: &[u8], at: usize, objects: usize, word: u64) -> Option<Leaf>
 // A root by integer, which enters the ring.
 #[inline(always)]
 fn root_array_leaf(p: &[u8], at: usize, word: u64) -> Option<Leaf>
-    ensures some { (hot : HotRing) (objects i : ℕ) → Found p.now hot objects word at RootArray i result }
-    ensures none { IsNone result → (hot : HotRing) (objects i : ℕ) → Missing p.now hot objects word at RootArray i }
+    ensures some { (hot : HotRing) (objects i : ℕ)
+        → Found p.now hot objects word at RootArray i result }
+    ensures none { IsNone result → (hot : HotRing) (objects i : ℕ)
+        → Missing p.now hot objects word at RootArray i }
 {
     let i = putint(p, at)?;
     let long = u64::from(i.is_long());
@@ -101,8 +106,10 @@ fn root_array_leaf(p: &[u8], at: usize, word: u64) -> Option<Leaf>
 // A read-only reference.
 #[inline(always)]
 fn read_only_leaf(p: &[u8], at: usize, word: u64) -> Option<Leaf>
-    ensures some { (hot : HotRing) (objects i : ℕ) → Found p.now hot objects word at ReadOnly i result }
-    ensures none { IsNone result → (hot : HotRing) (objects i : ℕ) → Missing p.now hot objects word at ReadOnly i }
+    ensures some { (hot : HotRing) (objects i : ℕ)
+        → Found p.now hot objects word at ReadOnly i result }
+    ensures none { IsNone result → (hot : HotRing) (objects i : ℕ)
+        → Missing p.now hot objects word at ReadOnly i }
 {
     let chunk = putint(p, at)?;
     let next = at + chunk.count;
@@ -117,8 +124,10 @@ fn read_only_leaf(p: &[u8], at: usize, word: u64) -> Option<Leaf>
 #[inline(always)]
 fn raw_leaf(p: &[u8], at: usize, n: u64, word: u64) -> Option<Leaf>
     requires { (n < 65536) × (word < 65536) }
-    ensures some { (hot : HotRing) (objects : ℕ) → Found p.now hot objects word at FixedRaw n result }
-    ensures none { IsNone result → (hot : HotRing) (objects : ℕ) → Missing p.now hot objects word at FixedRaw n }
+    ensures some { (hot : HotRing) (objects : ℕ)
+        → Found p.now hot objects word at FixedRaw n result }
+    ensures none { IsNone result → (hot : HotRing) (objects : ℕ)
+        → Missing p.now hot objects word at FixedRaw n }
 {
     let bytes = n * word;
     let next = raw(p, at, bytes as usize)?;
@@ -138,8 +147,11 @@ fn raw_leaf(p: &[u8], at: usize, n: u64, word: u64) -> Option<Leaf>
 // The leaf that a head begins; `at` is the place after the head.
 #[inline(always)]
 fn leaf_of(w: &Walker, head: Head, at: usize, objects: usize) -> Option<Leaf>
-    ensures some { Found w.now.payload.now w.now.hot objects (word_bytes w.now.sheet.now) at head.kind head.argument result }
-    ensures none { IsNone result → begins_leaf head.kind ≡ true → Missing w.now.payload.now w.now.hot objects (word_bytes w.now.sheet.now) at head.kind head.argument }
+    ensures some { Found w.now.payload.now w.now.hot objects (word_bytes w.now.sheet.now) at
+        head.kind head.argument result }
+    ensures none { IsNone result → begins_leaf head.kind ≡ true
+        → Missing w.now.payload.now w.now.hot objects (word_bytes w.now.sheet.now) at
+        head.kind head.argument }
 {
     let p = w.payload;
     let word = word_bytes(w.sheet);
@@ -191,8 +203,10 @@ fn legacy_leaf(w: &Walker, s: State, at: usize, space: u64) -> Option<Leaf>
 fn any_leaf(w: &Walker, s: State) -> Option<Leaf>
     requires addressed { Addressed w.now s.addresses }
     ensures there { IfSome result (λ _. (s.at < length w.now.payload.now) × (get_or w.now.payload.now s.at 0 < 256)) }
-    ensures found { FoundIn w.now s (s.at + 1) (kind_at w.now s.at) (argument_at w.now s.at) result }
-    ensures none { IsNone result → ItemByte w.now s.at → MissingIn w.now s (s.at + 1) (kind_at w.now s.at) (argument_at w.now s.at) }
+    ensures found { FoundIn w.now s (s.at + 1) (kind_at w.now s.at)
+        (argument_at w.now s.at) result }
+    ensures none { IsNone result → ItemByte w.now s.at
+        → MissingIn w.now s (s.at + 1) (kind_at w.now s.at) (argument_at w.now s.at) }
 {
     let head = w.head_at(s.at)?;
     match head.kind {
@@ -219,7 +233,8 @@ pub fn enter(hot: &mut HotRing, leaf: Leaf)
 pub fn take_leaf(w: &mut Walker, s: State) -> Option<(SlotValue, State)>
     requires { Counts s }
     ensures read { IfSome result (ReadAs w.old s w.new (referenceOf (input_of w.old))) }
-    ensures none { IsNone result → LeafByte w.old s.at → RefusedAs w.old s (referenceOf (input_of w.old)) }
+    ensures none { IsNone result → LeafByte w.old s.at
+        → RefusedAs w.old s (referenceOf (input_of w.old)) }
     ensures order { StaysInOrder w.old s result w.new }
     ensures kept { Kept w.old w.new }
 {
@@ -243,7 +258,8 @@ pub fn take_leaf(w: &mut Walker, s: State) -> Option<(SlotValue, State)>
 pub fn place_leaf(w: &mut Walker, s: State, d: usize, level: Level) -> Option<(u64, State)>
     requires { Countable w.old.objects.now level.object × Addressed w.old s.addresses × Counts s }
     ensures read { IfSome result (λ r. (d < 64) × ReadAs w.old s w.new (λ inner. slot_in (input_of w.old) (referenceOf (input_of w.old) inner) level.object level.done) r) }
-    ensures none { IsNone result → d < 64 → ItemByte w.old s.at → RoomyItem w.old s level → RefusedAs w.old s (λ inner. slot_in (input_of w.old) (referenceOf (input_of w.old) inner) level.object level.done) }
+    ensures none { IsNone result → d < 64 → ItemByte w.old s.at → RoomyItem w.old s level
+        → RefusedAs w.old s (item_of w.old level) }
     ensures order { StaysInOrder w.old s result w.new }
     ensures kept { Kept w.old w.new }
 {

@@ -1,6 +1,5 @@
 -- What is known of an object that becomes a slot.
 use Rattle.std.specs.Prelude.{◌≡◌, ℕ, ◌+◌, ◌/◌}
-use Rattle.std.proofs.Common.{sym}
 use Rattle.tables.specs.declared.values.SlotValue.TheVariants.{Ref as IsRef}
 use Rattle.tables.specs.declared.values.Ref.TheVariants.{Object}
 use Rattle.tables.specs.declared.values.Fields.{Fields}

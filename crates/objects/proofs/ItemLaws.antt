@@ -1,5 +1,6 @@
 -- Slots and items of an object: what is there after a record was added, and the places of pending
 -- numbers with it. Assumes nothing.
+use Rattle.std.specs.Prelude.{if◌then◌else◌}
 use mathlib.Core.Path.{◌≡◌, refl, sym, ap}
 use mathlib.Core.Bool.{Bool, true, false}
 use mathlib.Core.List.{List}
@@ -12,7 +13,7 @@ use Rattle.tables.specs.declared.values.SlotValue.TheVariants.{Ref, Repeat, Repe
 use Rattle.tables.specs.declared.values.Fields.{Fields}
 use Rattle.tables.specs.Values.{fields_of}
 use Rattle.tables.specs.Records.{room, slot_row, written}
-use Rattle.definition.specs.Memory.{Kept, Table, Mem, got, choose, refuse, append, has_room}
+use Rattle.definition.specs.Memory.{Kept, Table, Mem, got, refuse, append, has_room, appended}
 use Rattle.definition.specs.Slots.{add_value, counted, add_slot, waits_of, repeat_previous}
 use Rattle.readers.specs.declared.state.State.{State}
 use Rattle.readers.specs.declared.walker.Walker.{Walker}
@@ -36,7 +37,7 @@ pub record Added (o index : ℕ) (v : Fields) (waits : ℕ) (m : Mem) (k : ℕ) 
 
 -- a record that was appended
 module _ (t : Mem → Table) (f : Mem → Mem) (m : Mem) {k : ℕ} {m' : Mem} where
-  roomed : (b : Bool) → got k m' ≡ choose b (λ m. got (t m).count (f m)) (refuse 3) m → (b ≡ true) × (k ≡ (t m).count) × (m' ≡ f m)
+  roomed : (b : Bool) → got k m' ≡ (if b then appended t f else refuse 3) m → (b ≡ true) × (k ≡ (t m).count) × (m' ≡ f m)
   roomed true e = (refl, (cc), (cc))
   roomed false e = absurd (let z : ◌≡◌ {A = ℕ} 0 1 = cc in omega arith)
 

@@ -5,13 +5,13 @@ use mathlib.Core.Bool.{Bool, true, false, ◌&&◌}
 use Prim.Native.Nat.{ℕ, ◌+◌, ◌-◌, ◌*◌}
 use lib.Dec.{ltb, eqb}
 use lib.ListN.{length, get_or}
-use Rattle.std.specs.Prelude.{Option, Some, None}
+use Rattle.std.specs.Prelude.{if◌then◌else◌, Option, Some, None}
 use Rattle.stream.specs.declared.putint.Int.{Int}
 use Rattle.stream.specs.PutInt.{int_at}
 use Rattle.sheet.specs.Sheet.{is_legacy, is_six_x, is_map_first, lo_space}
 use Rattle.tables.specs.declared.values.SlotValue.{SlotValue}
 use Rattle.tables.specs.Records.{object_row}
-use Rattle.definition.specs.Memory.{Input, Mem, Out, got, no, Reader, and_then, ◌>>=◌, ◌>>◌, choose, give, change, aligned, refuse, moved, cut, after_int, byte, int, has_room, added, noted, opened, with_objects, word}
+use Rattle.definition.specs.Memory.{Input, Mem, Out, got, no, Reader, and_then, ◌>>=◌, ◌>>◌, give, change, aligned, refuse, moved, cut, after_int, byte, int, has_room, added, noted, opened, with_objects, word, next_byte, appended}
 use Rattle.definition.specs.Object.{large_byte, add_object, alignment_byte, chunk_changes, allocate, map_first, map_then_allocate, read_map, body, object}
 use Rattle.objects.specs.Head.{recording, opening}
 use Rattle.objects.specs.Map.{after_map}
@@ -21,16 +21,15 @@ use Rattle.objects.specs.Map.{after_map}
 -- what follows a map, by the two tests of the sheet
 abbrev followed : Bool → Bool → Input → ℕ → ℕ → ℕ → ℕ → Reader (Unit {0})
 followed first legacy x before space bytes o =
-    choose first
-    (change (aligned before)
+    if first then change (aligned before)
     >> alignment_byte x
     >> (λ m. chunk_changes x space (length x.payload - m.at) m)
-    >> allocate x space bytes o)
-    (choose legacy (allocate x space bytes o) (give tt))
+    >> allocate x space bytes o
+    else if legacy then allocate x space bytes o else give tt
 
 module _ (x : Input) (r : Reader SlotValue) (space bytes o : ℕ) (m : Mem) where
   abbrev reading : Bool → Bool → Out SlotValue
-  reading first legacy = choose first (map_first x r space bytes o) (choose legacy (map_then_allocate x r space bytes o) r) m
+  reading first legacy = (if first then map_first x r space bytes o else if legacy then map_then_allocate x r space bytes o else r) m
 
   refused : (first legacy : Bool) {n q : ℕ} {m' : Mem} → r m ≡ no n q m' → reading first legacy ≡ no n q m'
   unfolding map_first
@@ -61,11 +60,11 @@ int_keeps : (x : Input) (m : Mem) (i : Option Int) → Keeps m (after_int x i m)
 int_keeps x m (Some i) = refl
 int_keeps x m None = tt
 
-byte_keeps : (x : Input) (m : Mem) (more : Bool) → Keeps m (and_then (choose more (λ m. got (get_or x.payload m.at 0) (moved (m.at + 1) m)) (cut x) m) (λ _. give (tt {0})))
+byte_keeps : (x : Input) (m : Mem) (more : Bool) → Keeps m (and_then ((if more then next_byte x else cut x) m) (λ _. give (tt {0})))
 byte_keeps x m true = refl
 byte_keeps x m false = tt
 
-large_keeps : (x : Input) (m : Mem) (large : Bool) → Keeps m (choose large (byte x >> give (tt {0})) (give (tt {0})) m)
+large_keeps : (x : Input) (m : Mem) (large : Bool) → Keeps m ((if large then byte x >> give (tt {0}) else give (tt {0})) m)
 unfolding byte
 large_keeps x m true = byte_keeps x m (ltb m.at (length x.payload))
 large_keeps x m false = refl
@@ -76,8 +75,8 @@ module _ (x : Input) (r : Reader SlotValue) (space tag : ℕ) where
   record_no words (got v m) e = cc
   record_no words (no n q m) e = cc
 
-  room_got : (more : Bool) (f : Mem → Mem) (words : ℕ) (m : Mem) {size : ℕ} {m' : Mem} → and_then (choose more (λ m. got m.objects.count (f m)) (refuse 3) m) (λ _. give words) ≡ got size m'
-      → and_then (choose more (λ m. got m.objects.count (f m)) (refuse 3) m) (body x r space tag words) ≡ body x r space tag size m.objects.count m'
+  room_got : (more : Bool) (f : Mem → Mem) (words : ℕ) (m : Mem) {size : ℕ} {m' : Mem} → and_then ((if more then appended (λ m. m.objects) f else refuse 3) m) (λ _. give words) ≡ got size m'
+      → and_then ((if more then appended (λ m. m.objects) f else refuse 3) m) (body x r space tag words) ≡ body x r space tag size m.objects.count m'
   room_got true f words m e = cc
   room_got false f words m e = cc
 

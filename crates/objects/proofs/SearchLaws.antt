@@ -7,7 +7,7 @@ use native.Mathlib.Omega.{arith}
 use lib.ListN.{length}
 use denote.Ref.{Bor}
 use denote.Param.Members.{Mut}
-use Rattle.std.specs.Prelude.{Option, Some, None, cond}
+use Rattle.std.specs.Prelude.{if◌then◌else◌, Option, Some, None, cond}
 use Rattle.std.specs.Fn.{CalledAt}
 use Rattle.std.specs.List.{find}
 use Rattle.std.specs.Option.{option_map}
@@ -19,7 +19,6 @@ use Rattle.std.specs.declared.iter.Rev.{Rev}
 use Rattle.std.proofs.lemmas.Iterator.{YieldsList}
 use Rattle.std.proofs.lemmas.Iterator.Consumers.{YieldsList-from_shown}
 use Rattle.std.proofs.lemmas.Iterator.Search.{find_from_yields_List}
-use Rattle.tables.specs.Values.{pick_ℕ}
 use Rattle.definition.specs.Slots.{waits_for, waiter}
 use Rattle.objects.specs.Index.{counted}
 
@@ -40,7 +39,7 @@ goes_down =
     (λ s t h. ap (λ n. length (down s.iter.start n)) h.1.0)
     (λ s x t h. one_more s.iter.start t.iter.start x (s.iter.end - s.iter.start) (t.iter.end - t.iter.start) (omega (arith, h.0, h.1.0, h.1.2)) (omega (arith, h.0, h.1.0, h.1.1, h.1.2)) h.0)
 
-first_or : (b : Bool) (c w : ℕ) (r : Option ℕ) → counted r ≡ w → counted (cond b (Some c) r) ≡ pick_ℕ b (suc c) w
+first_or : (b : Bool) (c w : ℕ) (r : Option ℕ) → counted r ≡ w → counted (cond b (Some c) r) ≡ (if b then suc c else w)
 first_or true c w r h = refl
 first_or false c w r h = h
 

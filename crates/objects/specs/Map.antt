@@ -1,8 +1,8 @@
 -- What follows an object's map, as the code reads it. Assumes nothing: these are definitions.
-use Rattle.std.specs.Prelude.{◌≡◌, Bool, ℕ, ◌-◌, length}
+use Rattle.std.specs.Prelude.{if◌then◌else◌, ◌≡◌, Bool, ℕ, ◌-◌, length}
 use Rattle.sheet.specs.Sheet.{is_legacy, is_map_first}
 use Rattle.tables.specs.declared.values.SlotValue.{SlotValue}
-use Rattle.definition.specs.Memory.{Input, Reader, ◌>>◌, choose, give, change, aligned}
+use Rattle.definition.specs.Memory.{Input, Reader, ◌>>◌, give, change, aligned}
 use Rattle.readers.specs.declared.walker.Walker.{Walker}
 use Rattle.readers.specs.Views.{addresses_is, alloc_is}
 use Rattle.readers.specs.Lent.{lent_of, Fixed}
@@ -11,12 +11,11 @@ use Rattle.definition.specs.Object.{alignment_byte, chunk_changes, allocate, fla
 -- after the map of object o: what `read_map` does when the map has been read
 abbrev pub after_map : Input → ℕ → ℕ → ℕ → ℕ → Reader (Unit {0})
 after_map x before space bytes o =
-    choose (is_map_first x.sheet)
-    (change (aligned before)
+    if is_map_first x.sheet then change (aligned before)
     >> alignment_byte x
     >> (λ m. chunk_changes x space (length x.payload - m.at) m)
-    >> allocate x space bytes o)
-    (choose (is_legacy x.sheet) (allocate x space bytes o) (give tt))
+    >> allocate x space bytes o
+    else if is_legacy x.sheet then allocate x space bytes o else give tt
 
 abbrev pub is_flagged : Input → SlotValue → Bool
 is_flagged x v = flags x v

@@ -1,6 +1,9 @@
 -- An object whose map is a leaf: its head, its map, its address and its slot 0. Assumes nothing.
-use Rattle.std.specs.Prelude.{◌≡◌, refl, Bool, true, false, List, ℕ, ◌+◌, ◌*◌, ◌^◌, ◌<◌, ltb, eqb}
+use Rattle.std.specs.Prelude.{if◌then◌else◌, ◌≡◌, refl, Bool, true, false, List, ℕ, ◌+◌, ◌*◌, ◌^◌, ◌<◌, ltb, eqb}
 use Rattle.std.proofs.Common.{arith, ap, subst, lt-ltb}
+use Rattle.std.specs.Int.{from_bool}
+use Rattle.stream.specs.declared.putint.Int.{Int}
+use Rattle.stream.specs.PutInt.{is_long}
 use Rattle.sheet.specs.Sheet.{is_legacy, word_bytes}
 use Rattle.heads.specs.Heads.{Heads}
 use Rattle.tables.specs.declared.values.Fields.{Fields}
@@ -11,7 +14,7 @@ use Rattle.tables.proofs.RecordLaws.{written_same}
 use Rattle.alloc.specs.declared.legacy_alloc.LegacyAlloc.{LegacyAlloc}
 use Rattle.alloc.specs.Allocation.{Outcome, allocate_of}
 use Rattle.backref.specs.declared.hot_ring.HotRing.{HotRing}
-use Rattle.definition.specs.Memory.{Input, word, Table, table, Mem, Out, got, and_then, int, Reader, choose, refuse, change, with_alloc, ◌>>=◌, ◌>>◌, give}
+use Rattle.definition.specs.Memory.{Input, word, Table, table, Mem, Out, got, and_then, int, Reader, refuse, change, with_alloc, ◌>>=◌, ◌>>◌, give}
 use Rattle.definition.specs.Slots.{add_slot}
 use Rattle.definition.specs.Object.{add_object, allocate, flags, flag_object, map_then_allocate, read_map, keep_map}
 use Rattle.definition.specs.Reference.{reference}
@@ -35,15 +38,15 @@ use Rattle.opened_leaves.specs.Opening.{opened, MapAt, MapByte, Given}
 abbrev allocated : Mem → Mem → Mem
 allocated m n = with_alloc m.addresses m.alignment m.alloc n
 
-by_outcome : (b : Bool) (t : Table) (a : ℕ) (c : LegacyAlloc) (k : ℕ) (m : Mem) {m' : Mem} → got tt m' ≡ choose b (change (with_alloc t a c)) (refuse k) m → (b ≡ true) × (m' ≡ with_alloc t a c m)
+by_outcome : (b : Bool) (t : Table) (a : ℕ) (c : LegacyAlloc) (k : ℕ) (m : Mem) {m' : Mem} → got tt m' ≡ (if b then change (with_alloc t a c) else refuse k) m → (b ≡ true) × (m' ≡ with_alloc t a c m)
 by_outcome true t a c k m e = (refl, (cc))
 by_outcome false t a c k m e = absurd (let z : ◌≡◌ {A = ℕ} 0 1 = cc in omega arith)
 
 -- where an address was given, it is also given in every other memory with these addresses, this
 -- alignment and these counters
 module _ (x : Input) (space bytes o : ℕ) (m : Mem) {m' : Mem} where
-  carried : (b : Bool) → got tt m' ≡ choose b (allocate x space bytes o) (give tt) m
-      → (m' ≡ allocated m' m) × ((n : Mem) → n.addresses ≡ m.addresses → n.alignment ≡ m.alignment → n.alloc ≡ m.alloc → got tt (allocated m' n) ≡ choose b (allocate x space bytes o) (give tt) n)
+  carried : (b : Bool) → got tt m' ≡ (if b then allocate x space bytes o else give tt) m
+      → (m' ≡ allocated m' m) × ((n : Mem) → n.addresses ≡ m.addresses → n.alignment ≡ m.alignment → n.alloc ≡ m.alloc → got tt (allocated m' n) ≡ (if b then allocate x space bytes o else give tt) n)
   unfolding allocate
   carried true e =
       let r : Outcome = allocate_of m.addresses.rows m.addresses.count x.spaces (record { space = space; size = bytes; object = o; alignment = m.alignment; word = word x }) m.alloc in
@@ -52,7 +55,7 @@ module _ (x : Input) (space bytes o : ℕ) (m : Mem) {m' : Mem} where
   carried false e = let d : m' ≡ m = cc in (rw d refl, λ n ea eg ec. rw (d, ← ea, ← eg, ← ec) refl)
 
 -- the map and the address after it, where the map does not come first
-map_read : (b : Bool) (x : Input) (r : Reader SlotValue) (space bytes o : ℕ) (v : SlotValue) (m₁ m₂ m₃ : Mem) → got v m₂ ≡ r m₁ → got tt m₃ ≡ choose b (allocate x space bytes o) (give tt) m₂ → got v m₃ ≡ choose b (map_then_allocate x r space bytes o) r m₁
+map_read : (b : Bool) (x : Input) (r : Reader SlotValue) (space bytes o : ℕ) (v : SlotValue) (m₁ m₂ m₃ : Mem) → got v m₂ ≡ r m₁ → got tt m₃ ≡ (if b then allocate x space bytes o else give tt) m₂ → got v m₃ ≡ (if b then map_then_allocate x r space bytes o else r) m₁
 map_read true x r space bytes o v m₁ m₂ m₃ h k =
     then_got (λ v. allocate x space bytes o >> give v) h (then_got (λ (u : Unit {0}). give v) k refl)
 map_read false x r space bytes o v m₁ m₂ m₃ h k = let d : m₃ ≡ m₂ = cc in rw d h
@@ -83,10 +86,10 @@ slot_kept x o v s l f b eo es =
 
 -- ---- where no leaf is the map
 
--- the state after the object's record, the integer before the map having so many bytes
-abbrev recorded : ℕ → State → State
-recorded count s =
-    record s { at = s.at + count; objects = s.objects + 1 }
+-- the state after the object's record, where this integer stands before the map
+abbrev recorded : Int → State → State
+recorded i s =
+    record s { at = s.at + i.count; objects = s.objects + 1; long_integers = s.long_integers + from_bool (is_long i) }
 
 pub map_refused : (w : Walker) (s : State) (count : ℕ) (space tag : ℕ) → Heads w.sheet.now w.heads.now → MapByte w s count → NoLeafAt w (s.at + count) (s.objects + 1) → s.objects < room 4 w.objects.now → (inner : Reader SlotValue)
     → Refused (opened (input_of w) (reference (input_of w) inner) space tag s.objects (mem s (lent_of w)))
@@ -95,9 +98,10 @@ map_refused w s count space tag decoded b missing roomy inner =
     let x : Input = input_of w in
     let bytes : ℕ = b.words * word x in
     let l : Lent = objects_is (written w.objects.now s.objects (object_row bytes tag)) (lent_of w) in
-    let m₁ : Mem = mem (recorded count s) l in
+    let i : Int = record { value = b.words; count = count } in
+    let m₁ : Mem = mem (recorded i s) l in
     let head : got b.words m₁ ≡ opening x space tag (mem s (lent_of w)) = rw (← b.sized, b.no_large_byte, lt-ltb s.objects (room 4 w.objects.now) roomy) refl in
-    let r : Refused (reference x inner m₁) = leaf_refused w (recorded count s) l refl decoded b.leaf.0 missing inner in
+    let r : Refused (reference x inner m₁) = leaf_refused w (recorded i s) l refl decoded b.leaf.0 missing inner in
     let map : Refused (read_map x (reference x inner) space bytes s.objects m₁) = rw (b.not_first, b.no_address) r in
     let rest : ℕ → Reader ℕ = λ words. read_map x (reference x inner) space (words * word x) s.objects >>= keep_map x s.objects >> give (words * word x) in
     subst (λ (o : Out ℕ). Refused (and_then o rest)) head (refused_then _ (λ (u : Unit {0}). give bytes) (refused_then _ (keep_map x s.objects) map))
@@ -105,17 +109,17 @@ map_refused w s count space tag decoded b missing roomy inner =
 -- ---- the whole
 
 -- the state after the map's slot, from the one before all and the one after the address
-abbrev opened_state : Leaf → State → State → State
-opened_state r s t =
-    record t { at = r.next; objects = s.objects + 1; slots = s.slots + 1 }
+abbrev opened_state : Int → Leaf → State → State → State
+opened_state i r s t =
+    record t { at = r.next; objects = s.objects + 1; slots = s.slots + 1; long_integers = s.long_integers + from_bool (is_long i) + r.long_integers }
 
-module _ (w w₁ : Walker) (s t : State) (ts words : ℕ) (map : Leaf) (space tag : ℕ) (decoded : Heads w.sheet.now w.heads.now) (ew : ts ≡ word_bytes w.sheet.now) (a : MapAt w s words map) (g : Given w s space (words * ts) s.objects t w₁) {f : Fields} {ot ot' st : List ℕ} {hot : HotRing} (po : Put w₁.objects.now s.objects (object_row (words * ts) tag) true ot) (eo : ot' ≡ counted ot s.objects)
+module _ (w w₁ : Walker) (s t : State) (ts : ℕ) (size : Int) (map : Leaf) (space tag : ℕ) (decoded : Heads w.sheet.now w.heads.now) (ew : ts ≡ word_bytes w.sheet.now) (a : MapAt w s size map) (g : Given w s space (size.value * ts) s.objects t w₁) {f : Fields} {ot ot' st : List ℕ} {hot : HotRing} (po : Put w₁.objects.now s.objects (object_row (size.value * ts) tag) true ot) (eo : ot' ≡ counted ot s.objects)
     (ef : f ≡ fields_of map.value) (ps : Put w₁.slots.now s.slots (slot_row s.objects 0 f 0) true st) (eh : hot ≡ ring map w₁.hot) where
   abbrev x : Input
   x = input_of w
 
   abbrev bytes : ℕ
-  bytes = words * ts
+  bytes = size.value * ts
 
   abbrev m : Mem
   m = mem s (lent_of w)
@@ -124,14 +128,14 @@ module _ (w w₁ : Walker) (s t : State) (ts words : ℕ) (map : Leaf) (space ta
   l₁ = objects_is (written w.objects.now s.objects (object_row bytes tag)) (lent_of w)
 
   abbrev m₁ : Mem
-  m₁ = mem (recorded a.count s) l₁
+  m₁ = mem (recorded size s) l₁
 
   abbrev m₂ : Mem
-  m₂ = mem (after map (recorded a.count s)) (hot_is (ring map w.hot) l₁)
+  m₂ = mem (after map (recorded size s)) (hot_is (ring map w.hot) l₁)
 
   abbrev s₃ : State
   s₃ =
-      record s { at = map.next; objects = s.objects + 1; addresses = t.addresses; alignment = t.alignment }
+      record s { at = map.next; objects = s.objects + 1; addresses = t.addresses; alignment = t.alignment; long_integers = s.long_integers + from_bool (is_long size) + map.long_integers }
 
   abbrev l₃ : Lent
   l₃ = addresses_is w₁.addresses.now (alloc_is w₁.alloc (hot_is (ring map w.hot) l₁))
@@ -154,11 +158,11 @@ module _ (w w₁ : Walker) (s t : State) (ts words : ℕ) (map : Leaf) (space ta
   is_hot : hot ≡ ring map w.hot
   is_hot = rw same_hot at eh
 
-  given : (mem t (lent_of w₁) ≡ allocated (mem t (lent_of w₁)) m) × ((n : Mem) → n.addresses ≡ m.addresses → n.alignment ≡ m.alignment → n.alloc ≡ m.alloc → got tt (allocated (mem t (lent_of w₁)) n) ≡ choose (is_legacy w.sheet.now) (allocate x space bytes s.objects) (give tt) n)
+  given : (mem t (lent_of w₁) ≡ allocated (mem t (lent_of w₁)) m) × ((n : Mem) → n.addresses ≡ m.addresses → n.alignment ≡ m.alignment → n.alloc ≡ m.alloc → got tt (allocated (mem t (lent_of w₁)) n) ≡ (if is_legacy w.sheet.now then allocate x space bytes s.objects else give tt) n)
   given = carried x space bytes s.objects m (is_legacy w.sheet.now) g.given
 
   -- the head
-  is_opened : got words m₁ ≡ opening x space tag m
+  is_opened : got size.value m₁ ≡ opening x space tag m
   unfolding int add_object
   is_opened =
       let b : ltb s.objects (room 4 w.objects.now) ≡ true = rw same_objects at (put_done po refl).0 in
@@ -168,15 +172,15 @@ module _ (w w₁ : Walker) (s t : State) (ts words : ℕ) (map : Leaf) (space ta
     -- the map
     is_read : got map.value (mem s₃ l₃) ≡ read_map x (reference x inner) space bytes s.objects m₁
     is_read =
-        let read : got map.value m₂ ≡ reference x inner m₁ = leaf_read w (s.at + a.count) (s.objects + 1) map decoded a.leaf inner (recorded a.count s) l₁ refl refl refl in
+        let read : got map.value m₂ ≡ reference x inner m₁ = leaf_read w (s.at + size.count) (s.objects + 1) map decoded a.leaf inner (recorded size s) l₁ refl refl refl in
         rw a.not_first (map_read (is_legacy w.sheet.now) x (reference x inner) space bytes s.objects map.value m₁ m₂ (mem s₃ l₃) read (given.1 m₂ refl refl refl))
 
     -- its slot
-    is_kept : got tt (mem (record s { at = map.next; objects = s.objects + 1; slots = s.slots + 1; addresses = t.addresses; alignment = t.alignment }) (objects_is ot' (slots_is st l₃))) ≡ keep_map x s.objects map.value (mem s₃ l₃)
+    is_kept : got tt (mem (record s₃ { slots = s.slots + 1 }) (objects_is ot' (slots_is st l₃))) ≡ keep_map x s.objects map.value (mem s₃ l₃)
     is_kept =
         slot_kept x s.objects map.value s₃ l₃ (a.unflagged w.sheet.now w.payload.now w.spaces) (rw same_slots at (put_done ps refl).0) (rw is_object at eo) (rw (same_slots, ef) at (put_done ps refl).1)
 
-    pub is_whole : got bytes (mem (opened_state map s t) (objects_is ot' (slots_is st (hot_is hot (lent_of w₁))))) ≡ opened x (reference x inner) space tag s.objects m
+    pub is_whole : got bytes (mem (opened_state size map s t) (objects_is ot' (slots_is st (hot_is hot (lent_of w₁))))) ≡ opened x (reference x inner) space tag s.objects m
     is_whole =
         let e = given.0 in
         let ev : t.values ≡ s.values = ap (λ (m : Mem). m.values.count) e in

@@ -1,5 +1,6 @@
 -- An answer as an `Out`, once its variant is known, what a reader that goes on from it gives, and
 -- records put into tables. Assumes nothing.
+use Rattle.std.specs.Prelude.{if◌then◌else◌}
 use mathlib.Core.Path.{◌≡◌, sym, ap, ◌∙◌}
 use mathlib.Core.Bool.{Bool, true, false}
 use mathlib.Core.List.{List, []}
@@ -8,7 +9,7 @@ use borrow.Author.Tests.{ltb-true}
 use lib.ListN.{length}
 use Rattle.alloc.specs.Allocation.{zero_counters}
 use Rattle.backref.specs.HotRing.{empty_ring}
-use Rattle.tables.specs.Records.{room, has_room, written, pick_table, Put}
+use Rattle.tables.specs.Records.{room, has_room, written, Put}
 use Rattle.definition.specs.Memory.{Mem, Out, got, no, Reader, and_then}
 use Rattle.readers.specs.Views.{Lent}
 
@@ -33,10 +34,10 @@ nothing = record { objects = []; slots = []; values = []; addresses = []; hot = 
 
 module _ {t : List ℕ} {n : ℕ} {row : List ℕ} {r : Bool} {after : List ℕ} (p : Put t n row r after) where
   pub put_full : r ≡ false → (has_room t n row ≡ false) × (after ≡ t)
-  put_full e = let f : has_room t n row ≡ false = sym p.roomy ∙ e in (f, p.table ∙ ap (λ b. pick_table b (written t n row) t) f)
+  put_full e = let f : has_room t n row ≡ false = sym p.roomy ∙ e in (f, p.table ∙ ap (λ b. if b then written t n row else t) f)
 
   pub put_done : r ≡ true → (has_room t n row ≡ true) × (after ≡ written t n row)
-  put_done e = let f : has_room t n row ≡ true = sym p.roomy ∙ e in (f, p.table ∙ ap (λ b. pick_table b (written t n row) t) f)
+  put_done e = let f : has_room t n row ≡ true = sym p.roomy ∙ e in (f, p.table ∙ ap (λ b. if b then written t n row else t) f)
 
   pub put_below : r ≡ true → n < room (length row) t
   put_below e = ltb-true n (room (length row) t) (put_done e).0

@@ -1,15 +1,7 @@
 -- The version sheet: its numbers, their defaults, and which sheets are usable and plain
 -- (docs/FORMAT.md, "The version sheet"). Assumes nothing: these are definitions.
-use Rattle.std.specs.Prelude.{cond, Bool, true, false, not, ◌&&◌, ◌||◌, List, ℕ, zero, suc, ◌+◌, leb, eqb, length, get_or, Option, Some, None}
+use Rattle.std.specs.Prelude.{if◌then◌else◌, cond, Bool, true, false, not, ◌&&◌, ◌||◌, List, ℕ, zero, suc, ◌+◌, leb, eqb, length, get_or, Option, Some, None}
 use Rattle.sheet.specs.Names.{k_new_object, k_backref, k_hot_object, k_root_array_constants, k_fixed_raw_data, k_alignment_prefix, k_hot_object_with_skip, k_root_array_constants_with_skip, k_skip, k_fixed_repeat, k_fixed_repeat_root, k_new_meta_map, k_deferred, k_number_of_spaces, k_map_space, k_lo_space, k_root_array_constants_mask, k_space_tag_size, k_page_size_bits, k_space_mask, k_backref_with_skip, tagged_size, var_raw_advances}
-
-abbrev pub pick_ℕ : Bool → ℕ → ℕ → ℕ
-pick_ℕ true a b = a
-pick_ℕ false a b = b
-
-abbrev pub pick_bool : Bool → Bool → Bool → Bool
-pick_bool true a b = a
-pick_bool false a b = b
 
 -- the number at a place of the sheet; 65535 is absent
 abbrev pub number : List ℕ → ℕ → ℕ
@@ -24,7 +16,7 @@ present_number v k = cond (present v k) (Some (number v k)) None
 
 -- a constant, or its default where it is absent
 abbrev pub constant : List ℕ → ℕ → ℕ → ℕ
-constant v k default = pick_ℕ (present v k) (number v k) default
+constant v k default = if present v k then number v k else default
 
 abbrev pub number_of_spaces : List ℕ → ℕ
 number_of_spaces v = constant v k_number_of_spaces 6

@@ -1,8 +1,8 @@
 -- What objects and the closing section test before a reference's head. A byte of 256 is none (the
 -- payload's end). Assumes nothing: these are definitions.
-use Rattle.std.specs.Prelude.{Bool, true, false, not, ◌&&◌, List, ℕ, zero, suc, ◌+◌, ◌-◌, ltb, leb, eqb, Option, Some, None}
+use Rattle.std.specs.Prelude.{if◌then◌else◌, Bool, true, false, not, ◌&&◌, List, ℕ, zero, suc, ◌+◌, ◌-◌, ltb, leb, eqb, Option, Some, None}
 use Rattle.sheet.specs.Names.{k_new_object, k_backref, k_synchronize, k_nop, k_next_chunk, k_alignment_prefix, k_resolve_pending_forward_ref, k_deferred, k_new_meta_map}
-use Rattle.sheet.specs.Sheet.{pick_ℕ, number, present, number_of_spaces, is_legacy}
+use Rattle.sheet.specs.Sheet.{number, present, number_of_spaces, is_legacy}
 use Rattle.sheet.specs.declared.tests.Closing.{Closing}
 use Rattle.sheet.specs.declared.tests.Closing.TheVariants.{Synchronize, Alignment, Deferred, Reference}
 
@@ -33,16 +33,12 @@ is_nop v b = eqb (number v k_nop) b
 
 -- an alignment prefix: 1 to 3, or 0 where the byte is none
 unfoldable pub alignment_of : List ℕ → ℕ → ℕ
-alignment_of v b = pick_ℕ (in_span v k_alignment_prefix 3 b) (b - number v k_alignment_prefix + 1) 0
+alignment_of v b = if in_span v k_alignment_prefix 3 b then b - number v k_alignment_prefix + 1 else 0
 
 -- a number that is not 0, or none
 abbrev pub unless_zero : ℕ → Option ℕ
 unless_zero zero = None
 unless_zero (suc n) = Some (suc n)
-
-abbrev pub pick_closing : Bool → Closing → Closing → Closing
-pick_closing true a b = a
-pick_closing false a b = b
 
 -- a deferred entry of a legacy closing section; sheets with kNewMetaMap have none
 abbrev pub is_entry : List ℕ → ℕ → Bool
@@ -51,6 +47,6 @@ is_entry v b = is_legacy v && not (present v k_new_meta_map) && in_span v k_new_
 -- the tests of the closing section, in this order
 unfoldable pub closing_of : List ℕ → ℕ → Closing
 closing_of v b =
-    pick_closing (eqb (number v k_synchronize) b) Synchronize
-    (pick_closing (in_span v k_alignment_prefix 3 b) (Alignment (b - number v k_alignment_prefix + 1))
-    (pick_closing (is_entry v b) (Deferred (b - number v k_new_object)) Reference))
+    if eqb (number v k_synchronize) b then Synchronize
+    else if in_span v k_alignment_prefix 3 b then Alignment (b - number v k_alignment_prefix + 1)
+    else if is_entry v b then Deferred (b - number v k_new_object) else Reference

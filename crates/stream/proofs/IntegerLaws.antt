@@ -11,9 +11,9 @@ use lib.ListN.{length, get_or}
 use lib.Pow.{pow_mono}
 use native.Mathlib.Nat.{lt_of_lt_of_le}
 use Rattle.stream.specs.declared.putint.Int.{Int}
-use Rattle.std.specs.Prelude.{Option, Some, None}
+use Rattle.std.specs.Prelude.{if◌then◌else◌, Option, Some, None}
 use Rattle.stream.specs.Bytes.{little_endian}
-use Rattle.stream.specs.PutInt.{pick_int, int_length, int_at, pick_bytes, shortest, is_long}
+use Rattle.stream.specs.PutInt.{int_length, int_at, shortest, is_long}
 use Rattle.stream.proofs.ByteLaws.{Bytes, le_below}
 
 module _ (p : List ℕ) (at : ℕ) where
@@ -51,7 +51,7 @@ one_is_short i h =
     let low : 1 ≤ shortest i.value = least (ltb i.value (2 ^ 6)) (ltb i.value (2 ^ 14)) (ltb i.value (2 ^ 22)) in
     rw (le-ltb (shortest i.value) i.count (omega (arith, h, low)))
   where
-    least : (a b c : Bool) → 1 ≤ pick_bytes a 1 (pick_bytes b 2 (pick_bytes c 3 4))
+    least : (a b c : Bool) → 1 ≤ (if a then 1 else if b then 2 else if c then 3 else 4)
     least true b c = omega arith
     least false true c = omega arith
     least false false true = omega arith
@@ -64,7 +64,7 @@ pub record IntWithin (p : List ℕ) (at n : ℕ) : Type 0 where
   pub most : n ≤ 4
 
 module _ {i : Int} where
-  whole : (cut : Bool) {o : Option Int} → pick_int cut None o ≡ Some i → (cut ≡ false) × (o ≡ Some i)
+  whole : (cut : Bool) {o : Option Int} → (if cut then None else o) ≡ Some i → (cut ≡ false) × (o ≡ Some i)
   whole true e = absurd (let z : ◌≡◌ {A = ℕ} 0 1 = cc in omega arith)
   whole false e = (refl, e)
 

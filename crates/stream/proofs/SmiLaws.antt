@@ -13,17 +13,17 @@ use lib.IntN.{ℤ, pos, negsuc}
 use lib.Signed.{shr_z, mag, mag_shr}
 use lib.ListN.{length}
 use lib.Dec.{ltb}
-use Rattle.std.specs.Prelude.{Some, None}
+use Rattle.std.specs.Prelude.{if◌then◌else◌, Some, None}
 use Rattle.stream.specs.Bytes.{little_endian}
-use Rattle.stream.specs.Smi.{pick_ℤ, signed, smi_of}
+use Rattle.stream.specs.Smi.{signed, smi_of}
 use Rattle.stream.proofs.ByteLaws.{Bytes, le_below}
 
-pick_mag : (t : Bool) (a b : ℤ) → mag a < 2 ^ 63 → mag b < 2 ^ 63 → mag (pick_ℤ t a b) < 2 ^ 63
+pick_mag : (t : Bool) (a b : ℤ) → mag a < 2 ^ 63 → mag b < 2 ^ 63 → mag (if t then a else b) < 2 ^ 63
 pick_mag true a b h l = h
 pick_mag false a b h l = l
 
 module _ (n : ℕ) where
-  signed_by : n < 2 ^ 32 → (t : Bool) → ltb n (2 ^ 31) ≡ t → to_z w32 n ≡ pick_ℤ t (pos n) (negsuc (2 ^ 32 - suc n))
+  signed_by : n < 2 ^ 32 → (t : Bool) → ltb n (2 ^ 31) ≡ t → to_z w32 n ≡ (if t then pos n else negsuc (2 ^ 32 - suc n))
   signed_by l true e = to_z_pos w32 {n = n} (ltb-true n (2 ^ 31) e)
   signed_by l false e =
       let high : 2 ^ 31 ≤ n = ltb-false n (2 ^ 31) e in

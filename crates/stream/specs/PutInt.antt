@@ -1,12 +1,8 @@
 -- The integer of one to four bytes (V8's PutUint30, in older versions PutInt; docs/FORMAT.md,
 -- "Integers"). Assumes nothing: these are definitions.
-use Rattle.std.specs.Prelude.{Bool, true, false, List, ℕ, ◌+◌, ◌-◌, ◌/◌, ◌%◌, ◌^◌, ◌<◌, length, get_or, ltb, leb, Option, Some, None}
+use Rattle.std.specs.Prelude.{if◌then◌else◌, Bool, List, ℕ, ◌+◌, ◌-◌, ◌/◌, ◌%◌, ◌^◌, ◌<◌, length, get_or, ltb, leb, Option, Some, None}
 use Rattle.stream.specs.declared.putint.Int.{Int}
 use Rattle.stream.specs.Bytes.{little_endian}
-
-abbrev pub pick_int : Bool → Option Int → Option Int → Option Int
-pick_int true a b = a
-pick_int false a b = b
 
 -- the low two bits of the first byte plus 1 say how many bytes an integer has
 unfoldable pub int_length : List ℕ → ℕ → ℕ
@@ -16,18 +12,14 @@ int_length p at = get_or p at 0 % 4 + 1
 -- does has none (refusal 4)
 unfoldable pub int_at : List ℕ → ℕ → Option Int
 int_at p at =
-    pick_int (leb (length p) at) None
-    (pick_int (ltb (length p - at) (int_length p at)) None
-    (Some (record { value = little_endian p at (int_length p at) / 4; count = int_length p at })))
-
-abbrev pub pick_bytes : Bool → ℕ → ℕ → ℕ
-pick_bytes true a b = a
-pick_bytes false a b = b
+    if leb (length p) at then None
+    else if ltb (length p - at) (int_length p at) then None
+    else Some (record { value = little_endian p at (int_length p at) / 4; count = int_length p at })
 
 -- the fewest bytes that a value needs: the first byte has six bits of it, each other one eight
 unfoldable pub shortest : ℕ → ℕ
 shortest value =
-    pick_bytes (ltb value (2 ^ 6)) 1 (pick_bytes (ltb value (2 ^ 14)) 2 (pick_bytes (ltb value (2 ^ 22)) 3 4))
+    if ltb value (2 ^ 6) then 1 else if ltb value (2 ^ 14) then 2 else if ltb value (2 ^ 22) then 3 else 4
 
 -- an integer has more bytes than its value needs: a shorter one has the same value
 unfoldable pub is_long : Int → Bool

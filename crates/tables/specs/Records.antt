@@ -1,6 +1,6 @@
 -- The four tables, as flat lists of numbers (docs/FORMAT.md, "The tables"). Assumes nothing: these
 -- are definitions.
-use Rattle.std.specs.Prelude.{◌≡◌, Bool, true, false, List, [], ◌∷◌, ℕ, ◌+◌, ◌*◌, ◌/◌, ◌^◌, ◌<◌, length, get_or, set, ltb}
+use Rattle.std.specs.Prelude.{if◌then◌else◌, ◌≡◌, Bool, true, false, List, [], ◌∷◌, ℕ, ◌+◌, ◌*◌, ◌/◌, ◌^◌, ◌<◌, length, get_or, set, ltb}
 use Rattle.std.proofs.lemmas.List.Edits.{sets}
 use Rattle.tables.specs.declared.values.Fields.{Fields}
 use Rattle.tables.specs.declared.records.Slot.{Slot}
@@ -45,10 +45,6 @@ address_of t i =
 unfoldable pub written : List ℕ → ℕ → List ℕ → List ℕ
 written t n row = sets t (n * length row) row
 
-abbrev pub pick_table : Bool → List ℕ → List ℕ → List ℕ
-pick_table true a b = a
-pick_table false a b = b
-
 -- there is room for record n
 abbrev pub has_room : List ℕ → ℕ → List ℕ → Bool
 has_room t n row = ltb n (room (length row) t)
@@ -56,7 +52,7 @@ has_room t n row = ltb n (room (length row) t)
 -- a record is put into a table where there is room for it; else the table stays (refusal 3)
 pub record Put (t : List ℕ) (n : ℕ) (row : List ℕ) (r : Bool) (after : List ℕ) : Type 0 where
   pub roomy : r ≡ has_room t n row
-  pub table : after ≡ pick_table (has_room t n row) (written t n row) t
+  pub table : after ≡ (if has_room t n row then written t n row else t)
 
 -- the slot count of object o can take one more
 abbrev pub Countable : List ℕ → ℕ → Type 0

@@ -1,6 +1,6 @@
 -- The values of slots: their kinds and two numbers, and how wide an item with such a value is
 -- (docs/FORMAT.md, "The tables"). Assumes nothing: these are definitions.
-use Rattle.std.specs.Prelude.{Bool, true, false, ℕ, ◌*◌}
+use Rattle.std.specs.Prelude.{if◌then◌else◌, Bool, true, false, ℕ, ◌*◌}
 use Rattle.tables.specs.declared.values.Ref.{Ref}
 use Rattle.tables.specs.declared.values.Ref.TheVariants.{Object, Root, RoRef, Attached}
 use Rattle.tables.specs.declared.values.SlotValue.{SlotValue}
@@ -52,15 +52,11 @@ fields_of ClearedWeak = triple 11 0 0
 fields_of (WeakRef k) = triple 12 k 0
 fields_of (PendingRef n) = triple 13 n 0
 
-abbrev pub pick_ℕ : Bool → ℕ → ℕ → ℕ
-pick_ℕ true a b = a
-pick_ℕ false a b = b
-
 -- width of an item, with words of ts bytes: raw its length, or 0 if it does not advance; repeats
 -- count times a word; skip its bytes; stream bytes 0; all else one word
 abbrev pub width_of : ℕ → SlotValue → ℕ
 width_of ts (IsRef r) = ts
-width_of ts (IsRaw r) = pick_ℕ r.advances r.len 0
+width_of ts (IsRaw r) = if r.advances then r.len else 0
 width_of ts (Repeat n k) = n * ts
 width_of ts (RepeatPrev n) = n * ts
 width_of ts (Skip n) = n

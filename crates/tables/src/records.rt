@@ -4,9 +4,9 @@
 //! Its room is its length divided by the fields of a record, rounded down. Where a field stands in
 //! its record is said in this module alone: other crates of the library go by `Slot`, `Address` and
 //! `Fields`.
-ghost use Rattle.std.specs.Prelude.{◌≡◌, ◌+◌, ◌*◌, ◌^◌, ◌<◌, ◌≤◌, length, ltb, replicate, set, is_some};
+ghost use Rattle.std.specs.Prelude.{if◌then◌else◌, ◌≡◌, ◌+◌, ◌*◌, ◌^◌, ◌<◌, ◌≤◌, length, ltb, replicate, set, is_some};
 ghost use Rattle.tables.specs.Values.{triple};
-ghost use Rattle.tables.specs.Records.{room, field as field_of, Put, object_row, slot_row, value_row, address_row, pick_table, slot_of, address_of, counted, Countable, filled};
+ghost use Rattle.tables.specs.Records.{room, field as field_of, Put, object_row, slot_row, value_row, address_row, slot_of, address_of, counted, Countable, filled};
 
 use crate::values::{Fields, ValueKind};
 
@@ -197,7 +197,7 @@ pub fn count_slot(t: &mut [u64], o: u64)
 pub fn append_slot(slots: &mut [u64], objects: &mut [u64], n: usize, slot: Slot) -> Option<()>
     requires { Countable objects.old slot.object }
     ensures slot { Put slots.old n (slot_row slot.object slot.index slot.value slot.waits) (is_some result) slots.new }
-    ensures count { objects.new ≡ pick_table (is_some result) (counted objects.old slot.object) objects.old }
+    ensures count { objects.new ≡ (if is_some result then counted objects.old slot.object else objects.old) }
 {
     let added = add_slot(slots, n, slot);
     if added.is_some() {

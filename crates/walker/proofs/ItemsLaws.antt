@@ -1,5 +1,6 @@
 -- The items of an object in the steps that the code takes: one item, what it keeps, and the rest
 -- after it. Assumes nothing.
+use Rattle.std.specs.Prelude.{if◌then◌else◌}
 use mathlib.Core.Path.{◌≡◌, refl, sym, subst, ◌∙◌}
 use mathlib.Core.Bool.{Bool, true, false}
 use mathlib.Core.List.{List}
@@ -14,7 +15,7 @@ use Rattle.sheet.specs.Sheet.{number}
 use Rattle.sheet.specs.Tests.{is_deferred}
 use Rattle.tables.specs.declared.values.SlotValue.{SlotValue}
 use Rattle.tables.specs.Values.{width_of}
-use Rattle.definition.specs.Memory.{Input, word, Mem, Out, got, no, Reader, and_then, ◌>>◌, choose, give, moved, byte}
+use Rattle.definition.specs.Memory.{Input, word, Mem, Out, got, no, Reader, and_then, ◌>>◌, give, moved, byte}
 use Rattle.definition.specs.Slots.{place_item}
 use Rattle.definition.specs.Object.{peek, items, closed}
 use Rattle.definition.specs.Reference.{ref_at}
@@ -70,7 +71,7 @@ WentOut x m P (no n q m') = Unit {0}
 
 -- an item: a reference, or kDeferred, which ends the object early
 abbrev pub item_in : Input → Reader SlotValue → ℕ → ℕ → ℕ → Reader ℕ
-item_in x r o size done m = choose (is_deferred x.sheet (peek x m)) (byte x >> give size) (slot_in x r o done) m
+item_in x r o size done m = (if is_deferred x.sheet (peek x m) then byte x >> give size else slot_in x r o done) m
 
 -- the definition's items, of which so many bytes are left in the payload
 abbrev items_from : Input → Reader SlotValue → ℕ → ℕ → ℕ → Reader ℕ

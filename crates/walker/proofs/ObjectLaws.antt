@@ -1,5 +1,6 @@
 -- An object's head and its map with what follows it, at each way out of the code, and what holds
 -- there. Assumes nothing.
+use Rattle.std.specs.Prelude.{if◌then◌else◌}
 use mathlib.Core.Path.{◌≡◌, refl, sym, ap, subst, ◌∙◌}
 use mathlib.Core.Bool.{Bool, true, false, ◌&&◌}
 use mathlib.Core.List.{List}
@@ -16,7 +17,7 @@ use Rattle.alloc.specs.Allocation.{Outcome, allocate_of}
 use Rattle.tables.specs.declared.values.SlotValue.{SlotValue}
 use Rattle.tables.specs.declared.values.Fields.{Fields}
 use Rattle.tables.specs.Values.{fields_of}
-use Rattle.definition.specs.Memory.{Input, word, Kept as Where, in_map, item, Table, table, with_alloc, with_objects, refuse, tell, has_room, Mem, Out, got, no, Reader, and_then, ◌>>=◌, ◌>>◌, choose, give, change, moved, aligned, byte, int}
+use Rattle.definition.specs.Memory.{Input, word, Kept as Where, in_map, item, Table, table, with_alloc, with_objects, refuse, tell, has_room, Mem, Out, got, no, Reader, and_then, ◌>>=◌, ◌>>◌, give, change, moved, aligned, byte, int}
 use Rattle.definition.specs.Slots.{add_slot}
 use Rattle.definition.specs.Object.{peek, large_byte, add_object, change_chunk, flagged, allocate, alignment_byte, chunk_changes, read_map, flags, flag_object, keep_map, resolves, body, object}
 use Rattle.definition.specs.Reference.{ref_at}
@@ -48,7 +49,7 @@ abbrev table_of : Mem → Table
 table_of m = m.slots
 
 module _ (x : Input) where
-  allocated : (r : Outcome) (m : Mem) (t : Bool) → Same table_of m (choose t (change (with_alloc (table r.table (m.addresses.count + 1)) r.alignment r.alloc)) (refuse r.number) m)
+  allocated : (r : Outcome) (m : Mem) (t : Bool) → Same table_of m ((if t then change (with_alloc (table r.table (m.addresses.count + 1)) r.alignment r.alloc) else refuse r.number) m)
   allocated r m true = refl
   allocated r m false = refl
 
@@ -74,7 +75,7 @@ module _ (x : Input) where
     aligns_leave : Leaves table_of aligns
     aligns_leave = next_leaves table_of (change (aligned before)) (alignment_byte x) (λ m. refl) (λ m. same_choose table_of (eqb (alignment_of x.sheet (peek x m)) 0) _ _ m (λ _. refl) refl)
 
-    followed_leaves : (m : Mem) (first legacy : Bool) → Same table_of m (choose first (aligns >> chunks >> allocate x space bytes o) (choose legacy (allocate x space bytes o) (give tt)) m)
+    followed_leaves : (m : Mem) (first legacy : Bool) → Same table_of m ((if first then aligns >> chunks >> allocate x space bytes o else if legacy then allocate x space bytes o else give tt) m)
     followed_leaves m true legacy =
         next_leaves table_of (aligns >> chunks) (allocate x space bytes o) (next_leaves table_of aligns chunks aligns_leave (λ m. chunks_leave space (length x.payload - m.at) m)) (allocate_leaves space bytes o) m
     followed_leaves m false true = allocate_leaves space bytes o m
@@ -105,7 +106,7 @@ module _ (x : Input) (o : ℕ) (v : SlotValue) (m : Mem) {m' : Mem} (sc : List �
       let t = through (add_slot o 0 (fields_of v) 0 in_map m₁) (λ k. tell (item o 0 (word x) k)) e in
       rw (ap slots_of t.second) (plain_slot o 0 (fields_of v) in_map m₁ t.first sc (rw s i))
 
-  flag_indexed : (t : Bool) → got tt m' ≡ (choose t (change (λ m. with_objects (flagged o m.objects) m)) (give tt) >> add_slot o 0 (fields_of v) 0 in_map >>= (λ k. tell (item o 0 (word x) k))) m → Indexed m'.slots.rows m'.slots.count sc
+  flag_indexed : (t : Bool) → got tt m' ≡ ((if t then change (λ m. with_objects (flagged o m.objects) m) else give tt) >> add_slot o 0 (fields_of v) 0 in_map >>= (λ k. tell (item o 0 (word x) k))) m → Indexed m'.slots.rows m'.slots.count sc
   flag_indexed true e = slot_indexed (with_objects (flagged o m.objects) m) refl e
   flag_indexed false e = slot_indexed m refl e
 
@@ -131,7 +132,7 @@ held : {A : Type 0} {x : Input} {m : Mem} (P : A → Mem → Type 0) {o : Out A}
 held {x = x} {m} P h e = subst (Holds x m P) (sym e) h
 
 -- the byte of a large object
-large_kept : {x : Input} {m : Mem} → Proper x → Sound x m → Counted m → (large : Bool) {u : Unit {0}} {m' : Mem} → got u m' ≡ choose large (byte x >> give (tt {0})) (give (tt {0})) m → Kept x m m' × (rest_of m' ≡ rest_of m)
+large_kept : {x : Input} {m : Mem} → Proper x → Sound x m → Counted m → (large : Bool) {u : Unit {0}} {m' : Mem} → got u m' ≡ (if large then byte x >> give (tt {0}) else give (tt {0})) m → Kept x m m' × (rest_of m' ≡ rest_of m)
 large_kept {x} {m} p s c true e =
     let t = through (byte x m) (λ _. give (tt {0})) e in
     let k = held _ (byte_keeps p m s c) t.first in

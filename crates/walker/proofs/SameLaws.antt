@@ -1,9 +1,10 @@
 -- Readers that leave a part of what they have as it was, with a value or a refusal: a view of it is
 -- the same before and after. Assumes nothing.
+use Rattle.std.specs.Prelude.{if◌then◌else◌}
 use mathlib.Core.Path.{◌≡◌, refl, sym, subst, ◌∙◌}
 use mathlib.Core.Bool.{Bool, true, false}
 use Prim.Native.Nat.{ℕ}
-use Rattle.definition.specs.Memory.{Mem, Out, got, no, Reader, and_then, ◌>>=◌, ◌>>◌, choose}
+use Rattle.definition.specs.Memory.{Mem, Out, got, no, Reader, and_then, ◌>>=◌, ◌>>◌}
 
 module _ {B : Type 0} (view : Mem → B) where
   abbrev pub Same : {A : Type 0} → Mem → Out A → Type 0
@@ -21,7 +22,7 @@ module _ {B : Type 0} (view : Mem → B) where
   same_then m f (got a m') u h = same_from m m' u (f a m') (h a m')
   same_then m f (no n q m') u h = u
 
-  pub same_choose : {A : Type 0} (t : Bool) (f g : Reader A) (m : Mem) → (t ≡ true → Same m (f m)) → Same m (g m) → Same m (choose t f g m)
+  pub same_choose : {A : Type 0} (t : Bool) (f g : Reader A) (m : Mem) → (t ≡ true → Same m (f m)) → Same m (g m) → Same m ((if t then f else g) m)
   same_choose true f g m h k = h refl
   same_choose false f g m h k = k
 

@@ -1,6 +1,6 @@
 -- A weak reference to a leaf, as a reference within one, and its slot. Assumes nothing.
 use Rattle.std.specs.Prelude.{◌≡◌, refl, true, false, List, ℕ, ◌+◌, ◌/◌, ◌<◌, length, get_or}
-use Rattle.std.proofs.Common.{arith, sym, subst, ◌∙◌, lt-ltb}
+use Rattle.std.proofs.Common.{arith, subst, ◌∙◌, lt-ltb}
 use Rattle.sheet.specs.Sheet.{word_bytes}
 use Rattle.heads.specs.Heads.{head_at, head_of, Heads}
 use Rattle.heads.specs.declared.kinds.Kind.TheVariants.{WeakPrefix}
@@ -64,7 +64,7 @@ unheld_refused w s d r o done decoded found p inner =
 -- the state after the slot
 abbrev weak_state : Leaf → State → State
 weak_state r s =
-    record s { at = r.next; slots = s.slots + 1; values = s.values + 1; skip = 0 }
+    record s { at = r.next; slots = s.slots + 1; values = s.values + 1; skip = 0; long_integers = s.long_integers + r.long_integers }
 
 -- that slot
 kept : (x : Input) (o done : ℕ) (k : ℕ) (s : State) (l : Lent) {ot st : List ℕ} → s.slots < room 6 l.slots → st ≡ written l.slots s.slots (slot_row o ((done + s.skip) / word_bytes x.sheet) (fields_of (WeakRef k)) 0) → ot ≡ counted l.objects o
