@@ -2,7 +2,7 @@
 -- nothing: these are definitions. Here the Rust leaves V8: map and large-object spaces run through
 -- the counters too (D28), a space without counters leaves the alignment pending (D30), and chunk
 -- ends are not checked (D32); docs/DIFFERENCES.md.
-use Rattle.std.specs.Prelude.{if◌then◌else◌, ◌≡◌, Bool, true, false, ◌||◌, List, [], ◌∷◌, ℕ, ◌+◌, ◌^◌, ltb, leb, eqb, get_or, set, replicate, Result, Ok, Err}
+use Rattle.std.specs.Prelude.{if◌then◌else◌, ◌≡◌, ◌||◌, List, [], ◌∷◌, ℕ, ◌+◌, ◌^◌, ltb, leb, eqb, get_or, set, replicate, Result, Ok, Err}
 use Rattle.refusals.specs.declared.refusal.Refusal.{Refusal}
 use Rattle.refusals.specs.Numbers.{number_of}
 use Rattle.tables.specs.Records.{room, written, address_row}

@@ -1,6 +1,6 @@
 -- Fillers of V8's `Heap::GetMaximumFillToAlign` and `Heap::GetFillToAlign`. Assumes nothing: these
 -- are definitions.
-use Rattle.std.specs.Prelude.{if◌then◌else◌, Bool, true, false, not, ◌&&◌, ℕ, ◌-◌, ◌%◌, eqb}
+use Rattle.std.specs.Prelude.{if◌then◌else◌, not, ◌&&◌, ℕ, ◌-◌, ◌%◌, eqb}
 
 -- the most that a filler can take: a double less a word
 unfoldable pub max_fill_to_align : ℕ → ℕ

@@ -1,6 +1,6 @@
 -- What a legacy back-reference stands for (`LegacyAlloc::resolve` and `resolve_ordinal`). Assumes
 -- nothing: these are definitions.
-use Rattle.std.specs.Prelude.{if◌then◌else◌, ◌≡◌, Bool, true, false, ◌&&◌, List, ℕ, zero, suc, ◌+◌, ◌-◌, ◌^◌, ◌<◌, eqb, Option, Some, None}
+use Rattle.std.specs.Prelude.{if◌then◌else◌, ◌≡◌, Bool, ◌&&◌, List, ℕ, zero, suc, ◌+◌, ◌-◌, ◌^◌, ◌<◌, eqb, Option, Some, None}
 use Rattle.tables.specs.Records.{field}
 use Rattle.alloc.specs.Fill.{fill_to_align}
 use Rattle.alloc.specs.declared.resolve.Place.{Place}

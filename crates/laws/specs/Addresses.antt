@@ -24,7 +24,7 @@ use Rattle.definition.specs.Slots.{waiter, fill_waiter, resolved}
 use Rattle.definition.specs.Object.{read_map, object}
 use Rattle.definition.specs.Reference.{ref_at}
 use Rattle.definition.specs.Call.{walk}
-use Rattle.laws.specs.Leaves.{pick_outcome_case}
+use Rattle.laws.specs.Leaves.{if_case}
 use Rattle.laws.specs.Sound.{Proper, Sound, Counted}
 use Rattle.laws.specs.Rules.{Frame, frame, Listed, Rules}
 use Rattle.laws.specs.Steps.{Good, Result, Ends}
@@ -47,11 +47,11 @@ module _ (t : List ℕ) (n spaces : ℕ) (want : Request) (c : LegacyAlloc) wher
   pub allocate_shape : Shaped (allocate_of t n spaces want c)
   unfolding allocate_of
   allocate_shape =
-      pick_outcome_case Shaped (leb (room 5 t) n) _ _ (λ _ z. absurd (omega arith))
+      if_case Shaped (leb (room 5 t) n) _ _ (λ _ z. absurd (omega arith))
       (λ e. let h : n < room 5 t = leb-false _ _ e in
-      pick_outcome_case Shaped (ltb 4294967295 want.size) _ _ (λ _ z. absurd (omega arith))
-      (λ _. pick_outcome_case Shaped (leb spaces want.space) _ _ (λ f z. (h, bare (leb-true _ _ f) refl refl))
-      (λ f. pick_outcome_case Shaped (ltb 4294967295 (get_or c.used want.space 0 + fill_to_align (get_or c.used want.space 0) want.alignment want.word) || ltb 4294967295 (get_or c.used want.space 0 + advance_of want.size want.alignment want.word)) _ _ (λ _ z. absurd (omega arith))
+      if_case Shaped (ltb 4294967295 want.size) _ _ (λ _ z. absurd (omega arith))
+      (λ _. if_case Shaped (leb spaces want.space) _ _ (λ f z. (h, bare (leb-true _ _ f) refl refl))
+      (λ f. if_case Shaped (ltb 4294967295 (get_or c.used want.space 0 + fill_to_align (get_or c.used want.space 0) want.alignment want.word) || ltb 4294967295 (get_or c.used want.space 0 + advance_of want.size want.alignment want.word)) _ _ (λ _ z. absurd (omega arith))
       (λ _ z. (h, seated (leb-false _ _ f) refl refl refl)))))
 
 -- ---- the filler

@@ -27,9 +27,10 @@ use Rattle.backref.specs.HotRing.{entered}
 
 -- ---- integers and raw ranges
 
-pick_int_case : (P : Option Int → Type 0) (t : Bool) (a b : Option Int) → (t ≡ true → P a) → (t ≡ false → P b) → P (if t then a else b)
-pick_int_case P true a b y n = y refl
-pick_int_case P false a b y n = n refl
+-- by a test: what holds of what it chooses
+pub if_case : {A : Type 0} (P : A → Type 0) (t : Bool) (a b : A) → (t ≡ true → P a) → (t ≡ false → P b) → P (if t then a else b)
+if_case P true a b y n = y refl
+if_case P false a b y n = n refl
 
 -- an integer reads a byte at least and ends within the payload, and its value has 30 bits
 abbrev pub IntEnds : List ℕ → ℕ → Option Int → Type 0
@@ -43,15 +44,11 @@ int-length p at = omega arith
 pub int_ends : (p : List ℕ) (at : ℕ) → Bytes p → IntEnds p at (int_at p at)
 unfolding int_at
 int_ends p at bs =
-    pick_int_case (IntEnds p at) (leb (length p) at) _ _ (λ _. tt)
-    (λ e. pick_int_case (IntEnds p at) (ltb (length p - at) (int_length p at)) _ _ (λ _. tt)
+    if_case (IntEnds p at) (leb (length p) at) _ _ (λ _. tt)
+    (λ e. if_case (IntEnds p at) (ltb (length p - at) (int_length p at)) _ _ (λ _. tt)
     (λ f. let n = int-length p at in
     let value : little_endian p at (int_length p at) < 2 ^ 32 = lt_of_lt_of_le (le_below p at (int_length p at) bs) (pow_mono {j = 32} (omega arith)) in
     omega (arith, leb-false (length p) at e, ltb-false (length p - at) (int_length p at) f)))
-
-pick_range_case : (P : Option ℕ → Type 0) (t : Bool) (a b : Option ℕ) → (t ≡ true → P a) → (t ≡ false → P b) → P (if t then a else b)
-pick_range_case P true a b y n = y refl
-pick_range_case P false a b y n = n refl
 
 abbrev pub RawEnds : List ℕ → ℕ → ℕ → Option ℕ → Type 0
 RawEnds p at n (Some end) = (end ≡ at + n) × (end ≤ length p)
@@ -59,7 +56,7 @@ RawEnds p at n None = Unit {0}
 
 pub raw_ends : (p : List ℕ) (at n : ℕ) → RawEnds p at n (raw_at p at n)
 unfolding raw_at
-raw_ends p at n = pick_range_case (RawEnds p at n) (ltb (length p) (at + n)) _ _ (λ _. tt) (λ e. (refl, ltb-false _ _ e))
+raw_ends p at n = if_case (RawEnds p at n) (ltb (length p) (at + n)) _ _ (λ _. tt) (λ e. (refl, ltb-false _ _ e))
 
 -- ---- bytes that were peeked at
 
@@ -139,17 +136,13 @@ pub record Allocates (t : List ℕ) (n : ℕ) (c : LegacyAlloc) (r : Outcome) : 
   pub cur_same : r.alloc.cur ≡ c.cur
   pub used_length : length r.alloc.used ≡ length c.used
 
-pub pick_outcome_case : (P : Outcome → Type 0) (t : Bool) (a b : Outcome) → (t ≡ true → P a) → (t ≡ false → P b) → P (if t then a else b)
-pick_outcome_case P true a b y n = y refl
-pick_outcome_case P false a b y n = n refl
-
 module _ (t : List ℕ) (n spaces : ℕ) (want : Request) (c : LegacyAlloc) where
   abbrev Grants : Outcome → Type 0
   Grants r = r.number ≡ 0 → Allocates t n c r
 
   placed_grants : n < room 5 t → (used : ℕ) → Grants (placed t n want c used)
   placed_grants h used =
-      pick_outcome_case Grants
+      if_case Grants
       (ltb 4294967295 (used + fill_to_align used want.alignment want.word) || ltb 4294967295 (used + advance_of want.size want.alignment want.word))
       _ _ (λ _ z. absurd (omega arith))
       (λ _ z. record { roomy = h; size = written_length t _ n; cur_same = refl; used_length = length-set c.used _ _ })
@@ -157,9 +150,9 @@ module _ (t : List ℕ) (n spaces : ℕ) (want : Request) (c : LegacyAlloc) wher
   pub allocate_grants : Grants (allocate_of t n spaces want c)
   unfolding allocate_of
   allocate_grants =
-      pick_outcome_case Grants (leb (room 5 t) n) _ _ (λ _ z. absurd (omega arith))
-      (λ e. pick_outcome_case Grants (ltb 4294967295 want.size) _ _ (λ _ z. absurd (omega arith))
-      (λ _. pick_outcome_case Grants (leb spaces want.space) _ _
+      if_case Grants (leb (room 5 t) n) _ _ (λ _ z. absurd (omega arith))
+      (λ e. if_case Grants (ltb 4294967295 want.size) _ _ (λ _ z. absurd (omega arith))
+      (λ _. if_case Grants (leb spaces want.space) _ _
       (λ _ z. record { roomy = leb-false _ _ e; size = written_length t _ n; cur_same = refl; used_length = refl })
       (λ _. placed_grants (leb-false _ _ e) (get_or c.used want.space 0))))
 

@@ -35,19 +35,19 @@ pub record Added (o index : ℕ) (v : Fields) (waits : ℕ) (m : Mem) (k : ℕ) 
   pub objects_are : m'.objects ≡ counted o m.objects
   pub number_is : k ≡ m.slots.count
 
--- a record that was appended
+-- a record that was append_added
 module _ (t : Mem → Table) (f : Mem → Mem) (m : Mem) {k : ℕ} {m' : Mem} where
   roomed : (b : Bool) → got k m' ≡ (if b then appended t f else refuse 3) m → (b ≡ true) × (k ≡ (t m).count) × (m' ≡ f m)
   roomed true e = (refl, (cc), (cc))
   roomed false e = absurd (let z : ◌≡◌ {A = ℕ} 0 1 = cc in omega arith)
 
-  appended : (fields : ℕ) → got k m' ≡ append fields t f m → (has_room fields (t m) ≡ true) × (k ≡ (t m).count) × (m' ≡ f m)
-  appended fields e = roomed (has_room fields (t m)) e
+  append_added : (fields : ℕ) → got k m' ≡ append fields t f m → (has_room fields (t m) ≡ true) × (k ≡ (t m).count) × (m' ≡ f m)
+  append_added fields e = roomed (has_room fields (t m)) e
 
 pub slot_added : (o index : ℕ) (v : Fields) (waits : ℕ) (kept : ℕ → Kept) (m : Mem) {k : ℕ} {m' : Mem} → got k m' ≡ add_slot o index v waits kept m → Added o index v waits m k m'
 unfolding add_slot
 slot_added o index v waits kept m e =
-    let d = appended (λ m. m.slots) _ m 6 e in
+    let d = append_added (λ m. m.slots) _ m 6 e in
     record {
       roomy = ltb-true m.slots.count (room 6 m.slots.rows) d.0;
       rows_are = ap (λ (m : Mem). m.slots.rows) d.2;
@@ -67,7 +67,7 @@ record Beside (m m' : Mem) : Type 0 where
 value_added : (v : Fields) (m : Mem) {k : ℕ} {m' : Mem} → got k m' ≡ add_value v m → Beside m m'
 unfolding add_value
 value_added v m e =
-    let d = appended (λ m. m.values) _ m 3 e in
+    let d = append_added (λ m. m.values) _ m 3 e in
     record { objects_same = ap (λ (m : Mem). m.objects) d.2; slots_same = ap (λ (m : Mem). m.slots) d.2; waiting_same = ap (λ (m : Mem). m.waiting) d.2; skip_same = ap (λ (m : Mem). m.skip) d.2 }
 
 -- ---- items

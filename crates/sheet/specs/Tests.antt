@@ -1,6 +1,6 @@
 -- What objects and the closing section test before a reference's head. A byte of 256 is none (the
 -- payload's end). Assumes nothing: these are definitions.
-use Rattle.std.specs.Prelude.{if◌then◌else◌, Bool, true, false, not, ◌&&◌, List, ℕ, zero, suc, ◌+◌, ◌-◌, ltb, leb, eqb, Option, Some, None}
+use Rattle.std.specs.Prelude.{if◌then◌else◌, Bool, not, ◌&&◌, List, ℕ, zero, suc, ◌+◌, ◌-◌, ltb, leb, eqb, Option, Some, None}
 use Rattle.sheet.specs.Names.{k_new_object, k_backref, k_synchronize, k_nop, k_next_chunk, k_alignment_prefix, k_resolve_pending_forward_ref, k_deferred, k_new_meta_map}
 use Rattle.sheet.specs.Sheet.{number, present, number_of_spaces, is_legacy}
 use Rattle.sheet.specs.declared.tests.Closing.{Closing}
