@@ -1,6 +1,6 @@
 -- The integer of one to four bytes (V8's PutUint30, in older versions PutInt; docs/FORMAT.md,
 -- "Integers"). Assumes nothing: these are definitions.
-use Rattle.std.specs.Prelude.{if◌then◌else◌, List, ℕ, ◌+◌, ◌-◌, ◌/◌, ◌%◌, ◌^◌, ◌<◌, length, get_or, ltb, leb, Option, Some, None}
+use Rattle.std.specs.Prelude.{if◌then◌else◌, Bool, List, ℕ, ◌+◌, ◌-◌, ◌/◌, ◌%◌, ◌^◌, ◌<◌, length, get_or, ltb, leb, Option, Some, None}
 use Rattle.stream.specs.declared.putint.Int.{Int}
 use Rattle.stream.specs.Bytes.{little_endian}
 
