@@ -1,8 +1,10 @@
-//! Prints how many objects a payload lists and the sum of their byte sizes, from which the memory of a title is planned.
+//! Prints how many objects a payload lists and the sum of their byte sizes, from which the memory
+//! of a title is planned.
 //!
 //!     cargo run --offline --example sum -- ../examples/v11.3-features
 //!
-//! The folder has sheet.bin and payload.bin and may have reserve.bin and trusted.bin, as for `graphlist` (docs/GRAPHLIST.md).
+//! The folder has sheet.bin and payload.bin and may have reserve.bin and trusted.bin, as for
+//! `graphlist` (docs/GRAPHLIST.md).
 
 use dawichko::{read, Call, Sheet};
 use std::io::ErrorKind;

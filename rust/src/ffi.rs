@@ -1,4 +1,5 @@
-//! The call of the library, by the declaration of include/dawichko.h. All unsafe code of this crate is here.
+//! The call of the library, by the declaration of include/dawichko.h. All unsafe code of this crate
+//! is here.
 
 use crate::read::Call;
 use std::thread;
@@ -27,10 +28,10 @@ extern "C" {
     ) -> u64;
 }
 
-/// Ten times the 204 kB that a call takes at most.
+/// Bytes: more than ten times the 130 kB that a call takes at most (docs/BENCHMARKS.md).
 const STACK: usize = 2 << 20;
 
-/// What is lent to be written.
+/// What is lent to be written: the four tables and scratch, as include/dawichko.h has them.
 pub struct Tables {
     pub objects: Vec<u64>,
     pub slots: Vec<u64>,
@@ -44,9 +45,10 @@ pub fn graph(call: &Call, tables: &mut Tables) -> (u64, [u64; 6]) {
     let work = || {
         let sheet = call.sheet.numbers();
         let mut outcome = [0; 6];
-        // Sound: each pointer with its length is that of one slice, so it is aligned and leads to as many elements; the tables, scratch and
-        // the outcome are borrowed mutably, so nothing else reads or writes them and they overlap nothing; the outcome has the six numbers
-        // that are written; and this thread's stack is larger than what the call takes.
+        // Sound: each pointer with its length is that of one slice, so it is aligned and leads to
+        // as many elements; the tables, scratch and the outcome are borrowed mutably, so nothing
+        // else reads or writes them and they overlap nothing; the outcome has the six numbers that
+        // are written; and this thread's stack is larger than what the call takes.
         let number = unsafe {
             dawichko_graph(
                 sheet.as_ptr(),
@@ -72,7 +74,8 @@ pub fn graph(call: &Call, tables: &mut Tables) -> (u64, [u64; 6]) {
         };
         (number, outcome)
     };
-    // The library does not test whether the stack has room, and the caller's may have less, so the call gets a thread of its own.
+    // The library does not test whether the stack has room, and the caller's may have less, so the
+    // call gets a thread of its own.
     thread::scope(|scope| {
         let thread = thread::Builder::new().stack_size(STACK).spawn_scoped(scope, work);
         thread.expect("a thread for the call can be made").join().expect("the library does not panic")

@@ -1,4 +1,4 @@
-//! The graph: the four tables of document 01, with typed records.
+//! The graph: the four tables (docs/FORMAT.md, "The tables"), with typed records.
 
 use std::iter::Map;
 use std::slice::ChunksExact;
@@ -9,7 +9,8 @@ pub(crate) const SLOT: usize = 6;
 pub(crate) const VALUE: usize = 3;
 pub(crate) const ADDRESS: usize = 5;
 
-/// The graph of an accepted payload. Objects, slots, values and addresses are numbered from 0 in the order of the records.
+/// The graph of an accepted payload. Objects, slots, values and addresses are numbered from 0 in
+/// the order of the records. It borrows the payload.
 #[derive(Clone, PartialEq, Eq, Debug)]
 pub struct Graph<'a> {
     pub(crate) payload: &'a [u8],
@@ -20,9 +21,10 @@ pub struct Graph<'a> {
     pub(crate) end: usize,
 }
 
+/// An object that the payload opens.
 #[derive(Clone, Copy, PartialEq, Eq, Debug)]
 pub struct Object {
-    /// The declared size.
+    /// The declared size in bytes: the words that the payload says, times the word size.
     pub bytes: u64,
     /// The place of the object's head byte in the payload.
     pub tag_offset: usize,
@@ -32,37 +34,46 @@ pub struct Object {
     pub slots: usize,
 }
 
+/// A place in an object that holds a value.
 #[derive(Clone, Copy, PartialEq, Eq, Debug)]
 pub struct Slot {
     /// The number of the object that has the slot.
     pub object: usize,
     /// The slot's place in the object, in words; 0 is the map.
     pub index: usize,
+    /// What the slot holds, once forward references are resolved.
     pub value: Value,
-    /// Whether the slot is a forward reference that was not resolved.
+    /// Whether the slot is a forward reference that waits and was not resolved.
     pub waits: bool,
 }
 
-/// What a slot or a value record has. A weak or repeat holds the number of a value record, which `Graph::value` gives.
+/// What a slot or a value record has. A weak or repeat holds the number of a value record, which
+/// `Graph::value` gives.
 #[derive(Clone, Copy, PartialEq, Eq, Debug)]
 pub enum Value {
     /// The object of this number.
     Object(usize),
     /// The root of this index.
     Root(usize),
-    /// A read-only object: page and offset. Things outside the payload have a first number near 2^32 (docs/DIFFERENCES.md, D42).
+    /// A read-only object: page and offset. Things outside the payload have a first number near
+    /// 2^32 (docs/FORMAT.md, "The tables"; docs/DIFFERENCES.md, D42).
     ReadOnly(u64, u64),
     /// The attached reference of this index.
     Attached(usize),
     /// Bytes of the payload (`Graph::raw_bytes`).
     Raw {
+        /// The place of the first byte in the payload.
         offset: usize,
+        /// How many bytes there are.
         len: usize,
+        /// Whether they fill as many bytes of the object, or none.
         advances: bool,
     },
-    /// So many words that each have the value of this record.
+    /// Words that each have the same value.
     Repeat {
+        /// How many words.
         count: usize,
+        /// The number of the value record that they have.
         value: usize,
     },
     /// So many words that each have the value of the slot before (6.x).
@@ -71,6 +82,8 @@ pub enum Value {
     Skip(usize),
     /// So many bytes that belong to no slot (6.x).
     StreamBytes(usize),
+    /// A weak reference whose target is gone, or an object's reference to itself by its handle
+    /// (docs/DIFFERENCES.md, D14).
     ClearedWeak,
     /// A weak reference to the value of this record.
     Weak(usize),
@@ -78,11 +91,14 @@ pub enum Value {
     Pending(u64),
 }
 
-/// Where a legacy object was placed.
+/// Where a legacy object was placed (docs/FORMAT.md, "Legacy allocation").
 #[derive(Clone, Copy, PartialEq, Eq, Debug)]
 pub struct Address {
+    /// The space that the object's head byte names.
     pub space: u64,
+    /// The number of the chunk in the space.
     pub chunk: u64,
+    /// The place in the chunk, in bytes.
     pub offset: u64,
     /// The number of the object.
     pub object: usize,
@@ -129,7 +145,7 @@ impl Value {
             11 => Value::ClearedWeak,
             12 => Value::Weak(a),
             13 => Value::Pending(record[1]),
-            kind => unreachable!("document 01 has no kind {kind}"),
+            kind => unreachable!("no value has kind {kind}"),
         }
     }
 }
@@ -159,24 +175,28 @@ fn record(table: &[u64], fields: usize, number: usize) -> Option<&[u64]> {
 }
 
 impl<'a> Graph<'a> {
+    /// All objects, in the order in which they were opened.
     pub fn objects(&self) -> Records<'_, Object> {
         records(&self.objects, OBJECT, Object::of)
     }
 
+    /// The object of this number, if there is one.
     pub fn object(&self, number: usize) -> Option<Object> {
         record(&self.objects, OBJECT, number).map(Object::of)
     }
 
-    /// All slots, in the order in which they were read; those of one object need not stand together.
+    /// All slots, in the order in which they were read; those of one object need not stand
+    /// together.
     pub fn slots(&self) -> Records<'_, Slot> {
         records(&self.slots, SLOT, Slot::of)
     }
 
+    /// The slot of this number, if there is one.
     pub fn slot(&self, number: usize) -> Option<Slot> {
         record(&self.slots, SLOT, number).map(Slot::of)
     }
 
-    /// The slots of each object, in the order in which they were read.
+    /// The slots of each object, by its number, in the order in which they were read.
     pub fn slots_by_object(&self) -> Vec<Vec<Slot>> {
         let mut found: Vec<Vec<Slot>> =
             self.objects().map(|object| Vec::with_capacity(object.slots)).collect();
@@ -184,25 +204,30 @@ impl<'a> Graph<'a> {
         found
     }
 
+    /// All value records, in the order in which they were formed: what weak references and repeats
+    /// hold, also those that the closing section drops.
     pub fn values(&self) -> Records<'_, Value> {
         records(&self.values, VALUE, Value::of)
     }
 
-    /// The value record that a weak or a repeat holds.
+    /// The value record of this number, which a weak or a repeat holds, if there is one.
     pub fn value(&self, number: usize) -> Option<Value> {
         record(&self.values, VALUE, number).map(Value::of)
     }
 
-    /// Where the objects of a legacy payload were placed, in the order of allocating; none for other sheets.
+    /// Where the objects of a legacy payload were placed, in the order of allocating; none for
+    /// other sheets.
     pub fn addresses(&self) -> Records<'_, Address> {
         records(&self.addresses, ADDRESS, Address::of)
     }
 
-    /// The place in the payload at which reading ended.
+    /// The place in the payload at which reading ended: its length, unless the sheet is legacy
+    /// (docs/FORMAT.md, "A whole call").
     pub fn end(&self) -> usize {
         self.end
     }
 
+    /// The payload that was read.
     pub fn payload(&self) -> &'a [u8] {
         self.payload
     }

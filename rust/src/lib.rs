@@ -1,4 +1,9 @@
-//! The object graph of a V8 code-cache payload, read by the proved library that include/dawichko.h declares.
+//! The object graph of a V8 code-cache payload, read by the proved library that include/dawichko.h
+//! declares.
+//!
+//! A [`Call`] lends a version [`Sheet`], a payload and, for legacy files, the reservations;
+//! [`read`] gives the [`Graph`] or a [`Refusal`]. What is read and listed is docs/FORMAT.md, what
+//! is proved of it docs/GUARANTEES.md.
 //!
 //! ```no_run
 //! let sheet = dawichko::Sheet::from_bytes(&std::fs::read("sheet.bin")?)?;
@@ -9,6 +14,7 @@
 //! ```
 
 #![deny(unsafe_code)]
+#![warn(missing_docs)]
 
 #[cfg(not(target_pointer_width = "64"))]
 compile_error!("the library is made for x86-64, and its numbers of 64 bits are taken for usize");

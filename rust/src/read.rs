@@ -7,15 +7,17 @@ use crate::sheet::Sheet;
 use std::collections::hash_map::RandomState;
 use std::hash::{BuildHasher, Hasher};
 
-/// The longest payload that is read.
+/// The longest payload that is read, in bytes; a longer one is refused with 2.
 pub const MOST_BYTES: usize = 16_777_216;
-/// The longest reservation list that is read.
+/// The longest reservation list that is read; a longer one is refused with 2.
 pub const MOST_RESERVATIONS: usize = 65_536;
 
-/// What a call reads.
+/// What a call reads (docs/FORMAT.md, "The version sheet", "Reservations and the trusted list").
 #[derive(Clone, Copy)]
 pub struct Call<'a> {
+    /// The tag values of the engine version that wrote the payload.
     pub sheet: &'a Sheet,
+    /// The payload, without the header of its file.
     pub payload: &'a [u8],
     /// The chunk reservations of a legacy file; none where the format has none.
     pub reservations: &'a [u32],
@@ -38,14 +40,19 @@ impl<'a> Call<'a> {
 /// How many records each table can hold.
 #[derive(Clone, Copy, PartialEq, Eq, Debug)]
 pub struct Rooms {
+    /// Objects, 32 bytes each.
     pub objects: usize,
+    /// Slots, 48 bytes each.
     pub slots: usize,
+    /// Values, 24 bytes each.
     pub values: usize,
+    /// Addresses, 40 bytes each; none are written outside legacy.
     pub addresses: usize,
 }
 
 impl Rooms {
-    /// To begin with: two or three times what payloads that V8 wrote need as a rule, an object for 44 to 56 bytes and 4 to 5 slots for an object.
+    /// To begin with: two or three times what payloads that V8 wrote need as a rule, an object for
+    /// 44 to 56 bytes and 4 to 5 slots for an object.
     pub fn first(call: &Call) -> Rooms {
         let bytes = call.bytes();
         let objects = bytes / 16 + 64;
@@ -53,8 +60,9 @@ impl Rooms {
         Rooms { objects, slots: bytes / 4 + 256, values: bytes / 16 + 64, addresses }
     }
 
-    /// What no payload of this length can pass: an object has a head byte and a size byte of its own, and a slot and a value record a head
-    /// byte each. Only the deferred entries of a legacy payload can write more slots than that; they get as many as the longest payload.
+    /// What no payload of this length can pass: an object has a head byte and a size byte of its
+    /// own, and a slot and a value record a head byte each. Only the deferred entries of a legacy
+    /// payload can write more slots than that; they get as many as the longest payload.
     pub fn most(call: &Call) -> Rooms {
         let bytes = call.bytes();
         let objects = bytes / 2;
@@ -84,16 +92,27 @@ impl Rooms {
     }
 }
 
-/// The graph of a payload. Tables are made, and made larger while the call refuses with 3.
+/// The graph of a payload. Tables are made, and made larger while the call refuses with 3, up to
+/// `Rooms::most`.
+///
+/// # Errors
+///
+/// The library's refusal: 1 to 16, of which 3 only for a legacy payload whose deferred entries
+/// write over 16,777,216 slots.
 ///
 /// # Panics
 ///
-/// If the system gives no thread to call the library on. As elsewhere, running out of memory ends the program.
+/// If the system gives no thread to call the library on. As elsewhere, running out of memory ends
+/// the program.
 pub fn read<'a>(call: &Call<'a>) -> Result<Graph<'a>, Refusal> {
     read_up_to(call, Rooms::most(call))
 }
 
-/// As `read`, with other largest rooms: the call is refused with 3 if these do not suffice.
+/// As `read`, with other largest rooms.
+///
+/// # Errors
+///
+/// As those of `read`, with 3 where these rooms do not suffice.
 pub fn read_up_to<'a>(call: &Call<'a>, most: Rooms) -> Result<Graph<'a>, Refusal> {
     let mut rooms = Rooms::first(call).at_most(most);
     loop {
@@ -107,8 +126,9 @@ pub fn read_up_to<'a>(call: &Call<'a>, most: Rooms) -> Result<Graph<'a>, Refusal
     }
 }
 
-/// As much scratch as keeps the call from searching: a place for each pending number, of which there are no more than payload bytes, and for
-/// legacy sheets the index of addresses, nine numbers and eight for each record.
+/// As much scratch as keeps the call from searching: a place for each pending number, of which
+/// there are no more than payload bytes, and for legacy sheets the index of addresses, nine numbers
+/// and eight for each record.
 fn scratch_length(call: &Call, rooms: Rooms) -> usize {
     let records = rooms.addresses.saturating_mul(8);
     let index = if call.sheet.is_legacy() { records.saturating_add(9) } else { 0 };
@@ -124,9 +144,14 @@ fn scratch(call: &Call, rooms: Rooms) -> Vec<u64> {
     scratch
 }
 
-/// One call with these rooms: refused with 3 if they do not suffice.
+/// One call with tables of these rooms.
+///
+/// # Errors
+///
+/// As those of `read`, with 3 where these rooms do not suffice.
 pub fn read_within<'a>(call: &Call<'a>, rooms: Rooms) -> Result<Graph<'a>, Refusal> {
-    // Zeros, because such memory is given without being written; the library asks nothing of what the tables and scratch hold.
+    // Zeros, because such memory is given without being written; the library asks nothing of what
+    // the tables and scratch hold.
     let table = |records: usize, fields: usize| vec![0; records.saturating_mul(fields)];
     let mut tables = Tables {
         objects: table(rooms.objects, OBJECT),

@@ -1,4 +1,4 @@
-//! Refusals, with the numbers and words of document 01's table.
+//! Refusals, with their numbers and words (docs/FORMAT.md, "Refusals").
 
 use std::error::Error;
 use std::fmt;
@@ -23,12 +23,13 @@ const WORDS: [&str; 16] = [
     "a legacy address, size or next free offset passes 2^32 − 1",
 ];
 
-/// Why a payload has no graph.
+/// Why a payload has no graph (docs/FORMAT.md, "Refusals").
 #[derive(Clone, Copy, PartialEq, Eq, Debug)]
 pub struct Refusal {
     /// 1 to 16.
     pub number: u64,
-    /// A byte of the payload or its length; which one depends on the number.
+    /// A place in the payload, from 0 to its length; which one depends on the number. 0 for 1 and
+    /// 2.
     pub place: usize,
 }
 
@@ -36,11 +37,11 @@ impl Refusal {
     /// The number that is returned when a table is too short.
     pub const ROOM: u64 = 3;
 
-    /// Document 01's words for the number.
+    /// When a call returns the number, in a few words; what `Display` shows after number and place.
     pub fn words(&self) -> &'static str {
         let known =
             usize::try_from(self.number).ok().and_then(|n| n.checked_sub(1)).and_then(|n| WORDS.get(n));
-        known.copied().unwrap_or("a number that document 01 does not have")
+        known.copied().unwrap_or("a number that a call does not return")
     }
 }
 

@@ -4,7 +4,7 @@ use std::collections::HashMap;
 use std::error::Error;
 use std::fmt;
 
-/// The order of docs/SHEET.md.
+/// The names of a sheet's numbers, in the order of docs/SHEET.md.
 #[rustfmt::skip]
 pub const NAMES: [&str; 58] = [
     "kNewObject", "kBackref", "kRootArray", "kAttachedReference", "kSynchronize", "kNop",
@@ -41,7 +41,8 @@ const TAGS: usize = 48;
 const TAGGED_SIZE: usize = 56;
 const VAR_RAW_ADVANCES: usize = 57;
 
-/// The numbers of one engine version. Whether they make a usable sheet is tested by the call, which refuses with 1.
+/// The numbers of one engine version. Whether they make a usable sheet (docs/FORMAT.md, "The
+/// version sheet") is tested by the call, which refuses with 1.
 #[derive(Clone, Copy, PartialEq, Eq, Debug)]
 pub struct Sheet {
     numbers: [u16; 58],
@@ -55,12 +56,17 @@ pub enum SheetError {
     /// A name that was given before.
     Twice(String),
     /// A number that a sheet can't hold under this name.
-    Range { name: &'static str, value: u32 },
+    Range {
+        /// The name.
+        name: &'static str,
+        /// The number given.
+        value: u32,
+    },
     /// A sheet.bin of so many bytes.
     Length(usize),
 }
 
-/// The place of a name in the sheet.
+/// The place of a name in the sheet, from 0 to 57, if it is one of `NAMES`.
 pub fn place(name: &str) -> Option<usize> {
     NAMES.iter().position(|known| *known == name)
 }
@@ -75,7 +81,12 @@ fn most(place: usize) -> u32 {
 }
 
 impl Sheet {
-    /// From names and numbers, in any order. A name that is not given is absent; an absent `var_raw_advances` counts as true.
+    /// From names and numbers, in any order. A name that is not given is absent; an absent
+    /// `var_raw_advances` counts as true.
+    ///
+    /// # Errors
+    ///
+    /// `Unknown`, `Twice` or `Range`, for the first pair that is wrong.
     pub fn from_pairs<N: AsRef<str>>(pairs: impl IntoIterator<Item = (N, u32)>) -> Result<Sheet, SheetError> {
         let mut numbers = [ABSENT; 58];
         let mut given = [false; 58];
@@ -91,8 +102,13 @@ impl Sheet {
         Ok(Sheet { numbers })
     }
 
-    /// From the maps and fields of the Rust's `VersionTable`, as `parse_with` takes them: a tag is that of `legacy` if it is a byte there, else
-    /// that of `tags`; the names from kNumberOfSpaces on are those of `legacy` alone. Other names of the maps are passed over.
+    /// From the maps and fields of the Rust's `VersionTable`, as `parse_with` takes them: a tag is
+    /// that of `legacy` if it is a byte there, else that of `tags`; the names from kNumberOfSpaces
+    /// on are those of `legacy` alone. Other names of the maps are passed over.
+    ///
+    /// # Errors
+    ///
+    /// `Range`, for the first name whose number is too large.
     pub fn from_maps(
         tags: &HashMap<String, u8>,
         legacy: &HashMap<String, u32>,
@@ -115,12 +131,16 @@ impl Sheet {
         Ok(Sheet { numbers })
     }
 
-    /// In the order of docs/SHEET.md.
+    /// From all numbers, in the order of docs/SHEET.md, 65535 for absent names.
     pub fn from_numbers(numbers: [u16; 58]) -> Sheet {
         Sheet { numbers }
     }
 
-    /// From the bytes of a sheet.bin.
+    /// From the bytes of a sheet.bin, two for each number, the lower one first.
+    ///
+    /// # Errors
+    ///
+    /// `Length`, if they are not 116.
     pub fn from_bytes(bytes: &[u8]) -> Result<Sheet, SheetError> {
         let mut numbers = [0; 58];
         if bytes.len() != 2 * numbers.len() {
@@ -136,7 +156,7 @@ impl Sheet {
         self.numbers.iter().flat_map(|number| number.to_le_bytes()).collect()
     }
 
-    /// In the order of docs/SHEET.md.
+    /// All numbers, in the order of docs/SHEET.md, 65535 for absent names.
     pub fn numbers(&self) -> &[u16; 58] {
         &self.numbers
     }

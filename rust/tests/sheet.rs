@@ -2,15 +2,10 @@
 
 mod common;
 
-use common::{sheet, A};
+use common::{pairs, repository, sheet, A};
 use dawichko::{place, Sheet, SheetError, ABSENT, NAMES};
 use std::collections::HashMap;
 use std::fs;
-use std::path::PathBuf;
-
-fn repository(file: &str) -> PathBuf {
-    PathBuf::from(env!("CARGO_MANIFEST_DIR")).join("..").join(file)
-}
 
 #[test]
 fn names_are_those_of_the_page() {
@@ -34,11 +29,7 @@ fn sheets_of_the_repository() {
             continue;
         }
         let text = fs::read_to_string(&file).expect("a text");
-        let lines = text.lines().filter(|line| !line.starts_with('#'));
-        let pairs: Vec<(&str, u32)> = lines
-            .map(|line| line.split_once(' ').expect("a name and a number"))
-            .map(|(name, number)| (name, number.parse().expect("a number")))
-            .collect();
+        let pairs = pairs(&text);
         let sheet = Sheet::from_pairs(pairs.clone()).expect("a sheet");
         for name in NAMES {
             let given = pairs.iter().find(|(known, _)| *known == name).map_or(ABSENT as u32, |pair| pair.1);

@@ -1,5 +1,6 @@
 #!/usr/bin/env python3
-"""Makes an antt module that compares the definition of the walk with the Rust on short payloads. See README.md.
+"""Makes an antt module that compares the definition of the walk with the Rust on short payloads.
+See README.md.
 
     python3 tools/refl/make.py --seed 1 --count 700 --oracle ORACLE Generated.antt
 """
@@ -51,7 +52,8 @@ def refusal(number, place, rooms):
 
 
 def accepted(rnd, lines):
-    """Rooms that are just large enough, and the tables that the Rust's answer stands for in them."""
+    """Rooms that are just large enough, and the tables that the Rust's answer stands for in
+    them."""
     counts, end = [int(word) for word in lines[0][1:5]], int(lines[0][5])
     rooms, tables = {}, []
     for letter, count in zip('osvd', counts):
@@ -62,7 +64,8 @@ def accepted(rnd, lines):
 
 
 def part(lines):
-    """Where the oracle does not know a value that the closing section drops: the numbers without the values, objects, addresses."""
+    """Where the oracle does not know a value that the closing section drops: the numbers without
+    the values, objects, addresses."""
     counts, end = [int(word) for word in lines[0][1:5]], int(lines[0][5])
     rows = {letter: [int(word) for line in lines[1:] if line[0] == letter for word in line[1:]] for letter in 'od'}
     tables = [rows[letter] + [0] * (LARGE[letter] - len(rows[letter])) for letter in 'od']
@@ -77,7 +80,8 @@ def answered(rnd, lines):
 
 
 def short_room(rnd, lines, marks):
-    """One table with room for fewer records than the payload has: 3 at the cursor where the first is missing."""
+    """One table with room for fewer records than the payload has: 3 at the cursor where the first
+    is missing."""
     counts = [str(len(marks[letter])) for letter in 'osvd']
     if lines[0][0] != 'graph' or any('?' in line for line in lines) or lines[0][1:5] != counts:
         return None
@@ -94,7 +98,8 @@ class Maker:
         self.cases, self.untold, self.seen = [], 0, set()
 
     def add(self, family, name, sheet, payload, reservations=(), trusted=(), marks=None, place=None):
-        """Asks the Rust and keeps the case. `place` stands where the oracle knows a refusal's number alone."""
+        """Asks the Rust and keeps the case. `place` stands where the oracle knows a refusal's number
+        alone."""
         key = (tuple(sheet), bytes(payload), tuple(reservations), bytes(trusted))
         if key in self.seen:
             return
@@ -133,7 +138,8 @@ class Maker:
         self.add('unusable', 'unusable', (numbers(sheet) + [1])[:length], [0, 4, 0x45, 0x0D])
 
     def fixed(self):
-        """Inputs that chance does not give: those noted, the payload's ends, depth (6) and 32 bits (16)."""
+        """Inputs that chance does not give: those noted, the payload's ends, depth (6) and 32 bits
+        (16)."""
         for name, count, payload in noted():
             self.plainly(name, payload, [0] * 5 + [1], count=count)
         for name in sorted(SHEETS):
@@ -146,7 +152,8 @@ class Maker:
         self.add('legacy', 'legacy8', numbers(SHEETS['legacy8']), [7, 255, 255, 255, 255, 0x45, 0x14], [TOP] * 3, place=6)
 
     def plainly(self, name, payload, trusted=(), place=None, count=6):
-        """A case under one of the sheets, in legacy with so many reservations that each end a space."""
+        """A case under one of the sheets, in legacy with so many reservations that each end a
+        space."""
         reservations = [TOP] * count if 'kSpaceMask' in SHEETS[name] else []
         self.add(family_of(name), name, numbers(SHEETS[name]), payload, reservations, trusted, place=place)
 
@@ -170,7 +177,8 @@ def ends_and_depths(sheet):
 
 
 def thirty_two_bits(sheet):
-    """Sizes and offsets about 2^32, each with the place of 16 if it is refused so: the oracle knows the number alone."""
+    """Sizes and offsets about 2^32, each with the place of 16 if it is refused so: the oracle knows
+    the number alone."""
     if 'kSpaceMask' not in sheet:
         return
     root, new, last, deferred = (sheet.get(name) for name in ('kRootArrayConstants', 'kNewObject', 'kSynchronize', 'kDeferred'))
@@ -194,7 +202,8 @@ def family_of(name):
 
 # ---- the module
 
-HEADER = """-- Made by tools/refl/make.py with seed {seed}: calls, and what the Rust gives for them (number, counts, `end`, place, the four tables).
+HEADER = """-- Made by tools/refl/make.py with seed {seed}: calls, and what the Rust gives for them (number,
+-- counts, `end`, place, the four tables).
 -- Assumes nothing.
 use Rattle.std.specs.Prelude.{{◌≡◌, refl, List, [], ◌∷◌, map, ℕ, replicate}}
 {uses}
@@ -248,7 +257,8 @@ UNUSED = ['Smi', 'Usable', 'Assigning', 'Cases', 'Generated']
 
 
 def unfolded(crates):
-    """The definitions that are unfolded only where it is asked for: the lines that take them in, and their names."""
+    """The definitions that are unfolded only where it is asked for: the lines that take them in,
+    and their names."""
     uses, names = [], []
     for crate in CRATES:
         folder = os.path.join(crates, crate, 'specs')

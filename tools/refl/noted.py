@@ -1,4 +1,5 @@
-"""Inputs named in docs/DIFFERENCES.md and ../shared/01-notes.md, and inputs for with-skip amounts and the hot ring, by sheet."""
+"""Inputs named in docs/DIFFERENCES.md, others at the corners of the format, and inputs for
+with-skip amounts and the hot ring, by sheet."""
 
 NOTED = {
     'a': """

@@ -1,11 +1,13 @@
-"""Short payloads under a sheet, written item by item after document 01, most of them such that they are accepted."""
+"""Short payloads under a sheet, written item by item after docs/FORMAT.md, most of them such that
+they are accepted."""
 
 ONE_INTEGER = 'kAttachedReference kBuiltin kExternalReference kPartialSnapshotCache kStartupObjectCache kReadOnlyObjectCache ' \
     'kSharedHeapObjectCache kAllocateJSDispatchEntry kJSDispatchEntry'.split()
 
 
 class Payload:
-    """Writes a payload. `out` holds its bytes and, between them, marks: 'o', 's', 'v', 'd' where a record is appended."""
+    """Writes a payload. `out` holds its bytes and, between them, marks: 'o', 's', 'v', 'd' where a
+    record is appended."""
 
     def __init__(self, rnd, sheet, spaces, budget):
         self.rnd, self.sheet, self.spaces, self.budget = rnd, sheet, spaces, budget
@@ -39,7 +41,8 @@ class Payload:
     def raw(self, count):
         self.out += [self.rnd.randrange(256) for _ in range(count)]
 
-    # ---- references. Each writer gives the item's width in bytes and what it makes: 'slot', 'copy' (6.x repeat) or None
+    # ---- references. Each writer gives the item's width in bytes and what it makes: 'slot', 'copy'
+    # (6.x repeat) or None
 
     def reference(self, depth, room=None):
         """A reference whose width is at most `room` bytes, where that is given."""
@@ -321,7 +324,8 @@ class Payload:
             done += width
 
     def item(self, depth, room):
-        """An item that fits into what is left; a part of a word is filled by raw bytes or skipped."""
+        """An item that fits into what is left; a part of a word is filled by raw bytes or
+        skipped."""
         if room % self.word == 0 or room < 0 or not self.legacy:
             return self.reference(depth + 1, room)
         if 'kSkip' in self.sheet and (self.chance(.5) or not self.sheet['var_raw_advances']):
@@ -372,7 +376,8 @@ class Payload:
             self.raw(1)
 
     def write(self):
-        """The payload, and where records are appended; None where the writer cannot be sure of that."""
+        """The payload, and where records are appended; None where the writer cannot be sure of
+        that."""
         span = self.sheet['kBackref'] - self.sheet['kNewObject']
         self.new_object(0, self.rnd.randrange(max(1, span)) if self.chance(.3) else 0)
         self.closing()
@@ -385,7 +390,8 @@ class Payload:
         return payload, None if self.map_first and any(self.joins_map(payload[at:at + 1]) for at in marks['d']) else marks
 
     def joins_map(self, after):
-        """An alignment or chunk change that an item begins with, directly after a map that comes first, is read as the object's own."""
+        """An alignment or chunk change that an item begins with, directly after a map that comes
+        first, is read as the object's own."""
         first = self.sheet.get('kAlignmentPrefix', 256)
         return bool(after) and (first <= after[0] < first + 3 or after[0] == self.sheet.get('kNextChunk'))
 

@@ -28,7 +28,7 @@ def numbers(made):
     return [made.get(name, ABSENT) for name in NAMES]
 
 
-# sheet A of document 01
+# sheet A (docs/FORMAT.md, "Examples")
 A = sheet("""kNewObject 00, kBackref 08, kReadOnlyHeapRef 09, kRootArray 0A, kAttachedReference 0B, kNop 0C, kSynchronize 0D,
 kRegisterPendingForwardRef 0E, kResolvePendingForwardRef 0F, kWeakPrefix 10, kClearedWeakReference 11, kVariableRawData 12,
 kVariableRepeat 13, kRootArrayConstants 40, kFixedRawData 60, kFixedRepeat 80, kHotObject 90""")
@@ -42,7 +42,7 @@ kJSDispatchEntry 17, kNewMetaMap 18, kNewContextlessMetaMap 19, kNewContextfulMe
 kPartialSnapshotCache 1C, kAlignmentPrefix 1D, kRootArrayConstants 40, kFixedRawData 60, kFixedRepeat 80, kHotObject 90,
 kFixedRepeatRoot A0"""
 
-# L8 of the notes, and the names that may come with it
+# L8, in the manner of V8 7.8, and the names that may come with it
 L8 = sheet("""kNewObject 00, kBackref 08, kRootArray 11, kAttachedReference 12, kNop 13, kSynchronize 14, kNextChunk 15,
 kDeferred 16, kAlignmentPrefix 17, kVariableRepeat 1A, kVariableRawData 1B, kClearedWeakReference 1C, kWeakPrefix 1D,
 kRootArrayConstants 40, kFixedRawData 60, kFixedRepeat 80, kHotObject 90, kSpaceMask 7""")
@@ -64,7 +64,8 @@ SHEETS = {
     'modern4Stays': sheet(MODERN, size=4, advances=0),
     'rootOnly8': sheet("", sheet(MODERN), ('kFixedRepeat', 'kVariableRepeat')),
     'rootOnly4': sheet("kFixedRepeatRoot 80", sheet(MODERN), ('kFixedRepeat',), size=4),
-    # the with-skip names, kSkip and kDeferred are obeyed in every family; kNextChunk and 6.x names are not
+    # the with-skip names, kSkip and kDeferred are obeyed in every family; kNextChunk and 6.x names
+    # are not
     'modernSkips8': sheet("""kSkip 20, kDeferred 21, kNextChunk 22, kHotObjectWithSkip A8, kRootArrayConstantsWithSkip B0,
         kRootArrayConstantsMask 0F, kBuiltin 23, kApiReference 24, kOffHeapTarget 25""", sheet(MODERN), ('kFixedRepeatRoot',)),
     'legacy8': L8,
@@ -119,9 +120,10 @@ kVariableRepeatRoot kNewMetaMap kNewContextlessMetaMap kNewContextfulMetaMap""".
 
 
 def on_one_byte():
-    """For each family and each name: a sheet that has this name and all later ones on byte 80, so that the first one tested is obeyed.
-    A name taken off that byte is absent, or elsewhere if the family needs it. The payload has byte 80 as its second item; the byte 40
-    after it is a cleared weak reference as a head, and 16 as an integer."""
+    """For each family and each name: a sheet that has this name and all later ones on byte 80, so
+    that the first one tested is obeyed. A name taken off that byte is absent, or elsewhere if the family
+    needs it. The payload has byte 80 as its second item; the byte 40 after it is a cleared weak
+    reference as a head, and 16 as an integer."""
     needed = sheet("""kNewObject 00, kBackref 08, kSynchronize 16, kNop 17, kRootArray 20, kAttachedReference 21, kHotObject C0,
         kRootArrayConstants D0, kRootArrayConstantsMask 0F, kFixedRawData 48, kClearedWeakReference 40""")
     families = {'modern': ("", ('kBackref', 'kBackrefWithSkip')), 'legacy': ("kSpaceMask 7", ('kBackrefWithSkip', 'kNewMetaMap')),

@@ -30,7 +30,8 @@ class Fault(Exception):
 
 
 def most(name):
-    """The largest number a name may have. 65535 marks absent names, but is a true var_raw_advances like any other number than 0."""
+    """The largest number a name may have. 65535 marks absent names, but is a true var_raw_advances
+    like any other number than 0."""
     return 65535 if name == 'var_raw_advances' else 65534
 
 
@@ -53,7 +54,8 @@ def parse(data, file):
             raise Fault(f'{where}: unknown name {ascii(name)}')
         if name in found:
             raise Fault(f'{where}: {name} is given a second time, the first is in line {places[name]}')
-        # the length is tested before the number is made, so that any number of digits gets this answer
+        # the length is tested before the number is made, so that any number of digits gets this
+        # answer
         digits = value.lstrip('0') or '0'
         if not re.fullmatch('[0-9]+', value) or len(digits) > 5 or int(digits) > most(name):
             raise Fault(f'{where}: {name} is {ascii(value)}, not a decimal number from 0 to {most(name)}')

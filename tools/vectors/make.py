@@ -1,6 +1,7 @@
 #!/usr/bin/env python3
 """Makes the frozen vectors of crates/vectors from the Rust's answers. See docs/VECTORS.md.
 
+    export JSCD_SRC=FOLDER
     cargo build --release --offline --locked --manifest-path tools/oracle/Cargo.toml
     python3 tools/vectors/make.py crates/vectors/data
     python3 tools/vectors/make.py --list
@@ -22,7 +23,7 @@ from payloads import Payload
 from sheets import A, SHEETS, numbers
 
 SEED = 1
-FAMILIES = ['document 01', 'modern', 'legacy', 'map-first', '6.x', 'shared bytes', 'unusable', 'rooms']
+FAMILIES = ['examples', 'modern', 'legacy', 'map-first', '6.x', 'shared bytes', 'unusable', 'rooms']
 FAMILY_OF = {'a': 'modern', 'modern': 'modern', 'rootOnly': 'modern', 'legacy': 'legacy', 'mapFirst': 'map-first', 'six': '6.x',
              'coinciding': 'shared bytes', 'order': 'shared bytes', 'unusable': 'unusable', 'rooms': 'rooms'}
 # how many of the accepted cases of a family are kept, and of those refused with the same number
@@ -30,15 +31,16 @@ ACCEPTED, REFUSED = 24, 4
 # the program's arrays
 MOST_BYTES, MOST_RESERVATIONS, MOST_TRUSTED, MOST_NUMBERS = 512, 16, 64, 2048
 
-# examples a to l and two of the run-only ones: the payload, and what document 01 says of it (None: accepted)
-DOCUMENT = [
+# examples a to l, and two like a: the payload, and the refusal's number and place as docs/FORMAT.md
+# says them ("Examples"; None: accepted)
+EXAMPLES = [
     ('a', '00 08 45 46 0D', None), ('b', '', (4, 0)), ('c', '00 04 45 0D', None), ('d', '00 00 45 0D', (12, 0)),
     ('e', '00 10 45 81 46 0D', None), ('f', '00 0C 45 81 46 0D', (12, 0)), ('g', '00 0C 45 08 00 90 0D', None),
     ('h', '00 08 45 90 0D', (9, 4)), ('i', '00 08 45 08 04 0D', (8, 5)), ('j', '00 0C 45 0E 00 04 46 0F 00 0D', None),
     ('k', '00 08 45 46 0D 0D', (14, 5)), ('l', '00 08 45 12 00 AA 46 0D', (12, 0)), ('a cut', '00 08 45 46', (13, 4)),
     ('a, longer size', '00 09 00 45 46 0D', None),
 ]
-# what document 01 says of the accepted ones, in the form of graphlist
+# lines that docs/FORMAT.md says of the accepted ones, in the form of graphlist
 SAID = {
     'a': ['graph 1 2 0 0 5', 'o 16 0 0 2', 's 0 0 2 5 0 0', 's 0 1 2 6 0 0'],
     'e': ['s 0 1 7 3 0 0'],
@@ -47,20 +49,21 @@ SAID = {
 }
 
 
-def document(oracle):
-    for name, text, refusal in DOCUMENT:
+def examples(oracle):
+    for name, text, refusal in EXAMPLES:
         payload = list(bytes.fromhex(text))
         lines = refl.ask(oracle, numbers(A), payload, [], [])
         shown = [' '.join(line) for line in lines]
         wanted = [f'refused {refusal[0]} {refusal[1]}'] if refusal else SAID.get(name, [])
         if not set(wanted) <= set(shown) or (lines[0][0] == 'graph') != (refusal is None):
-            sys.exit(f'example {name}: the Rust gives {shown}, document 01 says {wanted}')
-        yield refl.Case('document 01', f'example {name}', numbers(A), payload, [], [], *refl.answered(random.Random(SEED), lines))
+            sys.exit(f'example {name}: the Rust gives {shown}, and not {wanted}')
+        answer = refl.answered(random.Random(SEED), lines)
+        yield refl.Case('examples', f'example {name}', numbers(A), payload, [], [], *answer)
 
 
 def compared(oracle):
-    """Of the cases that tools/refl makes with this seed, without those of which the oracle can't tell all: the fixed ones, and some of the
-    others."""
+    """Of the cases that tools/refl makes with this seed, without those of which the oracle can't
+    tell all: the fixed ones, and some of the others."""
     maker = refl.Maker(SEED, oracle)
     maker.fixed()
     fixed = [case for case in maker.cases if case.family != 'order']
@@ -82,7 +85,8 @@ def compared(oracle):
 
 
 def rooms(oracle):
-    """Payloads with rooms that are just enough, and with one number less in each table that is used: 3 where its last record is missing."""
+    """Payloads with rooms that are just enough, and with one number less in each table that is
+    used: 3 where its last record is missing."""
     rnd = random.Random(SEED)
     for name in ('a', 'modern4', 'legacy8', 'legacy4', 'mapFirst8', 'mapFirst4', 'six8', 'six4'):
         sheet = SHEETS[name]
@@ -119,8 +123,8 @@ def listed(items):
 
 
 def encoded(case, sheet):
-    """Family, sheet and its length, payload, reservations, trusted list, rooms; then the answer and, of each table, the numbers up to the
-    last record."""
+    """Family, sheet and its length, payload, reservations, trusted list, rooms; then the answer
+    and, of each table, the numbers up to the last record."""
     parts = [number(FAMILIES.index(FAMILY_OF.get(case.family, case.family))), number(sheet), number(len(case.sheet)),
              listed(case.payload), listed(case.reservations), listed(case.trusted)]
     parts += [number(case.rooms[letter]) for letter in 'osvd']
@@ -136,7 +140,8 @@ def fits(case):
 
 
 def files(cases):
-    """sheets.bin: 59 numbers of two bytes for each sheet, absent ones where it is shorter. cases.bin: how many cases there are, then they."""
+    """sheets.bin: 59 numbers of two bytes for each sheet, absent ones where it is shorter.
+    cases.bin: how many cases there are, then they."""
     sheets, out = {}, [number(len(cases))]
     for case in cases:
         key = tuple(case.sheet)
@@ -152,7 +157,7 @@ def main():
     options.add_argument('--oracle', default='tools/oracle/target/release/oracle')
     options.add_argument('folder', nargs='?')
     given = options.parse_args()
-    cases = [*document(given.oracle), *compared(given.oracle), *rooms(given.oracle)]
+    cases = [*examples(given.oracle), *compared(given.oracle), *rooms(given.oracle)]
     if not all(fits(case) for case in cases):
         sys.exit('a case is larger than the arrays of the program')
     if given.list:

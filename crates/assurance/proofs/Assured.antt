@@ -1,4 +1,5 @@
--- What is assured of a payload that is accepted under a plain sheet (demand 3). The words are those of Words.antt. Assumes nothing.
+-- What is assured of a payload that is accepted under a plain sheet. The words are those of
+-- Words.antt. Assumes nothing.
 use Rattle.std.specs.Prelude.{◌≡◌}
 use Rattle.std.proofs.Common.{ap, arith}
 use Rattle.tables.specs.declared.values.Fields.{Fields}

@@ -1,4 +1,5 @@
--- The kSynchronize that ends the closing section is the first such byte at a place where an entry of it begins. Assumes nothing.
+-- The kSynchronize that ends the closing section is the first such byte at a place where an entry
+-- of it begins. Assumes nothing.
 use Rattle.std.specs.Prelude.{◌≡◌, ◌≢◌, ◌⊎◌, refl, List, ◌∷◌, ℕ, ◌+◌, ◌<◌, ◌≤◌, get_or}
 use Rattle.std.proofs.Common.{sym, subst, inl, inr, ⊎_elim, arith}
 use mathlib.Core.List.Memᴰ
@@ -15,7 +16,8 @@ use Rattle.assurance.specs.Induct.{plainly, graph_end}
 use Rattle.assurance.specs.On.{On, on_note, on_map}
 use Rattle.assurance.specs.Words.{Accepted, Told, EndsAt}
 
--- what holds of the entries that have begun while the payload is read: they begin at the cursor or before it, and none is kSynchronize
+-- what holds of the entries that have begun while the payload is read: they begin at the cursor or
+-- before it, and none is kSynchronize
 abbrev Begun : Input → ℕ → List Event → Type 0
 Begun x at es =
     (q : ℕ) → Told es (begins q) → (q ≤ at) × (get_or x.payload q 0 ≢ number x.sheet k_synchronize)

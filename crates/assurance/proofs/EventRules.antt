@@ -1,4 +1,5 @@
--- The rules for a property of the tables and of the recorded events: only the steps that change those are left. Assumes nothing.
+-- The rules for a property of the tables and of the recorded events: only the steps that change
+-- those are left. Assumes nothing.
 use Rattle.std.specs.Prelude.{if◌then◌else◌, ◌≡◌, refl, Bool, true, false, ℕ, zero, suc, ◌+◌, ◌*◌, ◌/◌, ◌<◌, ◌≤◌}
 use Rattle.std.proofs.Common.{subst, arith}
 use mathlib.Core.List.{List, [], ◌∷◌}

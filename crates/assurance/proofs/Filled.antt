@@ -1,4 +1,5 @@
--- The items of each object that was opened lie end to end from byte 0 and fill its declared bytes. Assumes nothing.
+-- The items of each object that was opened lie end to end from byte 0 and fill its declared bytes.
+-- Assumes nothing.
 use Rattle.std.specs.Prelude.{if◌then◌else◌, ◌≡◌, refl, ◌⊎◌, ◌≢◌, Bool, true, false, List, [], ◌∷◌, ℕ, ◌+◌, ◌*◌, ◌/◌, ◌<◌, ◌≤◌, eqb}
 use Rattle.std.proofs.Common.{sym, subst, ◌∙◌, ap, ⊎_elim, inl, inr, zero-add, div-lt_iff_lt-mul, arith, eq-eqb, ne_eqb, eqb-true}
 use Rattle.std.proofs.lemmas.Bool.{eqb-false}
@@ -12,7 +13,8 @@ use Rattle.assurance.specs.On.{All, all_map, all_told}
 use Rattle.assurance.proofs.EventRules.{EventRules, tables_have}
 use Rattle.assurance.specs.Words.{Accepted, Told, openings, words_of, filled_of, items_of, EndToEnd}
 
--- the objects that are being read are below a bound, the outer below the inner; each has its size, and so many bytes of it were read
+-- the objects that are being read are below a bound, the outer below the inner; each has its size,
+-- and so many bytes of it were read
 unfoldable pub Stacked : ℕ → List Frame → ℕ → List Event → Type 0
 Stacked ts [] bound es = Unit {0}
 Stacked ts (frame o size done ∷ S) bound es = (o < bound) × (words_of es o * ts ≡ size) × (filled_of es o ≡ done) × (Stacked ts S o es)
@@ -22,7 +24,8 @@ unfoldable pub Free : List Frame → ℕ → Type 0
 Free [] o = Unit {0}
 Free (frame x size done ∷ S) o = (o ≢ x) × (Free S o)
 
--- an item ends within what its object's items have together; it starts below the declared bytes, or has a byte at least
+-- an item ends within what its object's items have together; it starts below the declared bytes, or
+-- has a byte at least
 pub record Inside (word : ℕ) (objects : ℕ) (words filled : ℕ → ℕ) (o s w : ℕ) : Type 0 where
   pub listed : o < objects
   pub within : s + w ≤ filled o

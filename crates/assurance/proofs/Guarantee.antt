@@ -1,5 +1,5 @@
--- Demand 3 whole: what is assured of an accepted payload, what holds of every second payload, and that none of it is read off the tables.
--- Assumes nothing.
+-- The guarantees whole: what is assured of an accepted payload, what holds of every second payload,
+-- and that none of it is read off the tables. Assumes nothing.
 use Rattle.std.specs.Prelude.{◌≡◌, ℕ, length, replicate}
 use Rattle.definition.specs.Memory.{Table, Mem, no}
 use Rattle.definition.specs.Call.{Rooms, Call, graph, table_of}

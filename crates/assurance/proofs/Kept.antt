@@ -1,4 +1,5 @@
--- Every slot and value record keeps one value that was read, and no value is kept in a record that is not listed. Assumes nothing.
+-- Every slot and value record keeps one value that was read, and no value is kept in a record that
+-- is not listed. Assumes nothing.
 use Rattle.std.specs.Prelude.{if◌then◌else◌, ◌≡◌, refl, Bool, true, false, List, [], ◌∷◌, ℕ, ◌+◌, ◌<◌, ◌≤◌, eqb}
 use Rattle.std.proofs.Common.{ap, inl, inr, ⊎_elim, arith, eq-eqb, ne_eqb, eqb-true}
 use mathlib.Core.List.Memᴰ

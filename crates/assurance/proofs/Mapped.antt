@@ -1,5 +1,5 @@
--- Each object that was read has exactly one map item: it begins at byte 0, has one word, and is kept in the slot record that keeps its map. So
--- each has a byte at least. Assumes nothing.
+-- Each object that was read has exactly one map item: it begins at byte 0, has one word, and is
+-- kept in the slot record that keeps its map. So each has a byte at least. Assumes nothing.
 use Rattle.std.specs.Prelude.{if◌then◌else◌, ◌≡◌, refl, ◌⊎◌, ◌≢◌, Bool, true, false, List, ◌∷◌, ℕ, ◌+◌, ◌<◌, ◌≤◌, eqb}
 use Rattle.std.proofs.Common.{sym, ap, subst, ⊎_elim, inl, inr, arith, eqb-true}
 use Rattle.std.proofs.lemmas.Bool.{eqb-false}
@@ -14,8 +14,8 @@ use Rattle.assurance.proofs.EventRules.{EventRules, tables_have}
 use Rattle.assurance.proofs.Filled.{Stacked, Free, Fits, Filling, pick_up, rules as filling-rules}
 use Rattle.assurance.specs.Words.{Accepted, Told, openings, filled_of, EndToEnd, MapItem}
 
--- while the payload is read: items and maps are kept in slot records that are listed, an item ends above byte 0, and an object of which bytes
--- were read has its map item
+-- while the payload is read: items and maps are kept in slot records that are listed, an item ends
+-- above byte 0, and an object of which bytes were read has its map item
 record Maps (ts slots : ℕ) (es : List Event) : Type 0 where
   items_low : (o s w k : ℕ) → Told es (item o s w k) → (k < slots) × (1 ≤ s + w)
   maps_low : (v : Fields) (k : ℕ) → Told es (value v (in_map k)) → k < slots

@@ -1,5 +1,5 @@
--- Each slot record is that of one item, with its object and its index, and each object's slot count is the number of its slot records.
--- Assumes nothing.
+-- Each slot record is that of one item, with its object and its index, and each object's slot count
+-- is the number of its slot records. Assumes nothing.
 use Rattle.std.specs.Prelude.{if◌then◌else◌, ◌≡◌, refl, Bool, true, false, List, ◌∷◌, ℕ, zero, suc, ◌+◌, ◌*◌, ◌/◌, ◌<◌, ◌≤◌, eqb, set}
 use Rattle.std.proofs.Common.{sym, ◌∙◌, ap, add-one, arith, eq-eqb, ne_eqb, eqb-true}
 use Rattle.std.proofs.Math.Nat.{zero-div}

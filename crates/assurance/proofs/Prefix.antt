@@ -1,5 +1,6 @@
--- A second payload that begins as an accepted one does, through the kSynchronize that ends its closing section, is accepted exactly when only
--- kNop follows, and then has the same graph and the same events. For every plain sheet. Assumes nothing.
+-- A second payload that begins as an accepted one does, through the kSynchronize that ends its
+-- closing section, is accepted exactly when only kNop follows, and then has the same graph and the
+-- same events. For every plain sheet. Assumes nothing.
 use Rattle.std.specs.Prelude.{◌≡◌, false, List, ℕ, ◌+◌, ◌≤◌, length, take}
 use Rattle.sheet.specs.Sheet.{is_legacy}
 use Rattle.definition.specs.Memory.{Mem}

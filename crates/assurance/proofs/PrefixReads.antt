@@ -1,5 +1,6 @@
--- A second payload that begins as an accepted one does, through the kSynchronize that ends its closing section: both readings come to the same
--- state there. For every sheet that is not legacy. Assumes nothing.
+-- A second payload that begins as an accepted one does, through the kSynchronize that ends its
+-- closing section: both readings come to the same state there. For every sheet that is not legacy.
+-- Assumes nothing.
 use Rattle.std.specs.Prelude.{if◌then◌else◌, ◌≡◌, refl, Bool, true, false, ◌||◌, List, [], ◌∷◌, ℕ, ◌+◌, ◌-◌, ◌<◌, ◌≤◌, ltb, length, get_or, take}
 use Rattle.std.proofs.Common.{sym, ◌∙◌, subst, arith, le-ltb, length-take, get_or-take, length-take-le}
 use Rattle.std.proofs.Math.Path.{ap}
@@ -73,7 +74,8 @@ module _ (c : Call) (rooms : Rooms) (modern : is_legacy c.sheet ≡ false) (m : 
       let k = (known c.payload (length c.payload) whole).ended_there in
       omega (arith, only_end c.payload (length c.payload) whole q t, k.behind, k.within)
 
-  -- q is the place of the kSynchronize that ends the closing section, p' begins with the payload through it
+  -- q is the place of the kSynchronize that ends the closing section, p' begins with the payload
+  -- through it
   module _ (q : ℕ) (at : EndsAt q (events c rooms)) (p' : List ℕ) (short : length p' ≤ 16777216) (same : take (q + 1) p' ≡ take (q + 1) c.payload) where
     agree : BeginsAs c.payload p' (q + 1)
     agree = begins c.payload p' (q + 1) (omega (arith, end_inside q at)) same

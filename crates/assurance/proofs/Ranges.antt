@@ -1,4 +1,5 @@
--- The raw ranges, in the order read, lie one after the other, and before the kSynchronize that ends the closing section. Assumes nothing.
+-- The raw ranges, in the order read, lie one after the other, and before the kSynchronize that ends
+-- the closing section. Assumes nothing.
 use Rattle.std.specs.Prelude.{◌≡◌, refl, List, [], ◌∷◌, ℕ, ◌<◌, ◌≤◌, length, get_or}
 use Rattle.std.proofs.Common.{arith}
 use Rattle.stream.proofs.ByteLaws.{Bytes}
@@ -56,7 +57,8 @@ rules x =
       on_begins = (λ m n h. on_note _ _ (begins m.at) m.log (λ es i. i) h);
     }
 
--- kSynchronize ends the closing section at `final`, where the byte is one, and what is read then is padding; the raw ranges lie before it
+-- kSynchronize ends the closing section at `final`, where the byte is one, and what is read then is
+-- padding; the raw ranges lie before it
 pub record Ranges (c : Call) (m : Mem) : Type 0 where
   pub final : ℕ
   pub told_last : EndsAt final (told_of m.log)

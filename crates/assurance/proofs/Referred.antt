@@ -1,4 +1,5 @@
--- Every object that the payload refers to is listed, and each value stands where it is kept. Assumes nothing.
+-- Every object that the payload refers to is listed, and each value stands where it is kept.
+-- Assumes nothing.
 use Rattle.std.specs.Prelude.{◌≡◌, refl, ◌≢◌, Bool, true, false, List, ◌∷◌, ℕ, ◌+◌, ◌-◌, ◌/◌, ◌<◌, ◌≤◌}
 use Rattle.std.proofs.Common.{arith}
 use Rattle.tables.specs.declared.values.Ref.{Ref}

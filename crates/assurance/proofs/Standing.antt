@@ -1,5 +1,6 @@
--- Each value that was read stands where it is kept, and refers to an object or a value that is listed; a pending slot stands as it was left or
--- filled. What each change of the tables leaves of that. Assumes nothing.
+-- Each value that was read stands where it is kept, and refers to an object or a value that is
+-- listed; a pending slot stands as it was left or filled. What each change of the tables leaves of
+-- that. Assumes nothing.
 use Rattle.std.specs.Prelude.{◌≡◌, ◌≢◌, List, [], ◌∷◌, ℕ, ◌+◌, ◌<◌, ◌≤◌, get_or}
 use Rattle.std.proofs.Math.Path.{sym, subst}
 use Rattle.std.proofs.Common.{◌∙◌, ap, arith}
@@ -15,7 +16,8 @@ use Rattle.assurance.proofs.Waiting.{WaitsAt, Waits, filled_other, unknown}
 use Rattle.assurance.specs.Words.{LeftPending, FilledBy}
 use Rattle.assurance.specs.Records.{SlotHas, ValueHas}
 
--- a value's object is below the count of objects, and its value record below the count of values; a pending value is its number alone
+-- a value's object is below the count of objects, and its value record below the count of values; a
+-- pending value is its number alone
 pub record Refers (objects values : ℕ) (v : Fields) : Type 0 where
   pub object : v.kind ≡ 1 → v.a < objects
   pub repeat : v.kind ≡ 7 → v.b < values

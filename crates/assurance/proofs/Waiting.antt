@@ -1,4 +1,5 @@
--- At most one slot waits under a number, and the next number is above all that wait. Assumes nothing.
+-- At most one slot waits under a number, and the next number is above all that wait. Assumes
+-- nothing.
 use Rattle.std.specs.Prelude.{if◌then◌else◌, ◌≡◌, refl, ◌≢◌, Bool, true, false, List, eqb}
 use Rattle.std.proofs.Common.{sym, ◌∙◌, eq-or-lt_of_le, add-one, eq-eqb, eqb-true}
 use Rattle.std.proofs.Math.Path.{subst}

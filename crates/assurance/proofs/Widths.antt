@@ -1,4 +1,5 @@
--- Each item is an object's map, one word from byte 0, or has the width of its value. Assumes nothing.
+-- Each item is an object's map, one word from byte 0, or has the width of its value. Assumes
+-- nothing.
 use Rattle.std.specs.Prelude.{refl, List, ◌∷◌, ℕ}
 use Rattle.std.proofs.Common.{inl, inr, ⊎_elim}
 use mathlib.Core.List.Memᴰ

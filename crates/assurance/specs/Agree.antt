@@ -1,5 +1,6 @@
--- Two payloads that agree below a place, and the two readings of them up to it: a walk that is accepted came to the kSynchronize that ends its
--- closing section, and so does the other, if that stands below the place. For every sheet that is not legacy. Assumes nothing.
+-- Two payloads that agree below a place, and the two readings of them up to it: a walk that is
+-- accepted came to the kSynchronize that ends its closing section, and so does the other, if that
+-- stands below the place. For every sheet that is not legacy. Assumes nothing.
 use Rattle.std.specs.Prelude.{if◌then◌else◌, ◌≡◌, refl, Bool, true, false, List, [], ◌∷◌, ℕ, zero, suc, ◌+◌, ◌-◌, ◌/◌, ◌%◌, ◌<◌, ◌≤◌, ltb, leb, get_or, Option, Some, None}
 use Rattle.std.proofs.Math.Path.{sym, ap}
 use Rattle.std.proofs.Common.{◌∙◌, append-nil}
@@ -62,14 +63,16 @@ module _ {p p' : List ℕ} {L : ℕ} (ag : BeginsAs p p' L) where
 
 -- ---- the two readings
 
--- behind the kSynchronize that ends the closing section: it was told last, and stands right before the cursor
+-- behind the kSynchronize that ends the closing section: it was told last, and stands right before
+-- the cursor
 pub record Ended (x : Input) (m : Mem) : Type 0 where
   pub before : List Event
   pub told_last : m.log ≡ told (synchronize (m.at - 1) ∷ before)
   pub behind : 0 < m.at
   pub within : m.at ≤ length x.payload
 
--- an accepted walk came to the end of its closing section; the second comes there too, if that is below L
+-- an accepted walk came to the end of its closing section; the second comes there too, if that is
+-- below L
 pub record Reaches (x : Input) (p' : List ℕ) (L : ℕ) (m₀ m : Mem) : Type 0 where
   pub end : Mem
   pub ended_there : Ended x end

@@ -1,4 +1,5 @@
--- What holds of what a reader gives, where it does not refuse; and the two leaves that move the cursor. Assumes nothing.
+-- What holds of what a reader gives, where it does not refuse; and the two leaves that move the
+-- cursor. Assumes nothing.
 use Rattle.std.specs.Prelude.{if◌then◌else◌, ◌≡◌, refl, Bool, true, false, ℕ, ◌+◌, ◌<◌, ◌≤◌, ltb, length, get_or, Option, Some, None}
 use Rattle.std.proofs.Common.{arith, ltb-true}
 use Rattle.stream.specs.declared.putint.Int.{Int}

@@ -1,4 +1,5 @@
--- The induction for every clause: what the rules keep from the start on holds at the end of an accepted reading. Assumes nothing.
+-- The induction for every clause: what the rules keep from the start on holds at the end of an
+-- accepted reading. Assumes nothing.
 use Rattle.std.proofs.Math.Path.{refl}
 use Rattle.std.proofs.Common.{sym, subst, arith}
 use Rattle.std.specs.Prelude.{List, []}

@@ -1,4 +1,5 @@
--- What follows the closing section: it is accepted exactly when it is only kNop, on a sheet that is not legacy. Assumes nothing.
+-- What follows the closing section: it is accepted exactly when it is only kNop, on a sheet that is
+-- not legacy. Assumes nothing.
 use Rattle.std.proofs.Math.Path.{◌≡◌, refl, sym}
 use Rattle.std.proofs.Common.{ap, ◌∙◌, subst, ⊎_elim, eq-or-lt_of_le, arith}
 use Rattle.std.specs.Prelude.{if◌then◌else◌, Bool, List, length}

@@ -1,4 +1,5 @@
--- A plain sheet gives no head byte a kind that only legacy, 6.x or with-skip sheets have. Assumes nothing.
+-- A plain sheet gives no head byte a kind that only legacy, 6.x or with-skip sheets have. Assumes
+-- nothing.
 use Rattle.std.specs.Prelude.{◌≡◌, refl, Bool, true, false, not, ◌&&◌, ◌||◌, ℕ, ◌+◌, ◌-◌, ◌<◌, ◌≤◌, eqb, leb}
 use Rattle.std.proofs.Common.{⊎_elim, arith, eqb-true, leb-true, ltb-true, le-leb, lt-ltb}
 use mathlib.Core.List.{List}

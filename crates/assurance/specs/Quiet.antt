@@ -1,4 +1,5 @@
--- What a call gives does not depend on whether its events are recorded, for every call and every sheet. Assumes nothing.
+-- What a call gives does not depend on whether its events are recorded, for every call and every
+-- sheet. Assumes nothing.
 use Rattle.std.specs.Prelude.{◌≡◌, refl, [], ℕ}
 use Rattle.std.proofs.Math.Path.{ap}
 use Rattle.std.proofs.Common.{◌∙◌, append-nil}

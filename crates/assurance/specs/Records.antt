@@ -1,4 +1,5 @@
--- What a record of a table holds, in the words of the guarantee. Assumes nothing: these are definitions.
+-- What a record of a table holds, in the words of the guarantee. Assumes nothing: these are
+-- definitions.
 use Rattle.std.specs.Prelude.{if◌then◌else◌, ◌≡◌, ℕ, zero, suc, ◌+◌, ◌*◌, ◌<◌, ◌≤◌, List, eqb, get_or}
 use Rattle.tables.specs.declared.values.Fields.{Fields}
 use Rattle.tables.specs.Records.{field}

@@ -1,4 +1,4 @@
--- A call that is refused gets one of document 01's numbers, 1 to 16. Assumes nothing.
+-- A call that is refused gets a number from 1 to 16 (docs/FORMAT.md, "Refusals"). Assumes nothing.
 use Rattle.std.specs.Prelude.{if◌then◌else◌, ◌≡◌, refl, Bool, true, false, not, ◌&&◌, ◌||◌, ltb, leb, List, length, get_or, set, Option, Some, None}
 use Prim.Native.Nat.{ℕ, zero, suc, ◌+◌, ◌-◌, ◌*◌, ◌/◌, ◌<◌, ◌≤◌}
 use native.Mathlib.Omega.{arith}

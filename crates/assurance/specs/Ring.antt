@@ -1,4 +1,5 @@
--- Each object that a place of the hot ring stands for is below the object count; no place stands for an attached one. Assumes nothing.
+-- Each object that a place of the hot ring stands for is below the object count; no place stands
+-- for an attached one. Assumes nothing.
 use Rattle.std.specs.Prelude.{◌≡◌, List, [], ◌∷◌, ℕ, zero, suc, ◌<◌, ◌≤◌, ◌%◌, get_or, set, replicate, Option, Some, None}
 use Rattle.std.proofs.Math.Path.{refl}
 use Rattle.std.proofs.Common.{arith, sym, ◌∙◌}

@@ -1,4 +1,5 @@
--- Larger tables get the same records, and the events of an accepted payload do not depend on the tables' lengths; for every call and every sheet. Assumes nothing.
+-- Larger tables get the same records, and the events of an accepted payload do not depend on the
+-- tables' lengths; for every call and every sheet. Assumes nothing.
 use Rattle.std.specs.Prelude.{◌≡◌, refl, Bool, true, false, ◌&&◌, List, [], ℕ, ◌-◌, ◌≤◌, max, get_or}
 use Rattle.std.proofs.Common.{sym, ◌∙◌}
 use Rattle.std.proofs.Math.Path.{ap, subst}
@@ -53,7 +54,8 @@ module _ (c : Call) (rooms rooms' : Rooms) (l : Larger rooms rooms') where
       subst (λ (m : Mem). Same (calls c rooms larger) (called c (start rooms (told []))) (called c m)) (start-other rooms (excess rooms rooms') (λ l. l) (told []) ∙ ap (λ r. start r (told [])) (more-excess rooms rooms' l))
       (called_start c rooms larger tt (told []))
 
-  -- THE THEOREM: an accepted payload is accepted with larger tables, and they hold the same, then zeros
+  -- THE THEOREM: an accepted payload is accepted with larger tables, and they hold the same, then
+  -- zeros
   pub larger_accepted : (m : Mem) → graph c rooms ≡ got tt m → graph c rooms' ≡ got tt (roomier rooms rooms' m)
   larger_accepted m e = subst (λ (o : Out (Unit {0})). Same (calls c rooms larger) o (graph c rooms')) e graph_same
 

@@ -1,7 +1,9 @@
--- Two readings compared: the second has another payload, longer tables or another log, or other numbers in its slots and addresses above their
--- counts. The rules (`Pair`) say how far the payloads are the same, what the second reading's tables are, which refusals are compared, and how
--- the bounds of the loops go together; from them every reader gives the same in both, reader by reader (SimulateSteps, SimulateLegacy,
--- SimulateReaders, SimulateClosing). Quiet, Rooms, Prefix and Unused are four cases of it. Assumes nothing.
+-- Two readings compared: the second has another payload, longer tables or another log, or other
+-- numbers in its slots and addresses above their counts. The rules (`Pair`) say how far the
+-- payloads are the same, what the second reading's tables are, which refusals are compared, and how
+-- the bounds of the loops go together; from them every reader gives the same in both, reader by
+-- reader (SimulateSteps, SimulateLegacy, SimulateReaders, SimulateClosing). Quiet, Rooms, Prefix
+-- and Unused are four cases of it. Assumes nothing.
 use Rattle.std.specs.Prelude.{if◌then◌else◌, ◌≡◌, refl, Bool, List, ℕ, suc, ◌+◌, ◌-◌, ◌*◌, ◌<◌, ◌≤◌, get_or, Option, Some, None}
 use Rattle.std.proofs.Common.{ap, ◌∙◌, arith}
 use Rattle.std.proofs.Math.Bool.{true, false}
@@ -28,7 +30,8 @@ over x p' = record { sheet = x.sheet; payload = p'; spaces = x.spaces; trusted =
 abbrev pub wider : ℕ → Table → Table
 wider k t = table (wide k t.rows) t.count
 
--- what the second reading's tables are: so many zeros after the objects and the values, which are read and written whatever their counts are
+-- what the second reading's tables are: so many zeros after the objects and the values, which are
+-- read and written whatever their counts are
 pub record TableMaps : Type 0 where
   pub objects : ℕ
   pub slots : TableMap 6
@@ -62,11 +65,13 @@ same_lengths = record { objects = widened_none; slots = widened_none; values = w
 pub previous_wide : (k : ℕ) (t : Table) → previous (wider k t) ≡ previous t
 previous_wide k t = rw (wide_get k t.rows ((t.count - 1) * 6 + 2), wide_get k t.rows ((t.count - 1) * 6 + 3), wide_get k t.rows ((t.count - 1) * 6 + 4))
 
--- two readings. x and lo: the first one's input and the length of its object table. p', maps and h: the second one's payload, and its tables
--- and log where the first has some. Shared: the cursors up to which both payloads are the same. Compared: the refusals that
--- both readings give. Fuel s a n n': at cursor a, with n turns of a loop left in the first reading and n' in the second, and s to spare, the
--- loop is not cut short in either. In, Logged and Filed: what holds of the first reading's cursor, log and slots throughout. Stop: what holds
--- of it behind the kSynchronize that ends the closing section
+-- two readings. x and lo: the first one's input and the length of its object table. p', maps and h:
+-- the second one's payload, and its tables and log where the first has some. Shared: the cursors up
+-- to which both payloads are the same. Compared: the refusals that both readings give. Fuel s a n
+-- n': at cursor a, with n turns of a loop left in the first reading and n' in the second, and s to
+-- spare, the loop is not cut short in either. In, Logged and Filed: what holds of the first
+-- reading's cursor, log and slots throughout. Stop: what holds of it behind the kSynchronize that
+-- ends the closing section
 pub record Pair : Type 1 where
   pub x : Input
   pub lo : ℕ
@@ -135,8 +140,8 @@ module _ {S : Pair} {a : ℕ} {objects slots addresses : Table} {log : Log} wher
   pub fit_noted : (e : Event) → Fit S a objects slots addresses log → Fit S a objects slots addresses (note e log)
   fit_noted e f = record { inside = f.inside; logged = S.on_logged e log f.logged; filed = f.filed; objects_length = f.objects_length; slots_within = f.slots_within; recorded = f.recorded }
 
--- the first reading went from m to m₂ and gave a, of which P holds, and moved d bytes at least; the second gives the same, if the
--- cursor is then shared
+-- the first reading went from m to m₂ and gave a, of which P holds, and moved d bytes at least; the
+-- second gives the same, if the cursor is then shared
 pub record Went (S : Pair) {A : Type 0} (d : ℕ) (P : A → Type 0) (m : Mem) (a : A) (m₂ : Mem) (o : Out A) : Type 0 where
   pub fit : Fits S m₂
   pub value : P a

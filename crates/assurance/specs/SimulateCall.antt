@@ -13,8 +13,8 @@ use Rattle.assurance.specs.TableMap.{mapped}
 use Rattle.assurance.specs.Simulate.{TableMaps, SameLengths, longer, other, Pair, φ, Fits}
 use Rattle.assurance.specs.SimulateClosing.{Same, walk-law}
 
--- what differs where the payloads are the same: the second reading's tables, its log, and which refusals are compared; and what holds of the
--- first one's slots
+-- what differs where the payloads are the same: the second reading's tables, its log, and which
+-- refusals are compared; and what holds of the first one's slots
 pub record Variant (x : Input) : Type 1 where
   pub maps : TableMaps
   pub h : Log → Log

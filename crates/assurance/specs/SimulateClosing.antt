@@ -26,8 +26,9 @@ use Rattle.assurance.specs.SimulateSteps.{add_slot_law}
 use Rattle.assurance.specs.SimulateLegacy.{legacy_reference_law}
 use Rattle.assurance.specs.SimulateReaders.{legacy-ends, object_law, ref_at_law}
 
--- the first reading came to the end of the closing section, the cursor behind its kSynchronize: if that kSynchronize stands at a shared cursor,
--- so did the reading begin, and the second comes there too
+-- the first reading came to the end of the closing section, the cursor behind its kSynchronize: if
+-- that kSynchronize stands at a shared cursor, so did the reading begin, and the second comes there
+-- too
 abbrev pub EndSeen : Pair → Mem → Out (Unit {0}) → Out (Unit {0}) → Type 0
 EndSeen S m (got a m₂) o = (Fits S m₂) × (S.Shared (m₂.at - 1) → (S.Shared m.at) × (o ≡ got a (φ S m₂))) × (S.Stop m₂)
 EndSeen S m (no n q m₂) o = (Fits S m₂) × (S.Compared n → o ≡ no n q (φ S m₂))

@@ -1,4 +1,5 @@
--- Two readings compared: what only legacy sheets have, back-references by address and allocation. Assumes nothing.
+-- Two readings compared: what only legacy sheets have, back-references by address and allocation.
+-- Assumes nothing.
 use Rattle.std.specs.Prelude.{if◌then◌else◌, ◌≡◌, Bool, ◌||◌, get_or, Option, Some, None}
 use Rattle.std.proofs.Math.Path.{refl, ap, subst}
 use Rattle.std.proofs.Common.{sym, ◌∙◌, ⊎_elim, eq-or-lt_of_le, arith}
@@ -176,7 +177,8 @@ module _ (S : Pair) (t : List ℕ) (n spaces : ℕ) (want : Request) (c : Legacy
   unfolding allocate_of
   allocate_full u l = rw (le-leb (room 5 u) n l)
 
-  -- the second reading's outcome: the first one's, with its own table; where 3 is not compared, only if there is room
+  -- the second reading's outcome: the first one's, with its own table; where 3 is not compared,
+  -- only if there is room
   allocated : (f : TableMap 5) → (S.Compared 3 → SameLength f) → ((allocate_of t n spaces want c).number ≡ 3 → S.Compared 3) → allocate_of (f.rows n t) n spaces want c ≡ mapped_outcome f n (allocate_of t n spaces want c)
   allocated f full compared = go (leb (room 5 t) n) refl
     where

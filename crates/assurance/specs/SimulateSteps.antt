@@ -1,4 +1,5 @@
--- Two readings compared: the steps that touch the tables, and the references without others in them. Assumes nothing.
+-- Two readings compared: the steps that touch the tables, and the references without others in
+-- them. Assumes nothing.
 use Rattle.std.specs.Prelude.{if◌then◌else◌, ◌≡◌, refl, Bool, set, replicate, Option, Some, None}
 use Rattle.std.proofs.Math.Path.{ap, ap₂}
 use Rattle.std.proofs.Common.{◌∙◌, ltb-true, ltb-false, lt-ltb, le-ltb}

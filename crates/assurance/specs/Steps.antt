@@ -1,5 +1,5 @@
--- The steps that a walk under a plain sheet is made of, what holds before each, and the rules by which a property is kept at each.
--- Assumes nothing.
+-- The steps that a walk under a plain sheet is made of, what holds before each, and the rules by
+-- which a property is kept at each. Assumes nothing.
 use Rattle.std.specs.Prelude.{◌≡◌, ◌≢◌, Bool, true, List, [], ◌∷◌, length, get_or, Some}
 use Rattle.std.proofs.Math.Path.{refl}
 use Rattle.std.proofs.Common.{◌∙◌, arith, length-set}
@@ -30,7 +30,8 @@ abbrev pub Open : List Frame → ℕ → Type 0
 Open [] bound = Unit {0}
 Open (frame o size done ∷ S) bound = (o < bound) × (Open S bound)
 
--- a byte of the payload that is a new-object head of a plain sheet: from kNewObject up to below kBackref
+-- a byte of the payload that is a new-object head of a plain sheet: from kNewObject up to below
+-- kBackref
 abbrev pub OpensAt : Input → ℕ → Type 0
 OpensAt x q = (q < length x.payload) × (opens x.sheet (get_or x.payload q 0) ≡ true)
 

@@ -1,4 +1,5 @@
--- What a second reading has where the first has a table: the same records, and as much room at least. Assumes nothing.
+-- What a second reading has where the first has a table: the same records, and as much room at
+-- least. Assumes nothing.
 use Rattle.std.specs.Prelude.{◌≡◌, refl, List, [], ◌∷◌, ℕ, ◌+◌, ◌*◌, ◌<◌, ◌≤◌, length, get_or}
 use Rattle.std.proofs.Common.{arith, suc-mul, le-div_iff_mul-le, append-nil, length-append}
 use Rattle.std.proofs.lemmas.List.Edits.{sets}
@@ -7,7 +8,8 @@ use Rattle.tables.proofs.RecordLaws.{record_end}
 use Rattle.definition.specs.Memory.{Table, table}
 use Rattle.assurance.specs.Wider.{wide, wide_get, wide_sets}
 
--- of a table whose records have so many fields: the numbers of the second one, where the first has so many records and these numbers
+-- of a table whose records have so many fields: the numbers of the second one, where the first has
+-- so many records and these numbers
 pub record TableMap (fields : ℕ) : Type 0 where
   pub rows : ℕ → List ℕ → List ℕ
   pub as_long : (n : ℕ) (t : List ℕ) → length t ≤ length (rows n t)

@@ -1,5 +1,6 @@
--- What stands in the slots and addresses tables above their counts is not read: a call that starts with anything there, but for zeros in the
--- first slot record, gives what it gives from zeros, and its tables are the same up to the counts. For every call and every sheet. Assumes nothing.
+-- What stands in the slots and addresses tables above their counts is not read: a call that starts
+-- with anything there, but for zeros in the first slot record, gives what it gives from zeros, and
+-- its tables are the same up to the counts. For every call and every sheet. Assumes nothing.
 use Rattle.std.specs.Prelude.{◌≡◌, refl, List, [], ◌∷◌, ℕ, zero, suc, ◌+◌, ◌-◌, ◌*◌, ◌<◌, ◌≤◌, length, get_or, set, replicate, take, drop, ◌++◌}
 use Rattle.std.proofs.Common.{arith, ap, ◌∙◌, append-nil, suc-mul}
 use Rattle.std.proofs.lemmas.List.{length-replicate}

@@ -1,4 +1,5 @@
--- A table with zeros after it: what is read of it, written into it and searched in it is the same. Assumes nothing.
+-- A table with zeros after it: what is read of it, written into it and searched in it is the same.
+-- Assumes nothing.
 use Rattle.std.specs.Prelude.{◌≡◌, List, [], ◌∷◌, ◌++◌, get_or, set, replicate}
 use Rattle.std.proofs.Math.Path.{refl}
 use Rattle.std.proofs.Common.{ap, ◌∙◌, arith, length-set}

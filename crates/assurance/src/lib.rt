@@ -1,2 +1,3 @@
-// The guarantee of demand 3: its words, and theorems over the definition. It has no code: see specs/ and proofs/.
+//! The guarantees (docs/GUARANTEES.md): their words, in specs/, and the theorems over the
+//! definition, in proofs/. It has no code.
 #![tactic(auto)]

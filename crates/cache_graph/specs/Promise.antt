@@ -57,7 +57,8 @@ IsAccepted c rooms = (m : Mem) × (graph c rooms ≡ got tt m)
 abbrev pub IsRefused : Call → Rooms → Type 0
 IsRefused c rooms = (n : ℕ) × (q : ℕ) × (m : Mem) × (graph c rooms ≡ no n q m)
 
--- demand 2: the answer, and every number of every table, after a refusal too, are what the definition gives
+-- the definition decides the graph: the answer, and every number of every table, after a refusal
+-- too, are what the definition gives
 pub record Reads (c : Call) (rooms : Rooms) (r : Answer) (objects slots values addresses : List ℕ) : Type 0 where
   pub outcome : r ≡ answer_of (graph c rooms)
   pub objects_are : objects ≡ table_of (λ m. m.objects) rooms.objects (graph c rooms)
@@ -65,7 +66,8 @@ pub record Reads (c : Call) (rooms : Rooms) (r : Answer) (objects slots values a
   pub values_are : values ≡ table_of (λ m. m.values) rooms.values (graph c rooms)
   pub addresses_are : addresses ≡ table_of (λ m. m.addresses) rooms.addresses (graph c rooms)
 
--- demand 3: what is guaranteed of an accepted payload under a plain sheet, of the tables as the call leaves them
+-- the guarantees: what is guaranteed of an accepted payload under a plain sheet, of the tables as
+-- the call leaves them
 pub record Assures (c : Call) (rooms : Rooms) (r : Answer) (objects slots values addresses : List ℕ) : Type 0 where
   pub held : Mem
   pub accepted : graph c rooms ≡ got tt held
@@ -100,6 +102,9 @@ pub record Cleared (rooms : Rooms) (objects slots values addresses : List ℕ) :
   pub slots_zero : slots ≡ replicate rooms.slots 0
   pub values_zero : values ≡ replicate rooms.values 0
   pub addresses_zero : addresses ≡ replicate rooms.addresses 0
+
+abbrev pub AllZero : Rooms → Tables → Type 0
+AllZero rooms t = Cleared rooms t.objects.now t.slots.now t.values.now t.addresses.now
 
 -- the tables are as long as this, and what the walk reads before it writes it is zero
 pub record Prepared (rooms : Rooms) (t : Tables) : Type 0 where

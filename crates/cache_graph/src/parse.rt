@@ -1,11 +1,11 @@
-// The entry point: a call from its checks to its answer.
+//! A call from its checks to its answer, and what it is given and lent.
 ghost use Rattle.std.specs.Prelude.{true, ◌≡◌, List, ℕ, ◌*◌, ◌<◌, ◌≤◌, length, get_or, IfOk, IfErr};
 ghost use Rattle.refusals.specs.Numbers.{number_of};
 ghost use Rattle.sheet.specs.Sheet as Sheet;
 ghost use Rattle.definition.specs.Call as Definition;
 ghost use Rattle.assurance.specs.Unused.{zeros_from};
-ghost use Rattle.cache_graph.specs.Promise.{call_of, entered, rooms_in, answer, graph_of, refused_of, RefusalNumber, Reads, Assures, SameTables, Cleared, Prepared, Fitting, Trimmed, Started, begun_in, Walked};
-ghost use Rattle.cache_graph.specs.SecondCall.{SecondCalls};
+ghost use Rattle.cache_graph.specs.Promise.{call_of, entered, rooms_in, answer, graph_of, refused_of, RefusalNumber, Reads, Assures, SameTables, Cleared, AllZero, Prepared, Fitting, Trimmed, Started, begun_in, Walked};
+ghost use Rattle.cache_graph.specs.SecondCall.{SecondCallsIn};
 
 use address_index::layout::LISTED_SPACES;
 use alloc::legacy_alloc::{LegacyAlloc, spaces};
@@ -17,7 +17,8 @@ use readers::walker::Walker;
 use refusals::refusal::Refusal;
 use tables::records::{ADDRESS_FIELDS, SLOT_FIELDS, clear};
 
-// What is entered: the version sheet, the payload, its reservations, and the trusted list.
+/// What is entered: the version sheet (docs/SHEET.md), the payload's bytes, its chunk reservations,
+/// and the trusted list, which has a byte for each root index.
 #[derive(Clone, Copy)]
 pub struct Call<'a> {
     pub sheet: &'a [u16],
@@ -26,7 +27,10 @@ pub struct Call<'a> {
     pub trusted: &'a [u8],
 }
 
-// What is lent to be written: the four tables, and working memory.
+/// What is lent to be written: the four tables, flat, whose records have 4 numbers for an object, 6
+/// for a slot, 3 for a value and 5 for an address (docs/FORMAT.md, "The tables"), and working
+/// memory. A table's room is its length divided by the fields of its record; scratch may have any
+/// length, and a longer one makes the call faster.
 #[derive(Drop)]
 pub struct Tables<'a> {
     pub objects: &'a mut [u64],
@@ -36,7 +40,7 @@ pub struct Tables<'a> {
     pub scratch: &'a mut [u64],
 }
 
-// An accepted payload: the four record counts, and the cursor at the finish.
+/// An accepted payload: how many records each table has, and the cursor at the finish, in bytes.
 #[derive(Clone, Copy, Debug, PartialEq, Eq)]
 pub struct Graph {
     pub objects: u64,
@@ -47,7 +51,7 @@ pub struct Graph {
     pub long_integers: u64,
 }
 
-// Why a payload is refused, and where.
+/// Why a payload is refused, and at which byte (docs/FORMAT.md, "Refusals").
 #[derive(Clone, Copy, Debug, PartialEq, Eq)]
 pub struct Refused {
     pub refusal: Refusal,
@@ -87,7 +91,8 @@ fn at_start(refusal: Refusal) -> Refused
     Refused { refusal, place: 0 }
 }
 
-// The payload or the reservation list is over its limit. That a payload has bytes is known here, by its type.
+// The payload or the reservation list is over its limit. That a payload has bytes is known here, by
+// its type.
 fn too_long(payload: &[u8], reservations: &[u32]) -> bool
     ensures is { (sheet trusted : List ℕ) → result ≡ Definition.too_long (call_of sheet payload.now reservations.now trusted) }
     ensures bytes { (i : ℕ) → get_or payload.now i 0 < 256 }
@@ -112,8 +117,8 @@ fn clear_above(t: &mut [u64], fields: usize, count: u64)
 }
 
 impl Tables<'_> {
-    // All that the walk reads before it has written it: objects and values, at any number, and the first slot record. Of slots and addresses
-    // it reads nothing else above its records.
+    // All that the walk reads before it has written it: objects and values, at any number, and the
+    // first slot record. Of slots and addresses it reads nothing else above its records.
     fn prepare(&mut self)
         ensures prepared { Prepared (rooms_in self.old) self.new }
         ensures same { SameTables self.old self.new }
@@ -123,7 +128,8 @@ impl Tables<'_> {
         clear_first(self.slots, SLOT_FIELDS);
     }
 
-    // What stands above the records of an accepted payload; of objects and values that is zero as it is.
+    // What stands above the records of an accepted payload; of objects and values that is zero as
+    // it is.
     fn clear_rest(&mut self, graph: Graph)
         requires { Fitting graph self.old.slots.now self.old.addresses.now }
         ensures trimmed { Trimmed graph self.old self.new }
@@ -145,9 +151,10 @@ impl Tables<'_> {
     }
 }
 
-// The walk of a payload over tables that are prepared, which come by value, so that they and the parts of scratch can be lent at once. Scratch
-// may hold anything: its first part has a place for each byte of the payload, as far as it goes, and the rest is the index of legacy
-// addresses, whose counts are cleared: no record is entered yet.
+// The walk of a payload over tables that are prepared, which come by value, so that they and the
+// parts of scratch can be lent at once. Scratch may hold anything: its first part has a place for
+// each byte of the payload, as far as it goes, and the rest is the index of legacy addresses, whose
+// counts are cleared: no record is entered yet.
 fn walk_payload<'a>(
     call: Call<'a>,
     heads: &'a [Head; 256],
@@ -180,7 +187,8 @@ fn walk_payload<'a>(
         hot: HotRing::new(),
         alloc: LegacyAlloc::new(),
     };
-    // All numbers by name, as the definition's `start` has them: tried with the default of `State`, of which the proof did not close.
+    // All numbers by name, as the definition's `start` has them: tried with the default of `State`,
+    // of which the proof did not close.
     let start = State {
         at: 0,
         objects: 0,
@@ -219,20 +227,22 @@ fn read(call: Call<'_>, tables: &mut Tables<'_>) -> Result<Graph, Refused>
     walk_payload(call, &heads, lent)
 }
 
-/// The object graph of a payload, in the four tables; or a refusal's number, 1 to 16, with its place.
+/// The object graph of a payload, in the four tables; or a refusal's number, 1 to 16, with its
+/// place.
 ///
-/// `reads` says what the answer and every number of the tables are, after a refusal too. `assured` says
-/// what is guaranteed of an accepted payload under a plain sheet, and `second` what then holds of a
-/// second call whose payload begins as this one does. `cleared` says that a refusal leaves every table
-/// zero, and `same` that the tables that were lent are those that are written. All of it holds whatever
-/// the tables hold before, for every length of scratch and whatever it holds; what scratch holds at the
-/// end is not said.
+/// `reads` says what the answer and every number of the tables are, after a refusal too. `assured`
+/// says what is guaranteed of an accepted payload under a plain sheet, and `second` what then holds
+/// of a second call whose payload begins as this one does. `cleared` says that a refusal leaves
+/// every table zero, and `same` that the tables that were lent are those that are written. All of
+/// it holds whatever the tables hold before, for every length of scratch and whatever it holds;
+/// what scratch holds at the end is not said.
 pub fn parse_with(call: Call<'_>, tables: &mut Tables<'_>) -> Result<Graph, Refused>
     ensures reads { Reads (entered call.entry) (rooms_in tables.old) (answer result) tables.new.objects.now tables.new.slots.now tables.new.values.now tables.new.addresses.now }
     ensures assured { Sheet.plain call.entry.sheet.now ≡ true → (answer result).number ≡ 0 → Assures (entered call.entry) (rooms_in tables.old) (answer result) tables.new.objects.now tables.new.slots.now tables.new.values.now tables.new.addresses.now }
-    ensures second { Sheet.plain call.entry.sheet.now ≡ true → (answer result).number ≡ 0 → SecondCalls (entered call.entry) (rooms_in tables.old) (answer result) tables.new.objects.now tables.new.slots.now tables.new.values.now tables.new.addresses.now }
+    ensures second { Sheet.plain call.entry.sheet.now ≡ true → (answer result).number ≡ 0 →
+        SecondCallsIn (entered call.entry) (rooms_in tables.old) (answer result) tables.new }
     ensures numbered { IfErr result (λ e. RefusalNumber (number_of e.refusal)) }
-    ensures cleared { IfErr result (λ e. Cleared (rooms_in tables.old) tables.new.objects.now tables.new.slots.now tables.new.values.now tables.new.addresses.now) }
+    ensures cleared { IfErr result (λ e. AllZero (rooms_in tables.old) tables.new) }
     ensures same { SameTables tables.old tables.new }
 {
     tables.prepare();

@@ -1,4 +1,4 @@
-// The entry point for C and Rust; include/dawichko.h declares it.
+//! The entry point for C and Rust; include/dawichko.h declares it.
 #![tactic(auto)]
 
 ghost use Rattle.std.specs.Prelude.{true, ◌≡◌, ◌≢◌, ◌≤◌};
@@ -9,8 +9,10 @@ ghost use Rattle.dawichko.specs.Export.{outcome_of};
 
 use cache_graph::parse::{Call, Tables, parse_with};
 
-// The object graph of a payload, in the four tables: 0 or the refusal's number. The outcome is the four record counts, the cursor at the
-// finish, the refusal's place, and how many integers were longer than their values need.
+/// The object graph of a payload, in the four tables: 0, or a refusal's number, 1 to 16, after
+/// which every table is zero. What is given and lent is as for `cache_graph::parse::parse_with`.
+/// The outcome is the four record counts, the cursor at the finish, the refusal's place and the
+/// number of long integers; of a refusal all but the sixth are 0, of an accepted payload the sixth.
 #[unsafe(no_mangle)]
 pub extern "C" fn dawichko_graph(
     sheet: &[u16],
@@ -25,11 +27,17 @@ pub extern "C" fn dawichko_graph(
     outcome: &mut [u64; 7],
 ) -> u64
     ensures reads { Reads (call_of sheet.now payload.now reservations.now trusted.now) (rooms_of objects.old slots.old values.old addresses.old) (outcome_of result outcome.new) objects.new slots.new values.new addresses.new }
-    ensures accepted { IsAccepted (call_of sheet.now payload.now reservations.now trusted.now) (rooms_of objects.old slots.old values.old addresses.old) → result ≡ 0 }
-    ensures refused { IsRefused (call_of sheet.now payload.now reservations.now trusted.now) (rooms_of objects.old slots.old values.old addresses.old) → RefusalNumber result }
+    ensures accepted { IsAccepted (call_of sheet.now payload.now reservations.now trusted.now)
+        (rooms_of objects.old slots.old values.old addresses.old) → result ≡ 0 }
+    ensures refused { IsRefused (call_of sheet.now payload.now reservations.now trusted.now)
+        (rooms_of objects.old slots.old values.old addresses.old) → RefusalNumber result }
     ensures numbered { result ≤ 16 }
-    ensures cleared { result ≢ 0 → Cleared (rooms_of objects.old slots.old values.old addresses.old) objects.new slots.new values.new addresses.new }
-    ensures second { Sheet.plain sheet.now ≡ true → result ≡ 0 → SecondCalls (call_of sheet.now payload.now reservations.now trusted.now) (rooms_of objects.old slots.old values.old addresses.old) (outcome_of result outcome.new) objects.new slots.new values.new addresses.new }
+    ensures cleared { result ≢ 0 → Cleared (rooms_of objects.old slots.old values.old addresses.old)
+        objects.new slots.new values.new addresses.new }
+    ensures second { Sheet.plain sheet.now ≡ true → result ≡ 0 →
+        SecondCalls (call_of sheet.now payload.now reservations.now trusted.now)
+        (rooms_of objects.old slots.old values.old addresses.old) (outcome_of result outcome.new)
+        objects.new slots.new values.new addresses.new }
     ensures assured { Sheet.plain sheet.now ≡ true → result ≡ 0 → Assures (call_of sheet.now payload.now reservations.now trusted.now) (rooms_of objects.old slots.old values.old addresses.old) (outcome_of result outcome.new) objects.new slots.new values.new addresses.new }
 {
     let call = Call {

@@ -1,4 +1,5 @@
--- A whole call: its checks, the walk of the payload, and what it leaves in the tables. Assumes nothing: these are definitions.
+-- A whole call: its checks, the walk of the payload, and what it leaves in the tables. Assumes
+-- nothing: these are definitions.
 use Rattle.std.specs.Prelude.{if◌then◌else◌, Bool, ◌||◌, List, [], ℕ, ◌-◌, ltb, length, replicate}
 use Rattle.sheet.specs.Names.{k_new_object}
 use Rattle.sheet.specs.Sheet.{number, is_legacy, usable}
@@ -10,7 +11,8 @@ use Rattle.definition.specs.Object.{object}
 use Rattle.definition.specs.Reference.{ref_at}
 use Rattle.definition.specs.Closing.{closing}
 
--- how many numbers each of the four tables lent has; a table's room is that divided by its record's fields
+-- how many numbers each of the four tables lent has; a table's room is that divided by its record's
+-- fields
 pub record Rooms : Type 0 where
   pub objects : ℕ
   pub slots : ℕ
@@ -42,7 +44,8 @@ start rooms log =
 abbrev pub top_space : Input → ℕ → ℕ
 top_space x b = if is_legacy x.sheet then b - number x.sheet k_new_object else 0
 
--- the first byte opens the top object, at depth 0 (else refusal 5; difference D19); then the closing section
+-- the first byte opens the top object, at depth 0 (else refusal 5; difference D19); then the
+-- closing section
 unfoldable pub walk : Input → Reader (Unit {0})
 walk x =
     byte x

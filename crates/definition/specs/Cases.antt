@@ -91,7 +91,8 @@ pub cases_hold : CasesHold
 unfolding peek_at little_endian raw_at int_length int_at shortest is_long all_within usable order first_of head_of alignment_of closing_of written filled spaces_of entered hot_at byte int add_value add_slot waiter resolved keep_item place_item add_object flag_object keep_map resolves items body object backref_to pending_reference raw_data by_head reference ref_at entries padding closing walk called graph
 cases_hold = refl
 
--- a legacy sheet of words of 8 bytes, in the manner of V8 7.8, with six reservations of the top bit alone
+-- a legacy sheet of words of 8 bytes, in the manner of V8 7.8, with six reservations of the top bit
+-- alone
 abbrev pub sheet_l : List ℕ
 sheet_l =
     0 ∷ 8 ∷ 17 ∷ 18 ∷ 20 ∷ 19 ∷ 144 ∷ 64 ∷ 96 ∷ 21 ∷
@@ -134,7 +135,8 @@ pub further_hold : FurtherCasesHold
 unfolding peek_at little_endian raw_at int_length int_at shortest is_long all_within usable order first_of head_of alignment_of closing_of written filled spaces_of entered hot_at byte int add_value add_slot waiter resolved keep_item place_item add_object flag_object keep_map resolves items body object backref_to pending_reference raw_data by_head reference ref_at entries padding closing walk called graph fill_to_align max_fill_to_align advance_of allocate_of next_chunk addressed resolve_of ordinal_from placed single allocate chunk_changes map_first legacy_reference add_slots entry_items entry
 further_hold = refl
 
--- what a reading tells: a weak and a pending slot, an object with a resolve and raw data, and a reference that the closing section drops
+-- what a reading tells: a weak and a pending slot, an object with a resolve and raw data, and a
+-- reference that the closing section drops
 abbrev pub told_payload : List ℕ
 told_payload = 0x00 ∷ 0x10 ∷ 0x45 ∷ 0x10 ∷ 0x46 ∷ 0x0E ∷ 0x00 ∷ 0x08 ∷ 0x46 ∷ 0x0F ∷ 0x00 ∷ 0x60 ∷ 0xAA ∷ 0xAA ∷ 0xAA ∷ 0xAA ∷ 0xAA ∷ 0xAA ∷ 0xAA ∷ 0xAA ∷ 0x47 ∷ 0x0D ∷ []
 

@@ -1,4 +1,5 @@
--- The closing section, with legacy deferred entries, and the padding after it. Assumes nothing: these are definitions.
+-- The closing section, with legacy deferred entries, and the padding after it. Assumes nothing:
+-- these are definitions.
 use Rattle.std.specs.Prelude.{if◌then◌else◌, Bool, true, false, not, ◌&&◌, ◌||◌, ℕ, zero, suc, ◌+◌, ◌-◌, ◌/◌, max, leb, eqb, length}
 use Rattle.sheet.specs.Sheet.{is_legacy}
 use Rattle.sheet.specs.declared.tests.Closing.{Closing}
@@ -34,7 +35,8 @@ add_slots o v index (suc n) = add_slot o index v 0 in_slot >> add_slots o v (ind
 abbrev pub entry_slots : Input → SlotValue → ℕ
 entry_slots x v = if is_skip v then 0 else max (width_of (word x) v / word x) 1
 
--- what it adds to the count: its bytes, one word at least; a skip its bytes. The count is then compared with words
+-- what it adds to the count: its bytes, one word at least; a skip its bytes. The count is then
+-- compared with words
 abbrev pub entry_count : Input → SlotValue → ℕ
 entry_count x v = if is_skip v then width_of (word x) v else max (width_of (word x) v) (word x)
 
@@ -42,7 +44,8 @@ entry_count x v = if is_skip v then width_of (word x) v else max (width_of (word
 abbrev pub entry_item : Input → ℕ → ℕ → SlotValue → Reader (Unit {0})
 entry_item x o index v m = add_slots o (entry_fields m.values v) index (entry_slots x v) m
 
--- items while the count is below the size; each reads a byte at least. A with-skip amount stays for the next object's slot
+-- items while the count is below the size; each reads a byte at least. A with-skip amount stays for
+-- the next object's slot
 unfoldable pub entry_items : Input → ℕ → ℕ → ℕ → ℕ → ℕ → Reader (Unit {0})
 entry_items x o size zero index done = give tt
 entry_items x o size (suc n) index done =
@@ -72,7 +75,8 @@ drop_reference x = ref_at x 65 >>= (λ v. tell (value (fields_of v) dropped))
 abbrev pub ends_legacy : Input → ℕ → Bool
 ends_legacy x n = is_legacy x.sheet && not (eqb n 3 || eqb n 16)
 
--- after an entry: k reads on; a fault ends a legacy section where it left the cursor, and refuses otherwise
+-- after an entry: k reads on; a fault ends a legacy section where it left the cursor, and refuses
+-- otherwise
 abbrev pub after_entry : Input → Reader (Unit {0}) → Out (Unit {0}) → Out (Unit {0})
 after_entry x k (got v m) = k m
 after_entry x k (no n q m) = (if ends_legacy x n then give tt else refuse_at n q) m
@@ -84,7 +88,8 @@ by_entry x k (Alignment a) m = (byte x >> change (aligned a) >> k) m
 by_entry x k (Deferred space) m = after_entry x k (entry x space m)
 by_entry x k Reference m = after_entry x k (drop_reference x m)
 
--- entries until kSynchronize; where each begins is told, and each reads a byte at least. The payload's end: refusal 13, in legacy the section ends
+-- entries until kSynchronize; where each begins is told, and each reads a byte at least. The
+-- payload's end: refusal 13, in legacy the section ends
 unfoldable pub entries : Input → ℕ → Reader (Unit {0})
 entries x zero m = give tt m
 entries x (suc n) m =

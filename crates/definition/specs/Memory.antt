@@ -1,11 +1,14 @@
--- What a reader has and gives, and the steps that readers are made of. Assumes nothing: these are definitions.
+-- What a reader has and gives, and the steps that readers are made of. Assumes nothing: these are
+-- definitions.
 --
--- How to read these files. A reader takes what it has (`Mem`) and gives a value, or a refusal (`Out`). `r >>= f` is r and then f on the value
--- that r gave; `r >> s` is r and then s; `λ m. ..` is a function of m. `ltb`, `leb`
--- and `eqb` test <, ≤ and =; `a - b` is 0 where b is greater; `get_or l i d` is number i of the list l, or d past its end; `set l i n` is l
--- with n as number i; `Unit` stands for no value. Where a reader repeats a step, a number that falls bounds the repetitions; it is chosen so
--- large that it is never used up. `abbrev` and `unfoldable` both define; they differ in when a proof computes with the definition.
--- Order: Memory, Slots, Object, Reference, Closing, Call, and Cases with the examples.
+-- How to read these files. A reader takes what it has (`Mem`) and gives a value, or a refusal
+-- (`Out`). `r >>= f` is r and then f on the value that r gave; `r >> s` is r and then s; `λ m. ..`
+-- is a function of m. `ltb`, `leb` and `eqb` test <, ≤ and =; `a - b` is 0 where b is greater;
+-- `get_or l i d` is number i of the list l, or d past its end; `set l i n` is l with n as number i;
+-- `Unit` stands for no value. Where a reader repeats a step, a number that falls bounds the
+-- repetitions; it is chosen so large that it is never used up. `abbrev` and `unfoldable` both
+-- define; they differ in when a proof computes with the definition. Order: Memory, Slots, Object,
+-- Reference, Closing, Call, and Cases with the examples.
 use Rattle.std.specs.Prelude.{if◌then◌else◌, Bool, List, ◌∷◌, ℕ, ◌+◌, ltb, length, get_or, Option, Some, None}
 use Rattle.stream.specs.declared.putint.Int.{Int}
 use Rattle.std.specs.Int.{from_bool}
@@ -16,7 +19,8 @@ use Rattle.tables.specs.Records.{room, written}
 use Rattle.alloc.specs.declared.legacy_alloc.LegacyAlloc.{LegacyAlloc}
 use Rattle.backref.specs.declared.hot_ring.HotRing.{HotRing}
 
--- what a call is given and does not change: the version sheet, the payload, how many spaces have counters, and the trusted list
+-- what a call is given and does not change: the version sheet, the payload, how many spaces have
+-- counters, and the trusted list
 pub record Input : Type 0 where
   pub sheet : List ℕ
   pub payload : List ℕ
@@ -27,17 +31,20 @@ pub record Input : Type 0 where
 abbrev pub word : Input → ℕ
 word x = word_bytes x.sheet
 
--- where a value that was read is kept: as an object's map or as another slot, in that slot record; in that value record; or nowhere
+-- where a value that was read is kept: as an object's map or as another slot, in that slot record;
+-- in that value record; or nowhere
 pub data Kept : Type 0 where
   in_map : ℕ → Kept
   in_slot : ℕ → Kept
   in_value : ℕ → Kept
   dropped : Kept
 
--- what happens in a reading, for the words of demand 3: an object is opened (the place of its head, its declared words); raw data is
--- passed (offset, length); an item of an object is read (the object, its first byte there, its width, its slot record); a value was read
--- (kind, a, b) and is kept; a resolve of a number stands after an object's map; an entry of the closing section begins (its place);
--- kSynchronize ends that section (its place)
+-- what happens in a reading, in the words of the guarantees (docs/FORMAT.md, "The words of the
+-- guarantees"): an object is opened (the place of its head, its declared words); raw data is passed
+-- (offset, length); an item of an object is read (the object, its first byte there, its width, its
+-- slot record); a value was read (kind, a, b) and is kept; a resolve of a number stands after an
+-- object's map; an entry of the closing section begins (its place); kSynchronize ends that section
+-- (its place)
 pub data Event : Type 0 where
   opened : ℕ → ℕ → Event
   passed : ℕ → ℕ → Event
@@ -82,8 +89,8 @@ pub record Mem : Type 0 where
   pub long_integers : ℕ
   pub log : Log
 
--- what a reader gives: a value with what it has then; or a refusal's number and place with what it had (a legacy closing section goes on
--- from there)
+-- what a reader gives: a value with what it has then; or a refusal's number and place with what it
+-- had (a legacy closing section goes on from there)
 pub data Out (A : Type 0) : Type 0 where
   got : A → Mem → Out A
   no : ℕ → ℕ → Mem → Out A
@@ -203,6 +210,7 @@ added t row = table (written t.rows t.count row) (t.count + 1)
 abbrev pub appended : (Mem → Table) → (Mem → Mem) → Reader ℕ
 appended t f m = got (t m).count (f m)
 
--- a record of so many fields is appended to table t by the change f, if there is room for it, and its number is given; else refusal 3
+-- a record of so many fields is appended to table t by the change f, if there is room for it, and
+-- its number is given; else refusal 3
 abbrev pub append : ℕ → (Mem → Table) → (Mem → Mem) → Reader ℕ
 append fields t f m = (if has_room fields (t m) then appended t f else refuse 3) m

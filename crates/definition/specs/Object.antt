@@ -1,6 +1,7 @@
--- An object: its head, map, resolves and items. Assumes nothing: these are definitions.
--- Where the Rust leaves V8 here: an object is numbered before its map is read (D1, D2, D3), its map is any value and one word (D4), resolves
--- stand directly after the map (D5, D7), kNop is no item (D6), kDeferred may stand before any item (D34); docs/DIFFERENCES.md.
+-- An object: its head, map, resolves and items. Assumes nothing: these are definitions. Where the
+-- Rust leaves V8 here: an object is numbered before its map is read (D1, D2, D3), its map is any
+-- value and one word (D4), resolves stand directly after the map (D5, D7), kNop is no item (D6),
+-- kDeferred may stand before any item (D34); docs/DIFFERENCES.md.
 use Rattle.std.specs.Prelude.{if◌then◌else◌, Bool, false, not, ◌&&◌, ℕ, zero, suc, ◌+◌, ◌-◌, ◌*◌, leb, eqb, length, get_or, set}
 use Rattle.stream.specs.Bytes.{peek_at}
 use Rattle.sheet.specs.Sheet.{is_legacy, is_six_x, is_map_first, lo_space}
@@ -69,7 +70,8 @@ chunk_changes x space (suc n) m =
 
 -- ---- the map
 
--- a map that comes first (V8 8.7): map, alignment, chunk changes, then allocation. The alignment that stood before it is not the map's
+-- a map that comes first (V8 8.7): map, alignment, chunk changes, then allocation. The alignment
+-- that stood before it is not the map's
 unfoldable pub map_first : Input → Reader SlotValue → ℕ → ℕ → ℕ → Reader SlotValue
 map_first x r space bytes o m =
     (r >>= (λ v.
@@ -119,8 +121,9 @@ resolves x o (suc n) m =
     else give tt)
     m
 
--- items until `done` bytes have filled `size`: the bytes read then. Each reads a byte at least, so the bytes left bound their number.
--- kDeferred ends the object early: what is missing counts as read
+-- items until `done` bytes have filled `size`: the bytes read then. Each reads a byte at least, so
+-- the bytes left bound their number. kDeferred ends the object early: what is missing counts as
+-- read
 unfoldable pub items : Input → Reader SlotValue → ℕ → ℕ → ℕ → ℕ → Reader ℕ
 items x r o size zero done m = give done m
 items x r o size (suc n) done m =

@@ -1,5 +1,5 @@
--- A reference: what its head byte says, in the order of the Rust's `parse_ref_inner` (specs/Heads.antt of the crate `heads`). Assumes nothing:
--- these are definitions.
+-- A reference: what its head byte says, in the order of the Rust's `parse_ref_inner`
+-- (specs/Heads.antt of the crate `heads`). Assumes nothing: these are definitions.
 use Rattle.std.specs.Prelude.{if◌then◌else◌, Bool, true, ℕ, zero, suc, ◌+◌, ◌*◌, ◌^◌, ◌-◌, max, ltb, Option, Some, None}
 use Rattle.stream.specs.Bytes.{raw_at}
 use Rattle.sheet.specs.Sheet.{is_legacy, raw_advances}
@@ -65,8 +65,9 @@ after_first x space first =
 unfoldable pub legacy_reference : Input → ℕ → Reader SlotValue
 legacy_reference x space = int x >>= after_first x space
 
--- things outside the payload, as read-only references with a first number of their own: 2^32 less 1 for caches, 2 for builtins, 3 for
--- external and 4 for API references, 5 for off-heap targets (differences D41 and D42)
+-- things outside the payload, as read-only references with a first number of their own: 2^32 less 1
+-- for caches, 2 for builtins, 3 for external and 4 for API references, 5 for off-heap targets
+-- (differences D41 and D42)
 abbrev pub outside : Input → ℕ → Reader SlotValue
 outside x k = int x >>= (λ i. refers (RoRef (2 ^ 32 - k) i))
 
@@ -100,8 +101,9 @@ abbrev pub repeat_root : Input → ℕ → Reader SlotValue
 repeat_root x n = byte x >>= (λ i. repeat_of n (IsRef (Root i)))
 
 -- ---- by the head's kind and argument; the head stands at `tag`, and the cursor after it
--- Where the Rust leaves V8 here: pointer prefixes leave no trace (D13), the self pointer is a cleared weak (D14), stream bytes are not passed
--- over (D38), a dispatch entry is its integer alone (D39), meta maps are refused (D36), and so are tags that only V8 knows (D37, D40)
+-- Where the Rust leaves V8 here: pointer prefixes leave no trace (D13), the self pointer is a
+-- cleared weak (D14), stream bytes are not passed over (D38), a dispatch entry is its integer alone
+-- (D39), meta maps are refused (D36), and so are tags that only V8 knows (D37, D40)
 
 unfoldable pub by_head : Input → Reader SlotValue → ℕ → Kind → ℕ → Reader SlotValue
 by_head x r tag NewObject a = object x r a tag

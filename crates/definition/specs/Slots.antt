@@ -19,7 +19,8 @@ add_value v =
 abbrev pub counted : ℕ → Table → Table
 counted o t = table (set t.rows (o * 4 + 3) (field 4 t.rows o 3 + 1)) t.count
 
--- a slot record of an object: its number. `waits` is 1 for one that waits, else 0; `k` says where the value is then kept
+-- a slot record of an object: its number. `waits` is 1 for one that waits, else 0; `k` says where
+-- the value is then kept
 unfoldable pub add_slot : ℕ → ℕ → Fields → ℕ → (ℕ → Kept) → Reader ℕ
 add_slot o index v waits k =
     append 6 (λ m. m.slots)
@@ -33,7 +34,8 @@ add_slot o index v waits k =
 abbrev pub waits_for : List ℕ → ℕ → ℕ → Bool
 waits_for st number k = eqb (field 6 st k 5) 1 && eqb (field 6 st k 3) number
 
--- of the first n slots the newest that waits under a number, counted from 1; 0: none does. (In one walk at most one does.)
+-- of the first n slots the newest that waits under a number, counted from 1; 0: none does. (In one
+-- walk at most one does.)
 unfoldable pub waiter : List ℕ → ℕ → ℕ → ℕ
 waiter st number zero = 0
 waiter st number (suc n) = if waits_for st number n then suc n else waiter st number n
@@ -42,7 +44,8 @@ waiter st number (suc n) = if waits_for st number n then suc n else waiter st nu
 abbrev pub renumbered : ℕ → ℕ → ℕ
 renumbered pending waiting = if eqb waiting 0 then 0 else pending
 
--- the slot that waits, counted from 1, becomes this object; 0, an unknown number, changes no slot (differences D8 and D10)
+-- the slot that waits, counted from 1, becomes this object; 0, an unknown number, changes no slot
+-- (differences D8 and D10)
 abbrev pub fill_waiter : ℕ → ℕ → Mem → Mem
 fill_waiter zero o m = with_pending (renumbered m.pending m.waiting) m.waiting m
 fill_waiter (suc k) o m =
@@ -60,7 +63,8 @@ abbrev pub waits_of : SlotValue → ℕ
 waits_of (PendingRef n) = 1
 waits_of v = 0
 
--- an item that becomes a slot, after the with-skip amount that stands; its index is its first byte divided by the word, rounded down
+-- an item that becomes a slot, after the with-skip amount that stands; its index is its first byte
+-- divided by the word, rounded down
 unfoldable pub keep_item : Input → ℕ → ℕ → SlotValue → Reader ℕ
 keep_item x o done v m =
     let start : ℕ = done + m.skip in
@@ -78,7 +82,8 @@ previous t = triple (field 6 t.rows (t.count - 1) 2) (field 6 t.rows (t.count - 
 abbrev pub repeat_previous : Reader ℕ
 repeat_previous m = add_value (previous m.slots) m
 
--- an item with this value: the bytes read then. A skip makes no slot, and stream bytes neither; a with-skip amount is lost with them
+-- an item with this value: the bytes read then. A skip makes no slot, and stream bytes neither; a
+-- with-skip amount is lost with them
 unfoldable pub place_item : Input → ℕ → ℕ → SlotValue → Reader ℕ
 place_item x o done (Skip n) = change (with_skip 0) >> give (done + n)
 place_item x o done (StreamBytes n) = change (with_skip 0) >> give done

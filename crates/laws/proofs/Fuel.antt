@@ -1,5 +1,5 @@
--- The number that bounds a reader's repetitions does not matter where it is large enough: each repetition reads a byte at least.
--- Assumes nothing.
+-- The number that bounds a reader's repetitions does not matter where it is large enough: each
+-- repetition reads a byte at least. Assumes nothing.
 use Rattle.std.specs.Prelude.{if◌then◌else◌, ◌≡◌, Bool, true, false, ◌&&◌, leb, eqb, length}
 use Rattle.std.proofs.Math.Path.{refl, sym, subst}
 use mathlib.Core.List.{[], ◌∷◌}

@@ -1,4 +1,5 @@
--- THE THEOREMS: every reader keeps what it has in order (Sound.antt). They are the laws of an invariant that says nothing. Assumes nothing.
+-- THE THEOREMS: every reader keeps what it has in order (Sound.antt). They are the laws of an
+-- invariant that says nothing. Assumes nothing.
 use Rattle.std.specs.Prelude.{◌≡◌, Bool, true, ℕ, ◌+◌, ◌-◌, ◌*◌, ◌<◌, ◌≤◌, ◌^◌, length}
 use mathlib.Core.List.{List, [], ◌∷◌}
 use Rattle.std.proofs.Common.{arith}

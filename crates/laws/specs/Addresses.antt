@@ -1,6 +1,7 @@
--- THE THEOREM on legacy addresses: in every reading the addresses of a space do not fall, in the order of allocating. They are at most the
--- space's counters, since a filler is no longer than what the next free offset moves by: with words of 8 bytes offsets are multiples of 8,
--- and there is none. Assumes nothing.
+-- THE THEOREM on legacy addresses: in every reading the addresses of a space do not fall, in the
+-- order of allocating. They are at most the space's counters, since a filler is no longer than what
+-- the next free offset moves by: with words of 8 bytes offsets are multiples of 8, and there is
+-- none. Assumes nothing.
 use Rattle.std.specs.Prelude.{if◌then◌else◌, ◌≡◌, ◌⊎◌, Bool, ◌&&◌, ◌||◌, List, [], ◌∷◌, ℕ, zero, suc, ◌+◌, ◌-◌, ◌%◌, ◌<◌, ◌≤◌, leb, length, get_or, set}
 use Rattle.std.proofs.Math.Path.{refl}
 use Rattle.std.proofs.Common.{sym, ap, subst, ◌∙◌, inl, inr, length-set, get_or-set_same, get_or-set_other}
@@ -35,7 +36,8 @@ use Rattle.laws.specs.Rules.{NoValue}
 
 -- ---- what an allocation leaves
 
--- a record in a space without counters, which stay; or one at the next free offset after the filler, which moves on
+-- a record in a space without counters, which stay; or one at the next free offset after the
+-- filler, which moves on
 pub data Shape (t : List ℕ) (n spaces : ℕ) (want : Request) (c : LegacyAlloc) (r : Outcome) : Type 0 where
   bare : spaces ≤ want.space → r.table ≡ written t n (address_row want.space 0 0 want.object 0) → r.alloc ≡ c → Shape t n spaces want c r
   seated : want.space < spaces → r.table ≡ written t n (address_row want.space (get_or c.cur want.space 0) (get_or c.used want.space 0 + fill_to_align (get_or c.used want.space 0) want.alignment want.word) want.object 1) → r.alloc.cur ≡ c.cur → r.alloc.used ≡ set c.used want.space (get_or c.used want.space 0 + advance_of want.size want.alignment want.word) → Shape t n spaces want c r
@@ -93,7 +95,8 @@ abbrev pub Whole : Input → List Frame → Type 0
 Whole x [] = Unit {0}
 Whole x (frame o size done ∷ S) = (size % word x ≡ 0) × (Whole x S)
 
--- the addresses of a space do not fall, nor are they above its counters; records without counters are all at address 0
+-- the addresses of a space do not fall, nor are they above its counters; records without counters
+-- are all at address 0
 module _ (x : Input) where
   pub record Ascending (a : Table) (c : LegacyAlloc) : Type 0 where
     pub chunks : length c.cur ≡ 256

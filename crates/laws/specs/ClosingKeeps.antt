@@ -1,5 +1,5 @@
--- The closing section, the padding and the whole walk keep what they have in order (Sound.antt) and an invariant with its rules
--- (Rules.antt); a call starts in order. Assumes nothing.
+-- The closing section, the padding and the whole walk keep what they have in order (Sound.antt) and
+-- an invariant with its rules (Rules.antt); a call starts in order. Assumes nothing.
 use Rattle.std.specs.Prelude.{if◌then◌else◌, ◌≡◌, refl, Bool, true, false, leb, eqb, length, get_or, replicate}
 use mathlib.Core.List.{List, []}
 use Prim.Native.Nat.{ℕ, zero, suc, ◌+◌, ◌-◌, ◌*◌, ◌<◌, max}

@@ -1,5 +1,5 @@
--- Steps, records, objects and their items: each keeps what it has in order (Sound.antt) and an invariant with its rules (Rules.antt), and
--- gives what its callers need. Assumes nothing.
+-- Steps, records, objects and their items: each keeps what it has in order (Sound.antt) and an
+-- invariant with its rules (Rules.antt), and gives what its callers need. Assumes nothing.
 use Rattle.std.specs.Prelude.{if◌then◌else◌, ◌≡◌, Bool, ◌&&◌, List, ◌∷◌, leb, Option, Some, None}
 use Rattle.std.proofs.Math.Path.{refl, ap}
 use Rattle.std.proofs.Common.{sym, ◌∙◌, subst, ⊎_elim}

@@ -1,4 +1,5 @@
--- What the definitions below the walk keep: integers, raw ranges, back-references, the ring, allocation, head bytes. Assumes nothing.
+-- What the definitions below the walk keep: integers, raw ranges, back-references, the ring,
+-- allocation, head bytes. Assumes nothing.
 use Rattle.std.specs.Prelude.{if◌then◌else◌, ◌≡◌, Bool, not, ◌&&◌, ◌||◌, ◌≢◌, List, [], ◌∷◌, ℕ, zero, suc, ◌+◌, ◌-◌, ◌%◌, ◌^◌, ◌<◌, ◌≤◌, ltb, leb, eqb, get_or, set, Option, Some, None}
 use Rattle.std.proofs.Math.Path.{refl}
 use Rattle.std.proofs.Common.{◌∙◌, ⊎_elim, arith, lt_of_lt_of_le, length-set, pow_mono}

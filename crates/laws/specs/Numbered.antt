@@ -1,5 +1,6 @@
--- THE THEOREMS on pending numbers: in every reading waits is 1 only at kind 13, at most one slot waits under a number, none under a number
--- that was not given out, and the count of those that wait is exact (Waiting.antt). Assumes nothing.
+-- THE THEOREMS on pending numbers: in every reading waits is 1 only at kind 13, at most one slot
+-- waits under a number, none under a number that was not given out, and the count of those that
+-- wait is exact (Waiting.antt). Assumes nothing.
 use Rattle.std.specs.Prelude.{if◌then◌else◌, ◌≡◌, refl, Bool, true, false, List, [], ◌∷◌, ℕ, zero, suc, ◌+◌, ◌*◌, ◌^◌, ◌<◌, ◌≤◌, eqb, length}
 use Rattle.std.proofs.Common.{sym, subst, arith, eqb-true}
 use Rattle.tables.specs.declared.values.SlotValue.{SlotValue}

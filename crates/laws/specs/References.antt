@@ -1,5 +1,5 @@
--- A reference keeps what it has in order (Sound.antt) and an invariant with its rules (Rules.antt), reads a byte at least, and no item is
--- wider than 2 ^ 34 bytes. Assumes nothing.
+-- A reference keeps what it has in order (Sound.antt) and an invariant with its rules (Rules.antt),
+-- reads a byte at least, and no item is wider than 2 ^ 34 bytes. Assumes nothing.
 use Rattle.std.specs.Prelude.{if◌then◌else◌, ◌≡◌, Bool, ltb, length, Option, Some, None}
 use Rattle.std.proofs.Math.Path.{refl}
 use Rattle.std.proofs.Math.Bool.{true, false}
@@ -151,7 +151,8 @@ module _ {x : Input} {I : List Frame → Mem → Type 0} {W : Mem → SlotValue 
     repeating : (n : ℕ) → n ≤ 2 ^ 30 + 17 → Keeping x I Gives (r >>= repeat_of n)
     repeating n b = inner _ (λ S m v w h. repeat_of_ends w n v h b)
 
-    -- a head that was read, with its kind and argument; a byte more was read than pending numbers were given out
+    -- a head that was read, with its kind and argument; a byte more was read than pending numbers
+    -- were given out
     module _ {S : List Frame} {m₀ m : Mem} (w : Good x I S m₀ m) (l : m₀.at < m.at) (low : m.pending < m.at) (tag b : ℕ) (byte_low : b < 256) where
       abbrev a : ℕ
       a = (head_of x.sheet b).argument

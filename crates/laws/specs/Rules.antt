@@ -1,6 +1,7 @@
--- The elementary steps of a reading, as rules for an invariant: what holds at the start and is kept by each step holds of every reading.
--- The invariant I speaks of the objects that are being read, the innermost first, and of what a reader has, also where it refuses; W speaks
--- of a value that was read, until it is kept or dropped. Assumes nothing: these are definitions.
+-- The elementary steps of a reading, as rules for an invariant: what holds at the start and is kept
+-- by each step holds of every reading. The invariant I speaks of the objects that are being read,
+-- the innermost first, and of what a reader has, also where it refuses; W speaks of a value that
+-- was read, until it is kept or dropped. Assumes nothing: these are definitions.
 use Rattle.std.specs.Prelude.{◌≡◌, Bool, true, false, List, [], ◌∷◌, ℕ, ◌+◌, ◌*◌, ◌/◌, ◌^◌, ◌<◌, ◌≤◌, length, Some}
 use Rattle.sheet.specs.Sheet.{is_legacy}
 use Rattle.sheet.specs.declared.tests.Closing.TheVariants.{Synchronize}

@@ -1,4 +1,5 @@
--- What holds of a call's input, and of what a reader has at its start and at its end. Assumes nothing: these are definitions.
+-- What holds of a call's input, and of what a reader has at its start and at its end. Assumes
+-- nothing: these are definitions.
 use Rattle.std.specs.Prelude.{◌≡◌, true, ℕ, ◌*◌, ◌^◌, ◌<◌, ◌≤◌, length, get_or}
 use Rattle.sheet.specs.Sheet.{usable}
 use Rattle.tables.specs.declared.values.SlotValue.{SlotValue}
@@ -31,12 +32,14 @@ pub record Sound (x : Input) (m : Mem) : Type 0 where
   pub waiting_low : m.waiting ≤ m.slots.count
   pub long_low : m.long_integers ≤ m.at
 
--- and at every index: chunk numbers are no higher than the cursor, and slot counts than the number of slots
+-- and at every index: chunk numbers are no higher than the cursor, and slot counts than the number
+-- of slots
 pub record Counted (m : Mem) : Type 0 where
   pub chunk_low : (s : ℕ) → get_or m.alloc.cur s 0 ≤ m.at
   pub count_low : (o : ℕ) → field 4 m.objects.rows o 3 ≤ m.slots.count
 
--- from m a reader came to m': the cursor has not fallen, no count has fallen, and no table has changed its length
+-- from m a reader came to m': the cursor has not fallen, no count has fallen, and no table has
+-- changed its length
 pub record Onward (m m' : Mem) : Type 0 where
   pub at_up : m.at ≤ m'.at
   pub objects_up : m.objects.count ≤ m'.objects.count

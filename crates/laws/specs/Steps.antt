@@ -1,4 +1,5 @@
--- Ways to prove that a reader keeps what it has in order: laws of the combinators, and of each change of what a reader has. Assumes nothing.
+-- Ways to prove that a reader keeps what it has in order: laws of the combinators, and of each
+-- change of what a reader has. Assumes nothing.
 use Rattle.std.specs.Prelude.{if◌then◌else◌, ◌≡◌, refl, Bool, true, false, List, [], ◌∷◌, ℕ, ◌+◌, ◌*◌, ◌^◌, ◌<◌, ◌≤◌, ltb, eqb, length, get_or, set}
 use Rattle.std.proofs.Common.{ap, le_trans, arith, ltb-true, eqb-true, length-set}
 use Rattle.std.proofs.lemmas.Bool.{eqb-false}

@@ -1,5 +1,6 @@
--- Which slots wait, after each change of the slot table: waits is 1 only at kind 13, under a number that was given out, at most one slot
--- waits under a number, and the count of those that wait is exact. Assumes nothing.
+-- Which slots wait, after each change of the slot table: waits is 1 only at kind 13, under a number
+-- that was given out, at most one slot waits under a number, and the count of those that wait is
+-- exact. Assumes nothing.
 use Rattle.std.specs.Prelude.{if◌then◌else◌, ◌≡◌, Bool, ◌≢◌, List, eqb, get_or}
 use Rattle.std.proofs.Math.Path.{refl}
 use Rattle.std.proofs.Common.{sym, ap, ◌∙◌, subst, add-one}

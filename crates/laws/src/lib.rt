@@ -1,2 +1,3 @@
-// Pure laws of the definition: what every reader keeps. It has no code: see specs/ and proofs/.
+//! Laws of the definition alone: what every reader of it keeps. It has no code: see specs/ and
+//! proofs/.
 #![tactic(auto)]

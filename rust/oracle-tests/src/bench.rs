@@ -1,5 +1,7 @@
 //! The functions of docs/BENCH-INTEGRATION.md, word for word, run on both sides.
 
+use crate::real::{payloads, rust_is_here};
+use oracle::real::Payload;
 use oracle::serializer;
 use oracle::tables::VersionTable;
 
@@ -41,16 +43,15 @@ fn page_has_these_functions() {
 
 #[test]
 fn sums_before_and_after() {
-    let Some(payloads) = crate::real::payloads() else {
+    if !rust_is_here() {
         return;
-    };
+    }
     let mut same = 0;
-    for (name, input, expected) in payloads {
+    for Payload { sheet, name, input } in payloads() {
         let table = input.sheet.table(&input.trusted);
         let before = sum_before(&input.payload, &table, &input.reserve);
         let after = sum_after(&input.payload, &table, &input.reserve);
-        assert_eq!(before.is_ok(), expected.accepted, "{name}");
-        assert_eq!(before.clone().ok(), after.ok(), "{name}");
+        assert_eq!(before.clone().ok(), after.ok(), "{sheet} {name}");
         same += before.is_ok() as usize;
     }
     assert!(same > 0);
@@ -59,6 +60,9 @@ fn sums_before_and_after() {
 /// `raw_len` by the list is `raw_len` by the names, for every root, with and without a shift.
 #[test]
 fn trusted_list_is_that_of_the_names() {
+    if !rust_is_here() {
+        return;
+    }
     let names = [
         "ByteArrayMap",
         "TrustedByteArrayMap",

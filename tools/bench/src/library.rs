@@ -51,7 +51,8 @@ const OTHER: u64 = 0xabab_abab_abab_abab;
 /// The seed of the index of legacy addresses.
 pub static SEED: AtomicU64 = AtomicU64::new(0);
 
-/// As much scratch as keeps the library from searching: a place for each pending number, in legacy then the index of addresses.
+/// As much scratch as keeps the library from searching: a place for each pending number, in legacy
+/// then the index of addresses.
 fn scratch_length(bytes: usize, legacy: bool, addresses: usize) -> usize {
     bytes + if legacy { 9 + 8 * addresses } else { 0 }
 }

@@ -1,4 +1,5 @@
-//! Times the library beside the Rust that it is a port of, and beside a walker written by hand (twin.rs), on the same payloads.
+//! Times the library beside the Rust that it is a port of, and beside a walker written by hand
+//! (twin.rs), on the same payloads.
 
 mod clock;
 mod library;
@@ -19,9 +20,11 @@ use std::sync::atomic::Ordering;
 use std::time::{Duration, Instant};
 
 const USAGE: &str = "usage: bench [--sizes MB,MB,..] [--repeats N] [--seconds S] [--variables N]
-             [--only TEXT] [--without rust] [--without scratch] [--seed N] [--real FOLDER] [--stack yes]";
+             [--only TEXT] [--without rust] [--without scratch] [--seed N]
+             [--real FOLDER or none] [--payloads N] [--stack yes]";
 const MB: f64 = 1048576.0;
-/// At the largest size the time for a byte is at most so many times that at the smallest; and at most so many times the twin's.
+/// At the largest size the time for a byte is at most so many times that at the smallest; and at
+/// most so many times the twin's.
 const GROWTH_AIM: f64 = 1.5;
 const TWIN_AIM: f64 = 2.0;
 
@@ -37,6 +40,8 @@ struct Options {
     rust: bool,
     scratch: bool,
     real: Option<PathBuf>,
+    /// How many real payloads are timed.
+    payloads: usize,
     stack: bool,
 }
 
@@ -47,9 +52,10 @@ fn options() -> Result<Options, String> {
         limit: Duration::from_secs(2),
         variables: 0,
         only: String::new(),
-        rust: true,
+        rust: oracle::PRESENT,
         scratch: true,
-        real: None,
+        real: Some(oracle::real::folder()),
+        payloads: 3,
         stack: false,
     };
     let mut words = std::env::args().skip(1);
@@ -68,7 +74,9 @@ fn options() -> Result<Options, String> {
             "--without" if value == "rust" => given.rust = false,
             "--without" if value == "scratch" => given.scratch = false,
             "--seed" => library::SEED.store(value.parse().map_err(|_| USAGE)?, Ordering::Relaxed),
+            "--real" if value == "none" => given.real = None,
             "--real" => given.real = Some(value.into()),
+            "--payloads" => given.payloads = number(&value)? as usize,
             "--stack" => given.stack = value == "yes",
             _ => return Err(USAGE.into()),
         }
@@ -102,16 +110,15 @@ struct Times {
 
 fn run(given: &Options) -> Result<(), String> {
     let wanted = |name: &str| name.contains(&given.only);
-    let mut real = Vec::new();
-    if let Some(folder) = &given.real {
-        for (sheet, name) in real::PAYLOADS {
-            let title = format!("{sheet} {name}");
-            if wanted(&title) {
-                real.push((title, real::call(folder, sheet, name)?));
-            }
-        }
+    let real = match &given.real {
+        Some(folder) => real::calls(folder, given.payloads, wanted)?,
+        None => Vec::new(),
+    };
+    if !oracle::PRESENT {
+        eprintln!("{}", oracle::WANTED);
     }
-    // The Rust asks for several environment variables for each byte, and each asking takes longer the more there are.
+    // The Rust asks for several environment variables for each byte, and each asking takes longer
+    // the more there are.
     std::env::vars_os().for_each(|(name, _)| std::env::remove_var(name));
     (0..given.variables).for_each(|k| std::env::set_var(format!("VARIABLE_{k}"), "value"));
 
@@ -144,7 +151,7 @@ fn run(given: &Options) -> Result<(), String> {
 
 fn print_notes(given: &Options) {
     let mut timed = ROWS.iter().filter(|row| row.name.contains(&given.only));
-    if timed.any(|row| row.family == Family::Six) {
+    if given.rust && timed.any(|row| row.family == Family::Six) {
         println!();
         println!(
             "The Rust's time for 6.x repeats grows with the square of a chain's length: chains are short."
@@ -204,7 +211,10 @@ fn measured(given: &Options, name: &str, call: &Call, aim: f64) -> Result<Timed,
     };
     let plain = !input.sheet.legacy();
     let mut tables = exact(given, name, call, !plain)?;
-    let first = check_rust(name, &input, library::graph(call, &mut tables).1)?;
+    let first = match oracle::PRESENT {
+        true => check_rust(name, &input, library::graph(call, &mut tables).1)?,
+        false => Duration::MAX,
+    };
     let mut other = plain.then(|| tables.clone());
     if let Some(other) = &mut other {
         check_twin(name, call, &mut tables, other)?;

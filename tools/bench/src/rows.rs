@@ -1,4 +1,5 @@
-//! The generated payloads, one kind of item each. The first object holds the items, unless a row says otherwise.
+//! The generated payloads, one kind of item each. The first object holds the items, unless a row
+//! says otherwise.
 
 use crate::library::Call;
 use crate::sheets::Family;
@@ -12,7 +13,8 @@ pub struct Row {
     items: fn(usize) -> Items,
 }
 
-/// What follows the first object's map: its bytes, how many words they fill, and what then stands in the closing section.
+/// What follows the first object's map: its bytes, how many words they fill, and what then stands
+/// in the closing section.
 struct Items {
     bytes: Vec<u8>,
     words: usize,
@@ -84,7 +86,8 @@ impl Row {
         // The first object's head, its map and kSynchronize.
         let around = 7;
         let items = (self.items)(size.saturating_sub(around));
-        // In legacy the first object lies in space 1, so that the others lie in space 0 from offset 0 on.
+        // In legacy the first object lies in space 1, so that the others lie in space 0 from offset
+        // 0 on.
         let mut payload = vec![NEW + self.family.legacy() as u8];
         payload.extend((((items.words + 1) as u32) << 2 | 3).to_le_bytes());
         payload.push(ROOT + 5);
@@ -214,7 +217,8 @@ fn only_one(size: usize) -> Items {
     items
 }
 
-/// Legacy objects of one word, then as many back-references to the offset that `offset` gives for the number of objects.
+/// Legacy objects of one word, then as many back-references to the offset that `offset` gives for
+/// the number of objects.
 fn legacy(size: usize, mut offset: impl FnMut(usize) -> usize) -> Items {
     let longest = ONE_WORD.len() + 2 + integer(size).len();
     let count = size / longest;
@@ -260,8 +264,9 @@ fn by_number(size: usize) -> Items {
     items
 }
 
-/// Two objects in each chunk, the second at an address whose bucket is one of few, and scattered references to these: near the worst case of
-/// the search, since four in five end in lists. The bucket is computed as crates/address_index/src/layout.rt does, with the seed 0; with another
+/// Two objects in each chunk, the second at an address whose bucket is one of few, and scattered
+/// references to these: near the worst case of the search, since four in five end in lists. The
+/// bucket is computed as crates/address_index/src/layout.rt does, with the seed 0; with another
 /// seed (`--seed`) they do not collide.
 fn colliding(size: usize) -> Items {
     let longest = 12 + 1 + integer(size).len() + 4;
@@ -271,8 +276,9 @@ fn colliding(size: usize) -> Items {
         let mixed = ((chunk as u64) << 17 | block).wrapping_mul(11400714819323198485) >> 32;
         mixed * buckets >> 32
     };
-    let blocks: Vec<u64> =
-        (0..count).map(|chunk| (1..).find(|&block| start(chunk, block) < buckets / 256 + 1).expect("a block")).collect();
+    let blocks: Vec<u64> = (0..count)
+        .map(|chunk| (1..).find(|&block| start(chunk, block) < buckets / 256 + 1).expect("a block"))
+        .collect();
     let mut items = Items { bytes: Vec::new(), words: 0, closing: Vec::new() };
     for (chunk, block) in blocks.iter().enumerate() {
         if 0 < chunk {

@@ -4,7 +4,7 @@ use oracle::sheet::NAMES;
 
 const ABSENT: u16 = 65535;
 
-/// Sheet A of document 01.
+/// Sheet A (docs/FORMAT.md, "Examples").
 const A: &str = "kNewObject 00 kBackref 08 kReadOnlyHeapRef 09 kRootArray 0A kAttachedReference 0B kNop 0C
     kSynchronize 0D kRegisterPendingForwardRef 0E kResolvePendingForwardRef 0F kWeakPrefix 10
     kClearedWeakReference 11 kVariableRawData 12 kVariableRepeat 13 kRootArrayConstants 40 kFixedRawData 60
@@ -19,6 +19,7 @@ const LEGACY: &str = "kNewObject 00 kBackref 08 kRootArray 11 kAttachedReference
 /// What makes the legacy sheet one of 6.x.
 const SIX: &str = "kBackrefWithSkip 30 kHotObjectWithSkip 38 kRootArrayConstantsWithSkip A0 kSkip 20";
 
+/// What kind of sheet a row's payload is written under.
 #[derive(Clone, Copy, PartialEq)]
 pub enum Family {
     Modern,

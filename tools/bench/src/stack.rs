@@ -1,4 +1,5 @@
-//! How much stack a call takes: it is made in a thread whose stack was filled with a pattern, and what still holds it was not used.
+//! How much stack a call takes: it is made in a thread whose stack was filled with a pattern, and
+//! what still holds it was not used.
 
 use crate::library::{graph, Call, Tables};
 use crate::sheets::Family;
@@ -41,7 +42,8 @@ extern "C" fn run(work: *mut c_void) -> *mut c_void {
     null_mut()
 }
 
-/// The bytes of its stack that a thread has used after this work, and the number that the call gave.
+/// The bytes of its stack that a thread has used after this work, and the number that the call
+/// gave.
 fn used(call: Option<Call>) -> (usize, u64) {
     let call = call.map(|call| {
         let tables = Tables::enough(call.payload.len(), true);
@@ -74,7 +76,8 @@ enum Place {
     Entry,
 }
 
-/// Objects inside each other, each the last slot of the one around it or its map, with a back-reference in the innermost place.
+/// Objects inside each other, each the last slot of the one around it or its map, with a
+/// back-reference in the innermost place.
 fn nested(family: Family, place: Place, objects: usize, as_map: bool) -> Call {
     let root = 0x45;
     let mut payload: Vec<u8> = match place {
@@ -101,8 +104,9 @@ fn nested(family: Family, place: Place, objects: usize, as_map: bool) -> Call {
     Call { sheet: family.numbers(), payload, reserve: family.reservations() }
 }
 
-/// Kinds of deep payloads: family and place, how many objects lie inside each other, the stack that the call takes with each in the slot and
-/// in the map of the one around it, and the number that it gives.
+/// Kinds of deep payloads: family and place, how many objects lie inside each other, the stack that
+/// the call takes with each in the slot and in the map of the one around it, and the number that it
+/// gives.
 pub fn measured() -> Vec<(&'static str, usize, [usize; 2], u64)> {
     let (nothing, _) = used(None);
     let kinds = [

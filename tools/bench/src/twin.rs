@@ -1,6 +1,7 @@
-//! A walker written by hand for speed, as a mark of what is possible: it fills the same tables by one switch over the head byte, and clears
-//! what lies past their records.
-//! It reads accepted payloads under plain sheets without a trusted list; what it refuses gets a number without a place, and its tables stay.
+//! A walker written by hand for speed, as a mark of what is possible: it fills the same tables by
+//! one switch over the head byte, and clears what lies past their records. It reads accepted
+//! payloads under plain sheets without a trusted list; what it refuses gets a number without a
+//! place, and its tables stay.
 
 use crate::library::{Call, Outcome, Tables, FIELDS};
 use oracle::sheet::NAMES;
@@ -52,7 +53,8 @@ impl Sheet<'_> {
         Some(self.0[place] as usize).filter(|n| *n != 65535)
     }
 
-    /// What each byte means, with its argument. Of several names that hold a byte the first is obeyed.
+    /// What each byte means, with its argument. Of several names that hold a byte the first is
+    /// obeyed.
     fn heads(&self) -> [(Head, u8); 256] {
         let new = self.get("kNewObject").unwrap_or(0);
         let opens = self.get("kBackref").unwrap_or(0).saturating_sub(new);

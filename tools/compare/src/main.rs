@@ -1,21 +1,20 @@
-//! Compares the port with the Rust on generated inputs and on real payloads.
+//! Compares the library with the Rust on generated inputs and on real payloads.
 
 mod payloads;
 mod port;
 mod random;
-mod real;
 mod rust;
 mod sheets;
 
 use oracle::sheet::{Sheet as Numbers, NAMES};
-use oracle::Input;
+use oracle::{real, Input};
 use port::{Call, Graph, FIELDS};
 use random::Random;
 use std::collections::BTreeMap;
 use std::path::PathBuf;
 use std::process::ExitCode;
 
-const USAGE: &str = "usage: compare [--seed N] [--count N] [--show N] [--real FOLDER]";
+const USAGE: &str = "usage: compare [--seed N] [--count N] [--show N] [--real FOLDER or none]";
 const TOP: u32 = 1 << 31;
 
 struct Options {
@@ -37,7 +36,7 @@ struct Tally {
 }
 
 fn options() -> Result<Options, String> {
-    let mut given = Options { seed: 1, count: 10_000, show: 5, real: None };
+    let mut given = Options { seed: 1, count: 10_000, show: 5, real: Some(real::folder()) };
     let mut words = std::env::args().skip(1);
     while let Some(word) = words.next() {
         let value = words.next().ok_or(USAGE)?;
@@ -46,6 +45,7 @@ fn options() -> Result<Options, String> {
             "--seed" => given.seed = number()?,
             "--count" => given.count = number()?,
             "--show" => given.show = number()? as usize,
+            "--real" if value == "none" => given.real = None,
             "--real" => given.real = Some(value.into()),
             _ => return Err(USAGE.into()),
         }
@@ -54,7 +54,11 @@ fn options() -> Result<Options, String> {
 }
 
 fn main() -> ExitCode {
-    let given = match options() {
+    let given = options().and_then(|given| match oracle::PRESENT {
+        true => Ok(given),
+        false => Err(oracle::WANTED.into()),
+    });
+    let given = match given {
         Ok(given) => given,
         Err(text) => {
             eprintln!("{text}");
@@ -83,9 +87,10 @@ fn main() -> ExitCode {
     if let Some(folder) = &given.real {
         match real::payloads(folder) {
             Ok(found) => {
-                for (family, name, call) in found {
-                    let difference = compared(&mut capture, &mut tally, &family, &call);
-                    tally.report(&format!("{family} {name}"), &call, difference);
+                for real::Payload { sheet, name, input } in found {
+                    let call = call(input);
+                    let difference = compared(&mut capture, &mut tally, &sheet, &call);
+                    tally.report(&format!("{sheet} {name}"), &call, difference);
                 }
             }
             Err(text) => {
@@ -99,6 +104,18 @@ fn main() -> ExitCode {
 }
 
 // ---- inputs
+
+/// The call of a real payload.
+fn call(input: Input) -> Call {
+    Call {
+        sheet: input.sheet.numbers().to_vec(),
+        scratch: Call::full_scratch(&input.payload),
+        fill: input.payload.len() as u64,
+        payload: input.payload,
+        reserve: input.reserve,
+        trusted: input.trusted,
+    }
+}
 
 fn generated(seed: u64, sheets: &[sheets::Sheet]) -> (String, Call) {
     let random = &mut Random::new(seed);
@@ -139,7 +156,8 @@ fn generated(seed: u64, sheets: &[sheets::Sheet]) -> (String, Call) {
     (sheet.family.into(), call)
 }
 
-/// Too little scratch for pending numbers; enough for these, and none, too little or some for the index of legacy addresses; enough for both.
+/// Too little scratch for pending numbers; enough for these, and none, too little or some for the
+/// index of legacy addresses; enough for both.
 fn scratch_length(random: &mut Random, payload: &[u8]) -> usize {
     let bytes = payload.len();
     let index = bytes + 9;
@@ -149,7 +167,8 @@ fn scratch_length(random: &mut Random, payload: &[u8]) -> usize {
     random.one_of(&[0, 1, 3, 64, bytes, bytes + 8, index, index + 8, some, less, full, 100_000])
 }
 
-/// Inputs at the limits of document 01 and one past them, with its answers. The payload, zeros, opens objects until they lie too deep.
+/// Inputs at the limits of lengths and one past them, with the answers that docs/FORMAT.md says
+/// ("Refusals"). The payload, zeros, opens objects until they lie too deep.
 fn limits(sheets: &[sheets::Sheet]) -> Vec<(&'static str, Call, &'static str)> {
     let call = |payload: usize, reserve: usize| Call {
         sheet: sheets[0].numbers.to_vec(),
@@ -180,7 +199,8 @@ fn empty(sheet: &sheets::Sheet) -> Call {
     }
 }
 
-/// A payload as long as one may be, of one object whose words are all root constants: what differs, if anything does.
+/// A payload as long as one may be, of one object whose words are all root constants: what differs,
+/// if anything does.
 fn longest(sheet: &sheets::Sheet) -> Option<String> {
     let bytes = oracle::MOST_BYTES;
     let words = bytes - 6;
@@ -266,8 +286,8 @@ fn against_rust(
     different(&got, &wanted)
 }
 
-/// Where kResolvePendingForwardRef has the byte of another name, values that the closing section drops may be missing in what is rebuilt from
-/// the Rust's answer (tools/oracle).
+/// Where kResolvePendingForwardRef has the byte of another name, values that the closing section
+/// drops may be missing in what is rebuilt from the Rust's answer (tools/oracle).
 fn may_hide_values(sheet: &Numbers) -> bool {
     let numbers = sheet.numbers().try_into().expect("a sheet that was taken has 58 numbers");
     let sheet = sheets::Sheet { family: "", numbers };
@@ -310,8 +330,8 @@ fn different(got: &str, wanted: &str) -> Option<String> {
     Some(format!("{got}, the Rust has {wanted}"))
 }
 
-/// Without scratch, with room in the index for half of the records, and with as much as is of use, which holds other numbers than before, the
-/// graph is the same.
+/// Without scratch, with room in the index for half of the records, and with as much as is of use,
+/// which holds other numbers than before, the graph is the same.
 fn other_scratch(call: &Call, graph: &Graph) -> Option<String> {
     if graph.number != 0 {
         return None;
@@ -325,7 +345,8 @@ fn other_scratch(call: &Call, graph: &Graph) -> Option<String> {
     })
 }
 
-/// With rooms that are just enough the answer is the same; with one record less in one table it is 3.
+/// With rooms that are just enough the answer is the same; with one record less in one table it is
+/// 3.
 fn other_rooms(tally: &mut Tally, call: &Call, graph: &Graph) -> Option<String> {
     if graph.number != 0 || call.payload.len() > 100_000 {
         return None;

@@ -1,4 +1,5 @@
-//! Payloads under a sheet, written item by item after document 01, most of them such that they are accepted; and damaged and random ones.
+//! Payloads under a sheet, written item by item after docs/FORMAT.md, most of them such that they
+//! are accepted; and damaged and random ones.
 
 use crate::random::Random;
 use crate::sheets::Sheet;
@@ -581,7 +582,8 @@ impl<'a> Writer<'a> {
         self.out
     }
 
-    /// Legacy objects of very many words, most of them left by kDeferred, so that addresses come near 2^32.
+    /// Legacy objects of very many words, most of them left by kDeferred, so that addresses come
+    /// near 2^32.
     pub fn write_large(mut self) -> Vec<u8> {
         let most = (1 << 30) - 1;
         let part = (1 << 32) / self.word;
@@ -592,7 +594,8 @@ impl<'a> Writer<'a> {
         for _ in 0..self.random.from_to(1, 4) {
             let words = self.random.one_of(&[1, 2, part / 2, part / 2 - 1, part - 1, part, part - 2, most]);
             let space = self.random.one_of(&[0, 0, 0, 1, 5]) % self.sheet.span("kNewObject").max(1);
-            // Behind a weak prefix, because a new object that begins an entry means another thing in legacy.
+            // Behind a weak prefix, because a new object that begins an entry means another thing
+            // in legacy.
             self.head("kWeakPrefix", 0);
             if self.sheet.legacy() && self.random.chance(300) {
                 self.alignment_byte();

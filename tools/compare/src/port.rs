@@ -1,4 +1,4 @@
-//! The port, by the declaration of include/dawichko.h.
+//! The library, by the declaration of include/dawichko.h.
 
 use crate::random::Random;
 use oracle::serializer::{Object, Ref, SlotValue};
@@ -30,8 +30,8 @@ extern "C" {
 pub const FIELDS: [usize; 4] = [4, 6, 3, 5];
 const LETTERS: [char; 4] = ['o', 's', 'v', 'd'];
 
-/// A call's input; the sheet may have any length. Scratch is as long as `scratch` says, and `fill` is the seed of what it and the tables
-/// hold before.
+/// A call's input; the sheet may have any length. Scratch is as long as `scratch` says, and `fill`
+/// is the seed of what it and the tables hold before.
 #[derive(Clone)]
 pub struct Call {
     pub sheet: Vec<u16>,
@@ -43,7 +43,8 @@ pub struct Call {
 }
 
 impl Call {
-    /// Scratch in which nothing has to be searched: a place for each pending number, then the index of legacy addresses.
+    /// Scratch in which nothing has to be searched: a place for each pending number, then the index
+    /// of legacy addresses.
     pub fn full_scratch(payload: &[u8]) -> usize {
         Call::scratch_for(payload, payload.len() / 2 + 2)
     }
@@ -71,7 +72,8 @@ pub struct Graph {
     pub tables: [Vec<u64>; 4],
 }
 
-/// Calls the port with tables of these lengths, which hold numbers at random before, as scratch does.
+/// Calls the library with tables of these lengths, which hold numbers at random before, as scratch
+/// does.
 pub fn graph(call: &Call, lengths: [usize; 4]) -> Graph {
     let [objects, slots, values, addresses] = lengths;
     let mut tables =

@@ -1,4 +1,5 @@
-//! Version sheets to try: of every family, with both word sizes, and with names on each other's bytes.
+//! Version sheets to try: of every family, with both word sizes, and with names on each other's
+//! bytes.
 
 use crate::random::Random;
 use oracle::sheet::NAMES;
@@ -75,6 +76,7 @@ impl Sheet {
     }
 }
 
+/// Sheet A (docs/FORMAT.md, "Examples").
 const A: &str = "kNewObject 00 kBackref 08 kReadOnlyHeapRef 09 kRootArray 0A kAttachedReference 0B kNop 0C
     kSynchronize 0D kRegisterPendingForwardRef 0E kResolvePendingForwardRef 0F kWeakPrefix 10
     kClearedWeakReference 11 kVariableRawData 12 kVariableRepeat 13 kRootArrayConstants 40 kFixedRawData 60

@@ -2,8 +2,11 @@
 
 use crate::sheet::Sheet;
 
+/// The head bytes of a payload under a sheet.
 pub struct Heads<'a> {
+    /// The sheet.
     pub sheet: &'a Sheet,
+    /// The payload.
     pub payload: &'a [u8],
 }
 
@@ -11,7 +14,9 @@ pub struct Heads<'a> {
 pub enum Prefix {
     /// Chunk change, alignment, indirect and protected pointer: the value is the next one's.
     Through(usize),
+    /// A weak reference to what follows.
     Weak(usize),
+    /// A repeat of what follows.
     Repeat(usize),
     /// A repeat of a root whose index is the one byte there.
     RepeatRoot(usize),
@@ -52,8 +57,9 @@ impl Heads<'_> {
         }
     }
 
-    /// Outside legacy the debug output takes eight bytes from kNewObject on for new objects and says
-    /// nothing when such a reference is read whole. Whether this hides one that may form a value.
+    /// Outside legacy the debug output takes eight bytes from kNewObject on for new objects and
+    /// says nothing when such a reference is read whole. Whether this hides one that may form a
+    /// value.
     pub fn hidden(&self) -> bool {
         let from = self.sheet.get("kBackref").unwrap_or(0);
         let to = self.sheet.get("kNewObject").unwrap_or(0) + 8;

@@ -1,26 +1,43 @@
-//! Runs the Rust that Dawichko is a port of, and gives its answer in the form of `graphlist`.
+//! Runs the Rust that Dawichko is a port of, and gives its answer in the form of `graphlist`
+//! (docs/GRAPHLIST.md). Where the Rust's source isn't given (JSCD_SRC), `WANTED` says what is
+//! wanted, and sheets and real payloads can be read all the same.
 
 pub mod heads;
 pub mod listing;
+pub mod real;
 pub mod refusal;
+pub mod sha256;
 pub mod sheet;
 pub mod tables;
 pub mod trace;
 
-// Takes in serializer.rs, unchanged (see build.rs).
+// Takes in serializer.rs, unchanged, as the module `serializer`; and says whether it could
+// (build.rs).
 include!(concat!(env!("OUT_DIR"), "/taken_in.rs"));
 
 use serializer::Object;
 use sheet::Sheet;
 use trace::Event;
 
+/// The longest payload that is read.
 pub const MOST_BYTES: usize = 16_777_216;
+/// The longest reservation list that is read.
 pub const MOST_RESERVATIONS: usize = 65_536;
 
+/// What is wanted where `PRESENT` is false.
+pub const WANTED: &str =
+    "the Rust is not built in: it is src/serializer.rs of the repository ejfkdev/jscd at \
+                          commit 40b0a43f7c; set JSCD_SRC to the folder of that file and build again";
+
+/// What a call reads.
 pub struct Input {
+    /// The numbers of the engine version.
     pub sheet: Sheet,
+    /// A byte for each root index, nonzero for those that set `raw_len`.
     pub trusted: Vec<u8>,
+    /// The payload, without the header of its file.
     pub payload: Vec<u8>,
+    /// The chunk reservations of a legacy file.
     pub reserve: Vec<u32>,
 }
 
@@ -31,7 +48,7 @@ impl Input {
         serializer::parse_with(payload, &table, &self.reserve).map(|cache| cache.objects)
     }
 
-    /// The refusal of an input that document 01 keeps from the walk.
+    /// The refusal of an input that is refused before the walk (docs/FORMAT.md, "Refusals").
     pub fn not_walked(&self) -> Option<&'static str> {
         if !self.sheet.usable() {
             return Some("refused 1 0");
@@ -55,6 +72,7 @@ impl Input {
     }
 }
 
+/// Reservations from little-endian bytes.
 pub fn reservations(bytes: &[u8]) -> Result<Vec<u32>, String> {
     if bytes.len() % 4 != 0 {
         return Err("the reservations are not whole 32-bit numbers".into());

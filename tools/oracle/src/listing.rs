@@ -1,4 +1,5 @@
-//! Rebuilds the four tables of document 01 from the Rust's object list and its debug output.
+//! Rebuilds the four tables (docs/FORMAT.md, "The tables") from the Rust's object list and its
+//! debug output.
 
 use crate::heads::{Heads, Prefix};
 use crate::serializer::{Object, Raw, Ref, SlotValue};
@@ -9,7 +10,7 @@ use crate::Input;
 type Record = [u64; 3];
 const UNKNOWN: Record = [0; 3];
 
-pub struct Listing<'a> {
+struct Listing<'a> {
     input: &'a Input,
     heads: Heads<'a>,
     objects: &'a [Object],
@@ -31,6 +32,8 @@ pub struct Listing<'a> {
     item: bool,
 }
 
+/// The listing of an accepted payload, in the form of `graphlist`. A value that the Rust could not
+/// be asked for is `v ? ? ?`.
 pub fn list(input: &Input, objects: &[Object], events: &[Event]) -> String {
     let mut listing = Listing {
         input,
@@ -278,7 +281,8 @@ fn moved_back(value: SlotValue, around: usize, back: impl Fn(usize) -> usize) ->
     }
 }
 
-/// Whether a legacy address, size or next free offset passes 32 bits. The Rust wraps it and goes on.
+/// Whether a legacy address, size or next free offset passes 32 bits. The Rust wraps it and goes
+/// on.
 pub fn passes_32_bits(events: &[Event]) -> bool {
     let limit = u32::MAX as u64;
     let mut sizes: Vec<u64> = Vec::new();

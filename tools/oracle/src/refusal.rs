@@ -3,7 +3,7 @@
 use crate::heads::{Heads, Prefix};
 use crate::trace::{digits, Event};
 
-/// `?` stands where the text says nothing that the table of document 01 has a number for.
+/// `?` stands where the text says nothing that has a number (docs/FORMAT.md, "Refusals").
 pub fn describe(text: &str, events: &[Event], heads: &Heads) -> String {
     match number_and_place(text, events, heads) {
         Some((number, place)) => format!("refused {number} {place}"),

@@ -27,6 +27,7 @@ const REQUIRED: usize = 9;
 const FROM_LEGACY: usize = 48;
 const ABSENT: u16 = 65535;
 
+/// The numbers of one engine version.
 pub struct Sheet {
     numbers: Vec<u16>,
 }
@@ -37,10 +38,12 @@ impl Sheet {
         (numbers.len() == NAMES.len()).then(|| Sheet { numbers: numbers.to_vec() })
     }
 
+    /// In the order of docs/SHEET.md.
     pub fn numbers(&self) -> &[u16] {
         &self.numbers
     }
 
+    /// From the bytes of a sheet.bin, two for each number; none where they are more or fewer.
     pub fn from_bytes(bytes: &[u8]) -> Option<Sheet> {
         let numbers = bytes.chunks(2).map(|c| u16::from_le_bytes([c[0], *c.get(1).unwrap_or(&0)]));
         let whole = bytes.len() == 2 * NAMES.len();
@@ -64,24 +67,29 @@ impl Sheet {
         Ok(Sheet { numbers })
     }
 
+    /// The number of a tag or constant, if it is present.
     pub fn get(&self, name: &str) -> Option<u16> {
         let place = NAMES.iter().position(|n| *n == name).expect("a name of the sheet");
         Some(self.numbers[place]).filter(|n| *n != ABSENT)
     }
 
+    /// Whether the payload has back-references by address, and a call reservations.
     pub fn legacy(&self) -> bool {
         self.get("kSpaceMask").is_some()
     }
 
+    /// Whether the payload is one of 6.x, with amounts that are skipped.
     pub fn six_x(&self) -> bool {
         self.get("kBackrefWithSkip").is_some()
     }
 
+    /// Bytes of a word.
     pub fn tagged_size(&self) -> u16 {
         self.numbers[TAGS_AND_CONSTANTS]
     }
 
-    /// Document 01's rule. The Rust tests only that the required names are there.
+    /// Whether the sheet is usable (docs/FORMAT.md, "The version sheet"). The Rust tests only that
+    /// the required names are there.
     pub fn usable(&self) -> bool {
         let within = |name, low, high| self.get(name).is_none_or(|n| (low..=high).contains(&n));
         matches!(self.tagged_size(), 4 | 8)

@@ -2,6 +2,7 @@
 
 use std::collections::HashMap;
 
+/// Tag values, constants and root names of a version.
 pub struct VersionTable {
     pub v8: String,
     pub tagged_size: u8,
@@ -11,6 +12,7 @@ pub struct VersionTable {
     pub serialization: SerializationCfg,
 }
 
+/// Tag values and constants by name.
 #[derive(Default)]
 pub struct SerializationCfg {
     pub tags: HashMap<String, u8>,
@@ -18,7 +20,8 @@ pub struct SerializationCfg {
 }
 
 impl VersionTable {
-    /// At or above a nonzero shift, the entry shifted down if it is a string's name; else the entry itself.
+    /// At or above a nonzero shift, the entry shifted down if it is a string's name; else the entry
+    /// itself.
     pub fn root_name(&self, index: usize) -> Option<&str> {
         let at = |i: usize| self.roots.get(i).map(String::as_str);
         let shifted = match self.roots_shift {

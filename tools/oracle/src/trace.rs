@@ -4,6 +4,7 @@ use std::io::{BufRead, BufReader};
 use std::path::Path;
 use std::process::{Command, Stdio};
 
+/// What a line of the debug output tells of the walk.
 pub enum Event {
     /// A new object's head and size have been read; objects are numbered in this order.
     Open { place: usize, space: u64, bytes: u64 },
@@ -21,10 +22,14 @@ pub enum Event {
     Tail { place: usize },
 }
 
+/// Whether a reference forms a value record, and how often it stands for what that holds.
 #[derive(Clone, Copy, PartialEq)]
 pub enum Holds {
+    /// No record.
     Other,
+    /// That of a weak reference.
     Weak,
+    /// That of a repeat of so many words.
     Repeat(usize),
 }
 

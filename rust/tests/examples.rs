@@ -1,4 +1,4 @@
-//! Document 01's examples a to l, and those that it has for runs alone.
+//! The examples a to l (docs/FORMAT.md, "Examples") and further short payloads, read by hand.
 
 mod common;
 
@@ -100,8 +100,9 @@ fn example_l() {
     assert_eq!(refusal("00 08 45 12 00 AA 46 0D"), (12, 0));
 }
 
+/// Example a without its last byte, and with a longer form of its size.
 #[test]
-fn examples_for_runs_alone() {
+fn example_a_changed() {
     assert_eq!(refusal("00 08 45 46"), (13, 4));
     let slots = [slot(0, 0, ROOT_5), slot(0, 1, ROOT_6)];
     accepted("00 09 00 45 46 0D", (&[object(16, 0, 2)], &slots, &[], 6));
@@ -186,7 +187,8 @@ fn trusted_list() {
 #[test]
 fn addresses_of_legacy() {
     let sheet = sheet(L8);
-    // An object in space 2 that has another one in the next chunk of that space, and a reference to it by address.
+    // An object in space 2 that has another one in the next chunk of that space, and a reference to
+    // it by address.
     let payload = bytes("02 10 45 46 15 02 02 04 46 0A 04 00 14");
     let call = Call { reservations: &SIX_SPACES, ..Call::new(&sheet, &payload) };
     let graph = read(&call).expect("the payload is accepted");
@@ -259,6 +261,6 @@ fn refusals() {
     let words = "the record to append next is the first past its table's room";
     assert_eq!(Refusal { number: Refusal::ROOM, place: 0 }.words(), words);
     for number in [0, 17, u64::MAX] {
-        assert_eq!(Refusal { number, place: 0 }.words(), "a number that document 01 does not have");
+        assert_eq!(Refusal { number, place: 0 }.words(), "a number that a call does not return");
     }
 }
