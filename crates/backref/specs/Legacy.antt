@@ -1,5 +1,5 @@
--- Legacy back-references: what the integers of one stand for, as the Rust's `legacy_backref` has it.
--- Assumes nothing: these are definitions.
+-- Legacy back-references (the Rust's `legacy_backref`): what the integers of one stand for. Assumes
+-- nothing: these are definitions.
 use Rattle.std.specs.Prelude.{if◌then◌else◌, Bool, not, ◌||◌, List, ℕ, ◌-◌, ◌*◌, ◌/◌, ◌%◌, ◌^◌, eqb, Option, Some, None}
 use Rattle.sheet.specs.Sheet.{is_six_x, map_space, lo_space, space_tag_size, page_size_bits, word_bytes}
 use Rattle.tables.specs.declared.values.Ref.{Ref}

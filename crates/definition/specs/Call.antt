@@ -68,8 +68,8 @@ abbrev pub table_of : (Mem → Table) → ℕ → Out (Unit {0}) → List ℕ
 table_of t length (got v m) = (t m).rows
 table_of t length (no n q m) = replicate length 0
 
--- the outcome as numbers: the refusal or 0; then the four record counts, `end` and how many integers
--- were longer than their values need, or the place
+-- the outcome as numbers: the refusal or 0; then the four record counts, `end` and the number of
+-- long integers, or the place
 pub record Answer : Type 0 where
   pub number : ℕ
   pub objects : ℕ

@@ -36,8 +36,8 @@ call_a p = record { sheet = sheet_a; payload = p; reservations = []; trusted = [
 abbrev pub rooms_a : Rooms
 rooms_a = record { objects = 16; slots = 48; values = 12; addresses = 5 }
 
--- what a call gives: 0, the four record counts, `end` and the number of long integers, then the records
--- of each table; or the refusal's number and place
+-- what a call gives: 0, the four record counts, `end` and the number of long integers, then the
+-- records of each table; or the refusal's number and place
 abbrev pub records : ℕ → Table → List ℕ
 records fields t = take (t.count * fields) t.rows
 
@@ -120,8 +120,8 @@ further_cases =
     ((call_l (0x07 ∷ 0x08 ∷ 0x45 ∷ 0x46 ∷ 0x14 ∷ [])), ((0 ∷ 1 ∷ 2 ∷ 0 ∷ 1 ∷ 5 ∷ 0 ∷ []) ∷ (16 ∷ 0 ∷ 0 ∷ 2 ∷ []) ∷ (0 ∷ 0 ∷ 2 ∷ 5 ∷ 0 ∷ 0 ∷ 0 ∷ 1 ∷ 2 ∷ 6 ∷ 0 ∷ 0 ∷ []) ∷ ([]) ∷ (7 ∷ 0 ∷ 0 ∷ 0 ∷ 0 ∷ []) ∷ [])) ∷
     -- a fault in a legacy closing section ends it; kNop bytes are still read from there
     ((call_l (0x00 ∷ 0x04 ∷ 0x45 ∷ 0xFF ∷ 0x13 ∷ 0x13 ∷ 0x14 ∷ 0x13 ∷ [])), ((0 ∷ 1 ∷ 1 ∷ 0 ∷ 1 ∷ 6 ∷ 0 ∷ []) ∷ (8 ∷ 0 ∷ 0 ∷ 1 ∷ []) ∷ (0 ∷ 0 ∷ 2 ∷ 5 ∷ 0 ∷ 0 ∷ []) ∷ ([]) ∷ (0 ∷ 0 ∷ 0 ∷ 0 ∷ 1 ∷ []) ∷ [])) ∷
-    -- integers longer than their values need are counted: a size in two bytes and a back-reference in
-    -- three, and not a root that needs its four
+    -- integers longer than their values need are counted: a size in two bytes and a back-reference
+    -- in three, and not a root that needs its four
     ((call_a (0x00 ∷ 0x0D ∷ 0x00 ∷ 0x45 ∷ 0x08 ∷ 0x02 ∷ 0x00 ∷ 0x00 ∷ 0x0A ∷ 0x03 ∷ 0x00 ∷ 0x00 ∷ 0x01 ∷ 0x0D ∷ [])), ((0 ∷ 1 ∷ 3 ∷ 0 ∷ 0 ∷ 14 ∷ 2 ∷ []) ∷ (24 ∷ 0 ∷ 0 ∷ 3 ∷ []) ∷ (0 ∷ 0 ∷ 2 ∷ 5 ∷ 0 ∷ 0 ∷ 0 ∷ 1 ∷ 1 ∷ 0 ∷ 0 ∷ 0 ∷ 0 ∷ 2 ∷ 2 ∷ 4194304 ∷ 0 ∷ 0 ∷ []) ∷ ([]) ∷ ([]) ∷ [])) ∷
     -- so is the chunk of a back-reference that the payload's end cuts, in the closing section
     ((call_l (0x00 ∷ 0x04 ∷ 0x45 ∷ 0x1D ∷ 0x08 ∷ 0x01 ∷ 0x00 ∷ [])), ((0 ∷ 1 ∷ 1 ∷ 0 ∷ 1 ∷ 7 ∷ 1 ∷ []) ∷ (8 ∷ 0 ∷ 0 ∷ 1 ∷ []) ∷ (0 ∷ 0 ∷ 2 ∷ 5 ∷ 0 ∷ 0 ∷ []) ∷ ([]) ∷ (0 ∷ 0 ∷ 0 ∷ 0 ∷ 1 ∷ []) ∷ [])) ∷

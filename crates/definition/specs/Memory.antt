@@ -71,9 +71,9 @@ pub record Table : Type 0 where
 abbrev pub table : List ℕ → ℕ → Table
 table rows count = record { rows = rows; count = count }
 
--- what a reader has: the cursor, the four tables, the hot ring, the next pending number and how many
--- slots wait, the with-skip amount that stands, the pending alignment, the chunk counters, how many
--- integers were longer than their values need, and the events recorded
+-- what a reader has: the cursor, the four tables, the hot ring, the next pending number and how
+-- many slots wait, the with-skip amount that stands, the pending alignment, the chunk counters, how
+-- many integers were longer than their values need, and the events recorded
 pub record Mem : Type 0 where
   pub at : ℕ
   pub objects : Table
@@ -185,8 +185,8 @@ unfoldable pub byte : Input → Reader ℕ
 byte x m =
     (if ltb m.at (length x.payload) then next_byte x else cut x) m
 
--- an integer was read whole, and is counted if it is longer than its value needs. Nothing else counts
--- integers; plain bytes are none
+-- an integer was read whole, and is counted if it is longer than its value needs. Nothing else
+-- counts integers; plain bytes are none
 abbrev pub past_int : Int → Mem → Mem
 past_int i m = with_long (m.long_integers + from_bool (is_long i)) (moved (m.at + i.count) m)
 

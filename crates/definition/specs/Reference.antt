@@ -43,7 +43,8 @@ of_hot None = refuse 9
 abbrev pub hot_place : ℕ → Reader SlotValue
 hot_place i m = of_hot (hot_at m.hot i) m
 
--- legacy: of one integer, in 6.x and where the space is numbered; no object has the number: refusal 15
+-- legacy: of one integer, in 6.x and where the space is numbered; no object has the number: refusal
+-- 15
 abbrev pub of_single : Option Ref → Reader SlotValue
 of_single (Some r) = refers_hot r
 of_single None = refuse 15
