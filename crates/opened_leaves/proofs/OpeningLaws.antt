@@ -1,5 +1,5 @@
 -- An object whose map is a leaf: its head, its map, its address and its slot 0. Assumes nothing.
-use Rattle.std.specs.Prelude.{if◌then◌else◌, ◌≡◌, refl, Bool, true, false, List, ℕ, ◌+◌, ◌*◌, ◌^◌, ◌<◌, ltb, eqb}
+use Rattle.std.specs.Prelude.{if◌then◌else◌, ◌≡◌, refl, Bool, true, false, List, ℕ, ◌+◌, ◌*◌, ◌^◌, ◌<◌, ◌≤◌, ltb, eqb}
 use Rattle.std.proofs.Common.{arith, ap, subst, lt-ltb}
 use Rattle.std.specs.Int.{from_bool}
 use Rattle.stream.specs.declared.putint.Int.{Int}
@@ -85,6 +85,10 @@ slot_kept x o v s l f b eo es =
     rw (f, b, eo, es, z)
 
 -- ---- where no leaf is the map
+
+pub bit_low : (b : Bool) → from_bool b ≤ 1
+bit_low true = omega arith
+bit_low false = omega arith
 
 -- the state after the object's record, where this integer stands before the map
 abbrev recorded : Int → State → State

@@ -9,8 +9,8 @@ use Rattle.objects.proofs.WaiterLaws.{indexed_plain}
 use Rattle.weak_leaves.proofs.WeakLaws.{weak_placed, weak_refused, unheld_refused}
 use Rattle.weak_leaves.proofs.weak.place_weak.Goals as goal
 
-pub overflow_add-t-2 : goal.overflow_add-t-2
-overflow_add-t-2 c =
+pub overflow_add-t-3 : goal.overflow_add-t-3
+overflow_add-t-3 c =
     let f = c.in_ok-leaf.ensures.is.leaf in
     omega (arith, c.requires.1, f.0.0, leaf_few c.args.w.now (c.args.s.at + 1) c.args.s.objects c.in_ok-leaf.leaf f c.args.s)
 
