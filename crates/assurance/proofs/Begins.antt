@@ -47,6 +47,7 @@ module _ (x : Input) where
   rules =
       record {
         on_move = (λ S m at h l g. on_map _ _ m.log (begun_up x m.at at (omega arith)) h);
+        on_long = (λ S m n h. h);
         on_object = (λ S m i h l. tt);
         on_root = (λ S m i h. tt);
         on_read_only = (λ S m c o h. tt);

@@ -83,6 +83,7 @@ module _ (x : Input) (P : List Frame → Table → Table → Table → List Even
   rules_of =
       record {
         on_move = (λ S m at h l g. h);
+        on_long = (λ S m n h. h);
         on_object = (λ S m i h l. tt);
         on_root = (λ S m i h. tt);
         on_read_only = (λ S m c o h. tt);

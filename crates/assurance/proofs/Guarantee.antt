@@ -5,7 +5,7 @@ use Rattle.definition.specs.Memory.{Table, Mem, no}
 use Rattle.definition.specs.Call.{Rooms, Call, graph, table_of}
 use Rattle.assurance.specs.Words.{Accepted}
 use Rattle.assurance.proofs.Assured.{assured}
-use Rattle.assurance.specs.Rooms.{events_same}
+use Rattle.assurance.specs.Rooms.{any_rooms, events_same}
 use Rattle.assurance.proofs.Prefix.{second_payload}
 use Rattle.assurance.specs.Guarantee.{Guaranteed}
 
@@ -17,6 +17,7 @@ guaranteed c rooms m a =
       graph_assured = s;
       second = λ p' short same. second_payload c rooms m a s.final s.final_ends_closing p' short same;
       events_of_payload = λ rooms' m' e. events_same c rooms rooms' m m' a.accepted e;
+      long_of_payload = λ rooms' m' e. (any_rooms c rooms rooms' m m' a.accepted e).long_same;
     }
 
 -- a refusal leaves every table zero

@@ -35,6 +35,7 @@ unfolding RangesBelow Any
 rules x =
     record {
       on_move = (λ S m at h l g. on_map _ _ m.log (λ es i. ranges_up es m.at at (omega arith) i) h);
+      on_long = (λ S m n h. h);
       on_object = (λ S m i h l. tt);
       on_root = (λ S m i h. tt);
       on_read_only = (λ S m c o h. tt);

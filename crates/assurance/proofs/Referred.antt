@@ -137,6 +137,7 @@ unfolding LeftPending FilledBy
 rules x =
     record {
       on_move = (λ S m at h l g. h);
+      on_long = (λ S m n h. h);
       on_object = (λ S m i h l. l);
       on_root = (λ S m i h. tt);
       on_read_only = (λ S m c o h. tt);

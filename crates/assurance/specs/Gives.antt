@@ -5,7 +5,7 @@ use Rattle.std.proofs.Common.{arith, ltb-true}
 use Rattle.stream.specs.declared.putint.Int.{Int}
 use Rattle.stream.specs.PutInt.{int_at}
 use Rattle.stream.proofs.ByteLaws.{Bytes}
-use Rattle.definition.specs.Memory.{Input, Mem, Out, got, no, Reader, and_then, moved, byte, after_int, int}
+use Rattle.definition.specs.Memory.{Input, Mem, Out, got, no, Reader, and_then, moved, byte, after_int, int, with_long}
 use Rattle.laws.specs.Leaves.{IntEnds, int_ends}
 use Rattle.assurance.specs.Words.{IntegerAt}
 
@@ -50,14 +50,14 @@ module _ (x : Input) where
   unfolding byte
   byte_gives Q m h = gives-choose Q (ltb m.at (length x.payload)) _ _ m (λ t. gives Q _ _ (h (ltb-true _ _ t))) (λ t. refused Q _ _ _)
 
-  after_int_lem : (Q : ℕ → Mem → Type 0) (m : Mem) (i : Option Int) → int_at x.payload m.at ≡ i → IntEnds x.payload m.at i → ((v at : ℕ) → IntegerAt x.payload m.at v → m.at < at → at ≤ length x.payload → Q v (moved at m)) → Gives Q (after_int x i m)
-  after_int_lem Q m (Some i) e l h = gives Q _ _ (h i.value (m.at + i.count) (i, e, refl) (omega (arith, l.0)) l.2)
+  after_int_lem : (Q : ℕ → Mem → Type 0) (m : Mem) (i : Option Int) → int_at x.payload m.at ≡ i → IntEnds x.payload m.at i → ((v at n : ℕ) → IntegerAt x.payload m.at v → m.at < at → at ≤ length x.payload → Q v (with_long n (moved at m))) → Gives Q (after_int x i m)
+  after_int_lem Q m (Some i) e l h = gives Q _ _ (h i.value (m.at + i.count) _ (i, e, refl) (omega (arith, l.0)) l.2)
   after_int_lem Q m None e l h = refused Q _ _ _
 
   -- the integer that stands at the cursor
-  pub int_reads : Bytes x.payload → (Q : ℕ → Mem → Type 0) (m : Mem) → ((v at : ℕ) → IntegerAt x.payload m.at v → m.at < at → at ≤ length x.payload → Q v (moved at m)) → Gives Q (int x m)
+  pub int_reads : Bytes x.payload → (Q : ℕ → Mem → Type 0) (m : Mem) → ((v at n : ℕ) → IntegerAt x.payload m.at v → m.at < at → at ≤ length x.payload → Q v (with_long n (moved at m))) → Gives Q (int x m)
   unfolding int
   int_reads bytes Q m h = after_int_lem Q m (int_at x.payload m.at) refl (int_ends x.payload m.at bytes) h
 
-  pub int_gives : Bytes x.payload → (Q : ℕ → Mem → Type 0) (m : Mem) → ((v at : ℕ) → m.at < at → at ≤ length x.payload → Q v (moved at m)) → Gives Q (int x m)
-  int_gives bytes Q m h = int_reads bytes Q m (λ v at i. h v at)
+  pub int_gives : Bytes x.payload → (Q : ℕ → Mem → Type 0) (m : Mem) → ((v at n : ℕ) → m.at < at → at ≤ length x.payload → Q v (with_long n (moved at m))) → Gives Q (int x m)
+  int_gives bytes Q m h = int_reads bytes Q m (λ v at n i. h v at n)

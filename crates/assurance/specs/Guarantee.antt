@@ -15,5 +15,6 @@ pub record Guaranteed (c : Call) (rooms : Rooms) (m : Mem) : Type 0 where
   -- with the same graph
   pub second : (p' : List ℕ) → length p' ≤ 16777216 → take (graph_assured.final + 1) p' ≡ take (graph_assured.final + 1) c.payload → Second c rooms m graph_assured.final p'
   -- what is read does not depend on the tables: another call with other rooms, if it is accepted,
-  -- reads the same
+  -- reads the same, and as many long integers
   pub events_of_payload : (rooms' : Rooms) (m' : Mem) → graph c rooms' ≡ got tt m' → events c rooms' ≡ events c rooms
+  pub long_of_payload : (rooms' : Rooms) (m' : Mem) → graph c rooms' ≡ got tt m' → m'.long_integers ≡ m.long_integers

@@ -13,7 +13,7 @@ use Rattle.tables.specs.declared.values.SlotValue.TheVariants.{Ref as IsRef, Rep
 use Rattle.tables.specs.declared.values.Fields.{Fields}
 use Rattle.tables.specs.Values.{fields_of, width_of}
 use Rattle.tables.specs.Records.{room}
-use Rattle.definition.specs.Memory.{Input, word, Kept, in_map, in_slot, Mem, Reader, ◌>>=◌, ◌>>◌, change, tell, moved, with_skip, noted, item, byte, int, has_room}
+use Rattle.definition.specs.Memory.{Input, word, Kept, in_map, in_slot, Mem, Reader, ◌>>=◌, ◌>>◌, change, tell, moved, with_skip, noted, item, byte, int, has_room, with_long}
 use Rattle.definition.specs.Slots.{add_slot, resolved, keep_item, place_item, waits_of}
 use Rattle.definition.specs.Object.{peek, add_object, large_byte, read_map, flags, flag_object, keep_map, resolves, items, closed, body, object}
 use Rattle.assurance.specs.PlainSheet.{PlainSheet, word_pos, not_legacy, not_six_x_lem, not_map_first, not_deferred}
@@ -53,11 +53,14 @@ module _ (x : Input) (bytes : Bytes x.payload) (plainly : PlainSheet x.sheet) wh
     pub good_move : (S : List Frame) (m : Mem) (at : ℕ) → Good S m → m.at < at → at ≤ length x.payload → Good S (moved at m)
     good_move S m at g l h = (base_same x S m g.0 (moved at m) h refl refl refl, rules.on_move S m at g.1 l h)
 
+    good_read : (S : List Frame) (m : Mem) (at n : ℕ) → Good S m → m.at < at → at ≤ length x.payload → Good S (with_long n (moved at m))
+    good_read S m at n g l h = (base_same x S m g.0 (with_long n (moved at m)) h refl refl refl, rules.on_long S (moved at m) n (rules.on_move S m at g.1 l h))
+
     pub byte_has : (S : List Frame) (m : Mem) → Good S m → Gives (λ b. Good S) (byte x m)
     byte_has S m g = byte_gives x (λ b. Good S) m (λ l. good_move S m (m.at + 1) g (omega arith) (omega arith))
 
     pub int_has : (S : List Frame) (m : Mem) → Good S m → Gives (λ n. Good S) (int x m)
-    int_has S m g = int_gives x bytes (λ n. Good S) m (λ v at l h. good_move S m at g l h)
+    int_has S m g = int_gives x bytes (λ n. Good S) m (λ v at n l h. good_read S m at n g l h)
 
     -- ---- an object's head, and its map
 
@@ -189,7 +192,7 @@ module _ (x : Input) (bytes : Bytes x.payload) (plainly : PlainSheet x.sheet) wh
       object_has S space tag m e q g =
           let P : ℕ → Mem → Type 0 = λ words m. (Good S m) × (IntegerAt x.payload (tag + 1) words) in
           gives_then P (Has S) (int x m) _
-          (int_reads x bytes P m (λ v at i l h. (good_move S m at g l h, subst (λ (a : ℕ). IntegerAt x.payload a v) e i)))
+          (int_reads x bytes P m (λ v at n i l h. (good_read S m at n g l h, subst (λ (a : ℕ). IntegerAt x.payload a v) e i)))
           (λ words m h. let Q : ℕ → Mem → Type 0 = λ o. Good (frame o (words * word x) 0 ∷ S) in
           gives_then Q (Has S) ((large_byte x space >> add_object x tag words) m) _
           (gives_then (Had S) Q (large_byte x space m) _ (large_has S space m h.0) (λ u m k. open_has S tag words m q h.1 k))

@@ -13,7 +13,7 @@ use Rattle.assurance.specs.SimulateCall.{Variant, calls, called_start}
 abbrev pub quieted : Mem → Mem
 quieted m =
     record
-    { at = m.at; objects = m.objects; slots = m.slots; values = m.values; addresses = m.addresses; hot = m.hot; pending = m.pending; waiting = m.waiting; skip = m.skip; alignment = m.alignment; alloc = m.alloc; log = off }
+    { at = m.at; objects = m.objects; slots = m.slots; values = m.values; addresses = m.addresses; hot = m.hot; pending = m.pending; waiting = m.waiting; skip = m.skip; alignment = m.alignment; alloc = m.alloc; long_integers = m.long_integers; log = off }
 
 abbrev pub quiet : {A : Type 0} → Out A → Out A
 quiet (got a m) = got a (quieted m)

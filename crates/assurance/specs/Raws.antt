@@ -85,6 +85,7 @@ rules : (x : Input) → Rules x Inv W
 rules x =
     record {
       on_move = (λ S m at h l g. h);
+      on_long = (λ S m n h. h);
       on_object = (λ S m i h l. on_map _ _ m.log (λ es g. tt) h);
       on_root = (λ S m i h. on_map _ _ m.log (λ es g. tt) h);
       on_read_only = (λ S m c o h. on_map _ _ m.log (λ es g. tt) h);

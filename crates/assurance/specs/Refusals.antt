@@ -1,5 +1,5 @@
 -- A call that is refused gets a number from 1 to 16 (docs/FORMAT.md, "Refusals"). Assumes nothing.
-use Rattle.std.specs.Prelude.{if◌then◌else◌, ◌≡◌, refl, Bool, true, false, not, ◌&&◌, ◌||◌, ltb, leb, List, length, get_or, set, Option, Some, None, Ok, Err}
+use Rattle.std.specs.Prelude.{if◌then◌else◌, ◌≡◌, refl, Bool, true, false, not, ◌&&◌, ◌||◌, ltb, leb, List, length, get_or, set, Option, Some, None}
 use Prim.Native.Nat.{ℕ, zero, suc, ◌+◌, ◌-◌, ◌*◌, ◌/◌, ◌<◌, ◌≤◌}
 use native.Mathlib.Omega.{arith}
 use borrow.Author.Tests.{eqb-true, eqb-false}
@@ -26,12 +26,11 @@ use Rattle.alloc.specs.declared.legacy_alloc.Request.{Request}
 use Rattle.alloc.specs.Fill.{fill_to_align}
 use Rattle.alloc.specs.Allocation.{Outcome, outcome, advance_of, placed, allocate_of}
 use Rattle.backref.specs.HotRing.{hot_at}
-use Rattle.backref.specs.declared.legacy.BackrefError.TheVariants.{Cut, Unknown}
-use Rattle.backref.specs.Legacy.{Answer, backref_of}
+use Rattle.backref.specs.Legacy.{is_single, single}
 use Rattle.definition.specs.Memory.{Input, word, Kept, in_map, in_slot, item, begins, Mem, Out, got, no, Reader, and_then, ◌>>=◌, ◌>>◌, give, change, refuse_at, moved, with_skip, aligned, noted, tell, after_int, byte, int, has_room}
 use Rattle.definition.specs.Slots.{add_value, add_slot, resolved, waits_of, keep_item, previous, place_item}
 use Rattle.definition.specs.Object.{peek, add_object, large_byte, change_chunk, allocate, alignment_byte, chunk_changes, map_first, read_map, flags, flag_object, keep_map, resolves, items, body, object}
-use Rattle.definition.specs.Reference.{skip_amount, backref_to, of_hot, hot_place, of_backref, legacy_reference, pending_reference, after_raw, raw_data, repeat_of, repeat_root, by_head, reference, ref_at}
+use Rattle.definition.specs.Reference.{skip_amount, backref_to, of_hot, hot_place, of_single, place_reference, after_first, legacy_reference, pending_reference, after_raw, raw_data, repeat_of, repeat_root, by_head, reference, ref_at}
 use Rattle.definition.specs.Closing.{entry, drop_reference, ends_legacy, after_entry, by_entry, entries, padding, closing}
 use Rattle.definition.specs.Call.{Call, input_of, top_space, walk, too_long, called}
 use Rattle.laws.specs.Leaves.{deferred_legacy}
@@ -78,14 +77,19 @@ module _ (x : Input) where
   skip_known : R (skip_amount x)
   skip_known = seq (int x) _ int_known (λ n m. tt)
 
-  backref_of_lem : (b : Answer) → R (of_backref x b)
-  backref_of_lem (Ok b) m = tt
-  backref_of_lem (Err Cut) m = omega arith
-  backref_of_lem (Err (Unknown n)) m = omega arith
+  single_known : (o : Option Ref) → R (of_single o)
+  single_known (Some r) m = tt
+  single_known None m = omega arith
+
+  first_known : (space first : ℕ) → R (after_first x space first)
+  first_known space first m =
+      pick (is_single x.sheet space) _ _ m
+      (λ _. single_known (single x.sheet m.addresses.rows m.addresses.count m.alignment space first) m)
+      (λ _. seq (int x) (λ second. place_reference x space (record { chunk = first; offset = second })) int_known (λ second m. tt) m)
 
   legacy_known : (space : ℕ) → R (legacy_reference x space)
   unfolding legacy_reference
-  legacy_known space m = backref_of_lem (backref_of x.sheet x.payload m.addresses.rows m.addresses.count m.alignment space m.at) m
+  legacy_known space = seq (int x) (after_first x space) int_known (first_known space)
 
   raw_of : (n : ℕ) (advances : Bool) (r : Option ℕ) → R (after_raw n advances r)
   raw_of n advances (Some end) m = tt

@@ -75,6 +75,7 @@ pub record SameRecords (m m' : Mem) : Type 0 where
   pub slots_same : m'.slots.count ≡ m.slots.count
   pub values_same : m'.values.count ≡ m.values.count
   pub addresses_same : m'.addresses.count ≡ m.addresses.count
+  pub long_same : m'.long_integers ≡ m.long_integers
   pub log_same : m'.log ≡ m.log
   pub object_rows : SameRows m.objects m'.objects
   pub slot_rows : SameRows m.slots m'.slots
@@ -111,6 +112,7 @@ module _ (c : Call) (rooms rooms' : Rooms) (m m' : Mem) (e : graph c rooms ≡ g
         slots_same = ap (λ m. m.slots.count) (sym meet);
         values_same = ap (λ m. m.values.count) (sym meet);
         addresses_same = ap (λ m. m.addresses.count) (sym meet);
+        long_same = ap (λ m. m.long_integers) (sym meet);
         log_same = ap (λ m. m.log) (sym meet);
         object_rows = rows_same (λ m. m.objects) (λ r. r.objects) (λ e m. refl);
         slot_rows = rows_same (λ m. m.slots) (λ r. r.slots) (λ e m. refl);

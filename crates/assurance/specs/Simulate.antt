@@ -54,7 +54,7 @@ longer extra =
 abbrev pub other : TableMaps → (Log → Log) → Mem → Mem
 other maps h m =
     record
-    { at = m.at; objects = wider maps.objects m.objects; slots = mapped maps.slots m.slots; values = wider maps.values m.values; addresses = mapped maps.addresses m.addresses; hot = m.hot; pending = m.pending; waiting = m.waiting; skip = m.skip; alignment = m.alignment; alloc = m.alloc; log = h m.log }
+    { at = m.at; objects = wider maps.objects m.objects; slots = mapped maps.slots m.slots; values = wider maps.values m.values; addresses = mapped maps.addresses m.addresses; hot = m.hot; pending = m.pending; waiting = m.waiting; skip = m.skip; alignment = m.alignment; alloc = m.alloc; long_integers = m.long_integers; log = h m.log }
 
 abbrev pub same_rooms : Rooms
 same_rooms = record { objects = 0; slots = 0; values = 0; addresses = 0 }

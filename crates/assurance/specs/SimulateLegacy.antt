@@ -1,6 +1,6 @@
 -- Two readings compared: what only legacy sheets have, back-references by address and allocation.
 -- Assumes nothing.
-use Rattle.std.specs.Prelude.{if◌then◌else◌, ◌≡◌, Bool, ◌||◌, get_or, Option, Some, None, Ok, Err}
+use Rattle.std.specs.Prelude.{if◌then◌else◌, ◌≡◌, Bool, ◌||◌, get_or, Option, Some, None}
 use Rattle.std.proofs.Math.Path.{refl, ap, subst}
 use Rattle.std.proofs.Common.{sym, ◌∙◌, ⊎_elim, eq-or-lt_of_le, arith}
 use Rattle.std.proofs.Math.Bool.{true, false}
@@ -8,9 +8,7 @@ use mathlib.Core.List.{List}
 use Prim.Native.Nat.{ℕ, zero, suc, ◌+◌, ◌-◌, ◌*◌, ◌/◌, ◌<◌, ◌≤◌}
 use borrow.Author.Tests.{leb-true, leb-false, eqb-true, lt-leb, le-leb}
 use Rattle.std.proofs.Math.Dec.{ltb, leb, eqb}
-use Rattle.stream.specs.declared.putint.Int.{Int}
-use Rattle.stream.specs.PutInt.{int_at}
-use Rattle.sheet.specs.Sheet.{is_six_x, word_bytes}
+use Rattle.sheet.specs.Sheet.{word_bytes}
 use Rattle.tables.specs.declared.values.Ref.{Ref}
 use Rattle.tables.specs.declared.values.SlotValue.{SlotValue}
 use Rattle.tables.specs.Values.{ref_fields, fields_of}
@@ -22,14 +20,13 @@ use Rattle.alloc.specs.declared.resolve.Place.{Place}
 use Rattle.alloc.specs.Fill.{fill_to_align}
 use Rattle.alloc.specs.Resolve.{is_address, addressed, or_else, resolve_of, ordinal_from}
 use Rattle.alloc.specs.Allocation.{Outcome, outcome, advance_of, allocate_of}
-use Rattle.backref.specs.declared.legacy.BackrefError.TheVariants.{Cut, Unknown}
-use Rattle.backref.specs.Legacy.{Answer, numbered_as, by_number, by_place, numbered, placed, with_int, index_of, unpacked, packed_backref, plain_backref, backref_of}
+use Rattle.backref.specs.Legacy.{numbered_as, by_number, by_place, placed, index_of, unpacked, is_single, number_in, single}
 use Rattle.definition.specs.Memory.{word, table, Mem, change, refuse, with_alloc}
 use Rattle.definition.specs.Object.{after_allocation, allocate}
-use Rattle.definition.specs.Reference.{of_backref, legacy_reference}
+use Rattle.definition.specs.Reference.{of_single, single_reference, place_reference, after_first, legacy_reference}
 use Rattle.assurance.specs.Wider.{resolve_of_same, ordinal_from_same}
 use Rattle.assurance.specs.TableMap.{TableMap, SameLength, map_room, map_written}
-use Rattle.assurance.specs.Simulate.{Pair, x', φ, Recorded, Fits, fit_moved, Follows, Alike, Any, gives, stops}
+use Rattle.assurance.specs.Simulate.{Pair, x', φ, Recorded, Fits, Follows, Alike, Any, gives, stops, choose_at, then_law, int_law}
 
 -- a reference to an object is to one whose record is within its table
 abbrev pub RecordedRef : Pair → Ref → Type 0
@@ -75,69 +72,83 @@ module _ (S : Pair) (t : List ℕ) where
       (pick_recorded (eqb index 0) _ _ (recorded k (omega arith)) (ordinal_recorded space (index - 1) (k + 1) n more))
       (ordinal_recorded space index (k + 1) n more)
 
+abbrev RecordedIf : Pair → Option Ref → Type 0
+RecordedIf S (Some r) = RecordedRef S r
+RecordedIf S None = Unit {0}
+
 module _ (S : Pair) where
-  -- what the first reading finds from a cursor on, and what the second does
-  abbrev Finds : ℕ → Answer → Answer → Type 0
-  Finds a (Ok t) b = (RecordedRef S t.target) × (a ≤ t.next) × (S.Shared t.next → b ≡ Ok t) × (S.In t.next)
-  Finds a (Err Cut) b = S.Compared 4 → b ≡ Err Cut
-  Finds a (Err (Unknown next)) b = (S.Compared 15 → b ≡ Err (Unknown next)) × (S.In next)
+  pick_ref_recorded : (b : Bool) (f g : Option Ref) → RecordedIf S f → RecordedIf S g → RecordedIf S (if b then f else g)
+  pick_ref_recorded true f g y n = y
+  pick_ref_recorded false f g y n = n
 
-  finds_on : (a c : ℕ) (b b₁ b₂ : Answer) → a ≤ c → (S.Shared c → b₂ ≡ b₁) → Finds c b b₁ → Finds a b b₂
-  finds_on a c (Ok t) b₁ b₂ l e f = (f.0, omega (arith, f.1), λ v. e (S.shared_down c t.next f.1 v) ∙ f.2 v, f.3)
-  finds_on a c (Err Cut) b₁ b₂ l e f = λ v. e (S.compared_shared 4 v c) ∙ f v
-  finds_on a c (Err (Unknown next)) b₁ b₂ l e f = (λ v. e (S.compared_shared 15 v c) ∙ f.0 v, f.1)
+  by_place_recorded : (f : Option ℕ) (place : Place) → RecordedFound S f → RecordedRef S (by_place f place)
+  by_place_recorded (Some o) place recorded = λ e. recorded
+  by_place_recorded None place recorded = λ e. absurd (omega arith)
 
-  pick_finds : (a : ℕ) (t : Bool) (b c b' c' : Answer) → Finds a b b' → Finds a c c' → Finds a (if t then b else c) (if t then b' else c')
-  pick_finds a true b c b' c' y n = y
-  pick_finds a false b c b' c' y n = n
+  by_number_recorded : (f : Option ℕ) → RecordedFound S f → RecordedIf S (by_number f)
+  by_number_recorded (Some o) recorded = λ e. recorded
+  by_number_recorded None recorded = tt
 
-  with_int_finds : (a : ℕ) (f f' : ℕ → ℕ → Answer) → ((v next : ℕ) → S.In next → Finds next (f v next) (f' v next)) → Finds a (with_int (int_at S.x.payload a) a f) (with_int (int_at S.p' a) a f')
-  with_int_finds a f f' g = go (int_at S.x.payload a) refl
+  -- with other address records above the first n
+  module _ (v t u : List ℕ) (n alignment space : ℕ) (same : (i : ℕ) → i < n * 5 → get_or u i 0 ≡ get_or t i 0) where
+    placed_same : (place : Place) → placed v u n alignment space place ≡ placed v t n alignment space place
+    unfolding placed
+    placed_same place =
+        ap (λ (f : Option ℕ). by_place f place) (resolve_of_same t u n space place.chunk place.offset alignment (word_bytes v) same)
+
+    single_same : (value : ℕ) → single v u n alignment space value ≡ single v t n alignment space value
+    unfolding single
+    single_same value =
+        rw (placed_same (unpacked v (index_of v value)), ordinal_from_same t u (numbered_as v space) (number_in v value) 0 n (λ i l. same i (omega arith)))
+
+  module _ (v t : List ℕ) (n alignment space : ℕ) (recorded : (i : ℕ) → i < n → Recorded S (field 5 t i 3)) where
+    placed_recorded : (place : Place) → RecordedRef S (placed v t n alignment space place)
+    unfolding placed
+    placed_recorded place =
+        by_place_recorded (resolve_of t n space place.chunk place.offset alignment (word_bytes v)) place
+        (resolve_recorded S t n space place.chunk place.offset alignment (word_bytes v) recorded)
+
+    single_recorded : (value : ℕ) → RecordedIf S (single v t n alignment space value)
+    unfolding single
+    single_recorded value =
+        pick_ref_recorded (eqb (numbered_as v space) 0) _ _ (placed_recorded (unpacked v (index_of v value)))
+        (by_number_recorded (ordinal_from t (numbered_as v space) (number_in v value) 0 n) (ordinal_recorded S t (numbered_as v space) (number_in v value) 0 n (λ i l. recorded i (omega arith))))
+
+  -- the second reading's address records
+  abbrev theirs : Mem → List ℕ
+  theirs m = S.maps.addresses.rows m.addresses.count m.addresses.rows
+
+  single_law : (space value : ℕ) → Alike S 0 (RecordedValue S) (single_reference S.x space value) (single_reference (x' S) space value)
+  single_law space value =
+      record {
+        at_law = (λ m fit.
+            rw (single_same S.x.sheet m.addresses.rows (theirs m) m.addresses.count m.alignment space (S.maps.addresses.same m.addresses.count m.addresses.rows) value)
+            (go m fit (single S.x.sheet m.addresses.rows m.addresses.count m.alignment space value) (single_recorded S.x.sheet m.addresses.rows m.addresses.count m.alignment space fit.recorded value)));
+      }
     where
-      go : (i : Option Int) → int_at S.x.payload a ≡ i → Finds a (with_int i a f) (with_int (int_at S.p' a) a f')
-      go (Some i) e = finds_on a (a + i.count) (f i.value (a + i.count)) (f' i.value (a + i.count)) (with_int (int_at S.p' a) a f') (omega arith) (λ l. rw (S.on_int a i l e)) (g i.value (a + i.count) (S.in_int a i e))
-      go None e = λ v. rw (S.compared_same 4 v, e)
+      go : (m : Mem) → Fits S m → (o : Option Ref) → RecordedIf S o → Follows S 0 (RecordedValue S) m (of_single o m) (of_single o (φ S m))
+      go m fit (Some r) f = gives S fit f (omega arith) (λ v. refl)
+      go m fit None f = stops S fit (λ v. refl)
 
-  by_place_finds : (f : Option ℕ) (place : Place) (next : ℕ) → S.In next → RecordedFound S f → Finds next (by_place f place next) (by_place f place next)
-  by_place_finds (Some o) place next i recorded = (λ e. recorded, omega arith, λ v. refl, i)
-  by_place_finds None place next i recorded = (λ e. absurd (omega arith), omega arith, λ v. refl, i)
+  place_law : (space : ℕ) (place : Place) → Alike S 0 (RecordedValue S) (place_reference S.x space place) (place_reference (x' S) space place)
+  place_law space place =
+      record {
+        at_law = (λ m fit.
+            rw (placed_same S.x.sheet m.addresses.rows (theirs m) m.addresses.count m.alignment space (S.maps.addresses.same m.addresses.count m.addresses.rows) place)
+            (gives S fit (placed_recorded S.x.sheet m.addresses.rows m.addresses.count m.alignment space fit.recorded place) (omega arith) (λ v. refl)));
+      }
 
-  by_number_finds : (f : Option ℕ) (next : ℕ) → S.In next → RecordedFound S f → Finds next (by_number f next) (by_number f next)
-  by_number_finds (Some o) next i recorded = (λ e. recorded, omega arith, λ v. refl, i)
-  by_number_finds None next i recorded = (λ v. refl, i)
-
-  module _ (v t u : List ℕ) (n alignment space : ℕ) (same : (i : ℕ) → i < n * 5 → get_or u i 0 ≡ get_or t i 0) (recorded : (i : ℕ) → i < n → Recorded S (field 5 t i 3)) where
-    placed_finds : (place : Place) (next : ℕ) → S.In next → Finds next (placed v t n alignment space place next) (placed v u n alignment space place next)
-    placed_finds place next i =
-        rw (resolve_of_same t u n space place.chunk place.offset alignment (word_bytes v) same)
-        (by_place_finds (resolve_of t n space place.chunk place.offset alignment (word_bytes v)) place next i (resolve_recorded S t n space place.chunk place.offset alignment (word_bytes v) recorded))
-
-    numbered_finds : (index next : ℕ) → S.In next → Finds next (numbered v t n space index next) (numbered v u n space index next)
-    numbered_finds index next i =
-        rw (ordinal_from_same t u (numbered_as v space) index 0 n (λ i l. same i (omega arith)))
-        (by_number_finds (ordinal_from t (numbered_as v space) index 0 n) next i (ordinal_recorded S t (numbered_as v space) index 0 n (λ i l. recorded i (omega arith))))
-
-    backref_finds : (a : ℕ) → Finds a (backref_of v S.x.payload t n alignment space a) (backref_of v S.p' u n alignment space a)
-    unfolding backref_of packed_backref plain_backref
-    backref_finds a =
-        pick_finds a (is_six_x v) _ _ _ _
-        (with_int_finds a _ _ (λ v₁ next i. pick_finds next (eqb (numbered_as v space) 0) _ _ _ _ (placed_finds (unpacked v (index_of v v₁)) next i) (numbered_finds (index_of v v₁) next i)))
-        (with_int_finds a _ _ (λ first next i. pick_finds next (eqb (numbered_as v space) 0) _ _ _ _ (with_int_finds next _ _ (λ second after j. placed_finds (record { chunk = first; offset = second }) after j)) (numbered_finds first next i)))
+  first_law : (space first : ℕ) → Alike S 0 (RecordedValue S) (after_first S.x space first) (after_first (x' S) space first)
+  first_law space first =
+      record {
+        at_law = (λ m fit.
+            choose_at S (is_single S.x.sheet space) _ _ _ _ (λ _. (single_law space first).at_law m fit)
+            (λ _. (then_law S (int_law S) (λ second _. place_law space (record { chunk = first; offset = second }))).at_law m fit));
+      }
 
   pub legacy_reference_law : (space : ℕ) → Alike S 0 (RecordedValue S) (legacy_reference S.x space) (legacy_reference (x' S) space)
   unfolding legacy_reference
-  legacy_reference_law space =
-      record {
-        at_law = (λ m fit.
-            go m fit (backref_of S.x.sheet S.x.payload m.addresses.rows m.addresses.count m.alignment space m.at)
-            (backref_of S.x.sheet S.p' (S.maps.addresses.rows m.addresses.count m.addresses.rows) m.addresses.count m.alignment space m.at)
-            (backref_finds S.x.sheet m.addresses.rows (S.maps.addresses.rows m.addresses.count m.addresses.rows) m.addresses.count m.alignment space (S.maps.addresses.same m.addresses.count m.addresses.rows) fit.recorded m.at));
-      }
-    where
-      go : (m : Mem) → Fits S m → (b b' : Answer) → Finds m.at b b' → Follows S 0 (RecordedValue S) m (of_backref S.x b m) (of_backref (x' S) b' (φ S m))
-      go m fit (Ok t) b' f = gives S (fit_moved f.3 fit) f.0 (omega (arith, f.1)) (λ v. rw (f.2 v))
-      go m fit (Err Cut) b' f = stops S (fit_moved (S.in_payload _ (omega arith)) fit) (λ v. rw (f v, S.compared_same 4 v))
-      go m fit (Err (Unknown next)) b' f = stops S (fit_moved f.1 fit) (λ v. rw (f.0 v))
+  legacy_reference_law space = then_law S (int_law S) (λ first _. first_law space first)
 
 -- ---- allocation
 

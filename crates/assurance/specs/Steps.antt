@@ -16,7 +16,7 @@ use Rattle.tables.specs.Values.{fields_of, width_of}
 use Rattle.tables.specs.Records.{room, object_row, slot_row, value_row}
 use Rattle.tables.proofs.RecordLaws.{written_length, filled_length}
 use Rattle.backref.specs.HotRing.{entered, hot_at}
-use Rattle.definition.specs.Memory.{Input, word, Kept, in_map, in_slot, in_value, dropped, opened, passed, item, value, resolve, begins, synchronize, Mem, moved, with_objects, with_slots, with_values, with_hot, with_pending, aligned, noted, added}
+use Rattle.definition.specs.Memory.{Input, word, Kept, in_map, in_slot, in_value, dropped, opened, passed, item, value, resolve, begins, synchronize, Mem, moved, with_objects, with_slots, with_values, with_hot, with_pending, aligned, noted, added, with_long}
 use Rattle.definition.specs.Slots.{counted, waiter, fill_waiter, resolved, waits_of}
 use Rattle.definition.specs.Object.{flagged}
 use Rattle.assurance.specs.Words.{IntegerAt}
@@ -89,6 +89,8 @@ Hot (Attached i) = ⊥
 -- I holds of the objects that are being read and of what a reader has, W of the value that it gives
 pub record Rules (x : Input) (I : List Frame → Mem → Type 0) (W : Mem → SlotValue → Type 0) : Type 0 where
   pub on_move : (S : List Frame) (m : Mem) (at : ℕ) → I S m → m.at < at → at ≤ length x.payload → I S (moved at m)
+  -- integers that are longer than their values need are counted
+  pub on_long : (S : List Frame) (m : Mem) (n : ℕ) → I S m → I S (with_long n m)
   pub on_object : (S : List Frame) (m : Mem) (i : ℕ) → I S m → i < m.objects.count → W m (IsRef (Object i))
   pub on_root : (S : List Frame) (m : Mem) (i : ℕ) → I S m → W m (IsRef (Root i))
   pub on_read_only : (S : List Frame) (m : Mem) (c o : ℕ) → I S m → W m (IsRef (RoRef c o))

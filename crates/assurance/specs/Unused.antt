@@ -109,7 +109,7 @@ trims_same =
 abbrev pub cleaned : Mem → Mem
 cleaned m =
     record
-    { at = m.at; objects = m.objects; slots = zeros_above 6 m.slots; values = m.values; addresses = zeros_above 5 m.addresses; hot = m.hot; pending = m.pending; waiting = m.waiting; skip = m.skip; alignment = m.alignment; alloc = m.alloc; log = m.log }
+    { at = m.at; objects = m.objects; slots = zeros_above 6 m.slots; values = m.values; addresses = zeros_above 5 m.addresses; hot = m.hot; pending = m.pending; waiting = m.waiting; skip = m.skip; alignment = m.alignment; alloc = m.alloc; long_integers = m.long_integers; log = m.log }
 
 abbrev pub clean : {A : Type 0} → Out A → Out A
 clean (got a m) = got a (cleaned m)

@@ -36,6 +36,7 @@ unfolding Any
 steady x n t =
     record {
       on_move = (λ S m at h l g. (omega (arith, h.0), h.1));
+      on_long = (λ S m n h. h);
       on_object = (λ S m i h l. tt);
       on_root = (λ S m i h. tt);
       on_read_only = (λ S m c o h. tt);

@@ -3,23 +3,15 @@ use mathlib.Core.Path.{◌≡◌, refl}
 use mathlib.Core.Bool.{Bool, true, false}
 use mathlib.Core.List.{List}
 use mathlib.Core.Logic.{⊎_elim}
-use Prim.Native.Nat.{ℕ, ◌+◌, ◌-◌, ◌*◌, ◌%◌, ◌^◌, ◌<◌, ◌≤◌}
+use Prim.Native.Nat.{ℕ, ◌-◌, ◌*◌, ◌%◌, ◌^◌, ◌<◌, ◌≤◌}
 use native.Mathlib.Nat.{mod-lt, lt_of_lt_of_le, mul-le-mul_left}
 use native.Mathlib.Omega.{arith}
 use lib.Dec.{eqb}
-use lib.ListN.{length}
 use lib.Pow.{pow_pos, pow_mono}
-use Rattle.std.specs.Prelude.{if◌then◌else◌, Some}
-use Rattle.stream.specs.declared.putint.Int.{Int}
-use Rattle.stream.specs.PutInt.{int_at}
-use Rattle.stream.proofs.IntegerLaws.{int_within}
+use Rattle.std.specs.Prelude.{if◌then◌else◌}
 use Rattle.sheet.specs.Sheet.{space_tag_size, page_size_bits, word_bytes, usable}
 use Rattle.sheet.proofs.UsableSheet.{usable_gives}
 use Rattle.backref.specs.Legacy.{offset_bits, index_of}
-
--- an integer ends in the payload
-pub int_end : (p : List ℕ) (at : ℕ) {i : Int} → int_at p at ≡ Some i → at + i.count ≤ length p
-int_end p at e = (int_within p at e).ends
 
 -- ---- what a usable sheet bounds
 

@@ -42,7 +42,7 @@ use Rattle.cache_graph.proofs.SecondLaws.{accepted_graph, second_calls}
 -- ---- the start
 
 abbrev pub first : State
-first = record { at = 0; objects = 0; slots = 0; values = 0; addresses = 0; pending = 0; waiting = 0; skip = 0; alignment = 0 }
+first = record { at = 0; objects = 0; slots = 0; values = 0; addresses = 0; pending = 0; waiting = 0; skip = 0; alignment = 0; long_integers = 0 }
 
 pub same_input : (c : Call) {k : ℕ} → k ≡ spaces_of c.reservations → input c.sheet c.payload k c.trusted ≡ input_of c
 same_input c e = rw e
@@ -172,6 +172,7 @@ module _ (c : Call) (rooms : Rooms) where
         values_held = table_is (w.values_are ∙ ap (table_of (λ m. m.values) rooms.values) e) (ap (λ (a : Answer). a.values) a);
         addresses_held = table_is (w.addresses_are ∙ ap (table_of (λ m. m.addresses) rooms.addresses) e) (ap (λ (a : Answer). a.addresses) a);
         end_held = sym (ap (λ (a : Answer). a.end) a);
+        long_held = sym (ap (λ (a : Answer). a.long_integers) a);
       }
     where
       table_is : {t : Table} {rows : List ℕ} {count : ℕ} → rows ≡ t.rows → count ≡ t.count → t ≡ table rows count

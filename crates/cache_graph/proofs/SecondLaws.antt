@@ -50,6 +50,7 @@ module _ (c : Call) (rooms : Rooms) (r : Answer) (ot st vt dt : List ℕ) (a : A
           slots = ap (λ (a : Answer). a.slots) o ∙ ap (λ (t : Table). t.count) a.slots_held;
           values = ap (λ (a : Answer). a.values) o ∙ ap (λ (t : Table). t.count) a.values_held;
           addresses = ap (λ (a : Answer). a.addresses) o ∙ ap (λ (t : Table). t.count) a.addresses_held;
+          long_integers = ap (λ (a : Answer). a.long_integers) o ∙ a.long_held;
           same_objects = w.objects_are ∙ ap (table_of (λ m. m.objects) rooms.objects) g ∙ ap (λ (t : Table). t.rows) a.objects_held;
           same_slots = w.slots_are ∙ ap (table_of (λ m. m.slots) rooms.slots) g ∙ ap (λ (t : Table). t.rows) a.slots_held;
           same_values = w.values_are ∙ ap (table_of (λ m. m.values) rooms.values) g ∙ ap (λ (t : Table). t.rows) a.values_held;

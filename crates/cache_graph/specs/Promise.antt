@@ -36,11 +36,11 @@ rooms_in t = rooms_of t.objects.now t.slots.now t.values.now t.addresses.now
 -- the answer as the definition's numbers
 abbrev pub graph_answer : Graph → Answer
 graph_answer g =
-    record { number = 0; objects = g.objects; slots = g.slots; values = g.values; addresses = g.addresses; end = g.end; place = 0 }
+    record { number = 0; objects = g.objects; slots = g.slots; values = g.values; addresses = g.addresses; end = g.end; place = 0; long_integers = g.long_integers }
 
 abbrev pub refused_answer : Refused → Answer
 refused_answer e =
-    record { number = number_of e.refusal; objects = 0; slots = 0; values = 0; addresses = 0; end = 0; place = e.place }
+    record { number = number_of e.refusal; objects = 0; slots = 0; values = 0; addresses = 0; end = 0; place = e.place; long_integers = 0 }
 
 abbrev pub answer : Result Graph Refused → Answer
 answer (Ok g) = graph_answer g
@@ -77,6 +77,7 @@ pub record Assures (c : Call) (rooms : Rooms) (r : Answer) (objects slots values
   pub values_held : held.values ≡ table values r.values
   pub addresses_held : held.addresses ≡ table addresses r.addresses
   pub end_held : held.at ≡ r.end
+  pub long_held : held.long_integers ≡ r.long_integers
 
 -- the call writes what was lent, and lends nothing else in its place
 pub record SameTables (t t' : Tables) : Type 0 where
@@ -90,7 +91,7 @@ pub record SameTables (t t' : Tables) : Type 0 where
 
 -- what it answers, as the call does
 abbrev pub graph_of : State → Graph
-graph_of s = record { objects = s.objects; slots = s.slots; values = s.values; addresses = s.addresses; end = s.at }
+graph_of s = record { objects = s.objects; slots = s.slots; values = s.values; addresses = s.addresses; end = s.at; long_integers = s.long_integers }
 
 abbrev pub refused_of : WalkRefused → Refused
 refused_of e = record { refusal = e.refusal; place = e.place }

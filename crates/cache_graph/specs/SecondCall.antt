@@ -10,13 +10,15 @@ use Rattle.assurance.specs.Prefix.{with_payload}
 use Rattle.cache_graph.specs.declared.parse.Tables.{Tables}
 use Rattle.cache_graph.specs.Promise.{Reads}
 
--- the same graph: the four record counts and every number of every table
+-- the same graph: the four record counts, the number of long integers and every number of every
+-- table
 pub record SameGraph (r r' : Answer) (ot st vt dt ot' st' vt' dt' : List ℕ) : Type 0 where
   pub accepted : r'.number ≡ 0
   pub objects : r'.objects ≡ r.objects
   pub slots : r'.slots ≡ r.slots
   pub values : r'.values ≡ r.values
   pub addresses : r'.addresses ≡ r.addresses
+  pub long_integers : r'.long_integers ≡ r.long_integers
   pub same_objects : ot' ≡ ot
   pub same_slots : st' ≡ st
   pub same_values : vt' ≡ vt

@@ -48,6 +48,7 @@ pub struct Graph {
     pub values: u64,
     pub addresses: u64,
     pub end: u64,
+    pub long_integers: u64,
 }
 
 /// Why a payload is refused, and at which byte (docs/FORMAT.md, "Refusals").
@@ -67,6 +68,7 @@ impl From<State> for Graph {
             values: s.values as u64,
             addresses: s.addresses as u64,
             end: s.at as u64,
+            long_integers: s.long_integers,
         }
     }
 }
@@ -197,6 +199,7 @@ fn walk_payload<'a>(
         waiting: 0,
         skip: 0,
         alignment: 0,
+        long_integers: 0,
     };
     let ((), s) = walk(&mut w, start)?;
     Ok(Graph::from(s))

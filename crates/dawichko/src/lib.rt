@@ -11,8 +11,8 @@ use cache_graph::parse::{Call, Tables, parse_with};
 
 /// The object graph of a payload, in the four tables: 0, or a refusal's number, 1 to 16, after
 /// which every table is zero. What is given and lent is as for `cache_graph::parse::parse_with`.
-/// The outcome is the four record counts, the cursor at the finish and the refusal's place; of a
-/// refusal the first five are 0, of an accepted payload the last.
+/// The outcome is the four record counts, the cursor at the finish, the refusal's place and the
+/// number of long integers; of a refusal all but the sixth are 0, of an accepted payload the sixth.
 #[unsafe(no_mangle)]
 pub extern "C" fn dawichko_graph(
     sheet: &[u16],
@@ -24,7 +24,7 @@ pub extern "C" fn dawichko_graph(
     values: &mut [u64],
     addresses: &mut [u64],
     scratch: &mut [u64],
-    outcome: &mut [u64; 6],
+    outcome: &mut [u64; 7],
 ) -> u64
     ensures reads { Reads (call_of sheet.now payload.now reservations.now trusted.now) (rooms_of objects.old slots.old values.old addresses.old) (outcome_of result outcome.new) objects.new slots.new values.new addresses.new }
     ensures accepted { IsAccepted (call_of sheet.now payload.now reservations.now trusted.now)
@@ -55,11 +55,11 @@ pub extern "C" fn dawichko_graph(
     };
     match parse_with(call, &mut tables) {
         Ok(g) => {
-            *outcome = [g.objects, g.slots, g.values, g.addresses, g.end, 0];
+            *outcome = [g.objects, g.slots, g.values, g.addresses, g.end, 0, g.long_integers];
             0
         }
         Err(e) => {
-            *outcome = [0, 0, 0, 0, 0, e.place];
+            *outcome = [0, 0, 0, 0, 0, e.place, 0];
             e.refusal.number()
         }
     }

@@ -28,7 +28,7 @@ use Rattle.laws.proofs.Fuel.{entry_items_fuel}
 use Rattle.readers.specs.declared.state.State.{State}
 use Rattle.readers.specs.declared.state.Refused.{Refused}
 use Rattle.readers.specs.declared.walker.Walker.{Walker}
-use Rattle.readers.specs.Views.{mem}
+use Rattle.readers.specs.Views.{mem, Counts}
 use Rattle.readers.specs.Lent.{input_of, lent_of, Fixed}
 use Rattle.readers.specs.Lent as Lent
 use Rattle.readers.proofs.ViewLaws.{then_got, then_no, nothing}
@@ -56,6 +56,20 @@ byte_same x m {m1} {b} e = go (ltb m.at (length x.payload)) e
 
 pub byte_addresses : (x : Input) (s : State) {b : ℕ} {t : State} → got b (mem t nothing) ≡ byte x (mem s nothing) → t.addresses ≡ s.addresses
 byte_addresses x s e = ap (λ (t : Table). t.count) (byte_same x (mem s nothing) e)
+
+-- and the count of long integers
+byte_moved : (x : Input) (m : Mem) {m1 : Mem} {b : ℕ} → got b m1 ≡ byte x m → m1 ≡ moved (m.at + 1) m
+unfolding byte
+byte_moved x m {m1} {b} e = go (ltb m.at (length x.payload)) e
+  where
+    go : (t : Bool) → got b m1 ≡ (if t then next_byte x else cut x) m → m1 ≡ moved (m.at + 1) m
+    go true e = cc
+    go false e = absurd (let z : ◌≡◌ {A = ℕ} 0 1 = cc in omega arith)
+
+pub byte_counts : (x : Input) (s : State) {b : ℕ} {t : State} → got b (mem t nothing) ≡ byte x (mem s nothing) → Counts s → Counts t
+byte_counts x s {t = t} e h =
+    let q = byte_moved x (mem s nothing) e in
+    omega (arith, h, ap (λ (m : Mem). m.at) q, ap (λ (m : Mem). m.long_integers) q)
 
 -- the object that a value is, or the fault where it is none
 pub an_object : (v : SlotValue) (r : Option ℕ) (u : Refused) {o : ℕ} → Named v r → Ok o ≡ ok_or r u → v ≡ IsRef (Object o)

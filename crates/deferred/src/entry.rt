@@ -5,7 +5,7 @@ ghost use Rattle.sheet.specs.Sheet.{is_legacy};
 ghost use Rattle.tables.specs.Records.{room, field as field_of};
 ghost use Rattle.definition.specs.Memory.{Input, table, word as word_of};
 ghost use Rattle.definition.specs.Closing as Closing;
-ghost use Rattle.readers.specs.Views.{mem, seen};
+ghost use Rattle.readers.specs.Views.{mem, seen, Counts};
 ghost use Rattle.readers.specs.Lent.{input_of, lent_of, Kept, Addressed};
 ghost use Rattle.objects.specs.Index.{Indexed, IndexedAfter};
 ghost use Rattle.walker.specs.Ready.{Ready, After};
@@ -13,7 +13,7 @@ ghost use Rattle.deferred.specs.Entry.{Named, entry_object};
 
 use objects::item::push_slot;
 use readers::ints::{read_byte, read_int};
-use readers::simple::legacy_ref;
+use readers::simple::legacy_backref;
 use readers::state::{Answer, State};
 use readers::walker::Walker;
 use refusals::refusal::Refusal;
@@ -115,12 +115,12 @@ fn object_of(v: SlotValue) -> Option<u64>
 // names no object, the refusal `NoEntry` has the number 0, as the definition has it there: it only
 // ends a legacy closing section, and no call answers it.
 fn entry_object(w: &mut Walker, s: State, space: u64) -> Answer<u64>
-    requires { Addressed w.old s.addresses }
+    requires { Addressed w.old s.addresses × Counts s }
     ensures is { seen result (lent_of w.new) ≡ entry_object (input_of w.old) space (mem s (lent_of w.old)) }
     ensures kept { Kept w.old w.new }
 {
     let (_, t) = read_byte(w.payload, s)?;
-    let (value, u) = legacy_ref(w, t, space)?;
+    let (value, u) = legacy_backref(w, t, space)?;
     let o = object_of(value).ok_or(u.refused(Refusal::NoEntry))?;
     Ok((o, u))
 }

@@ -38,7 +38,7 @@ empty length = table (replicate length 0) 0
 abbrev pub start : Rooms → Log → Mem
 start rooms log =
     record
-    { at = 0; objects = empty rooms.objects; slots = empty rooms.slots; values = empty rooms.values; addresses = empty rooms.addresses; hot = empty_ring; pending = 0; waiting = 0; skip = 0; alignment = 0; alloc = zero_counters; log = log }
+    { at = 0; objects = empty rooms.objects; slots = empty rooms.slots; values = empty rooms.values; addresses = empty rooms.addresses; hot = empty_ring; pending = 0; waiting = 0; skip = 0; alignment = 0; alloc = zero_counters; long_integers = 0; log = log }
 
 -- the top object's space, in legacy
 abbrev pub top_space : Input → ℕ → ℕ
@@ -68,7 +68,8 @@ abbrev pub table_of : (Mem → Table) → ℕ → Out (Unit {0}) → List ℕ
 table_of t length (got v m) = (t m).rows
 table_of t length (no n q m) = replicate length 0
 
--- the outcome as numbers: the refusal or 0; then the four record counts and `end`, or the place
+-- the outcome as numbers: the refusal or 0; then the four record counts, `end` and the number of
+-- long integers, or the place
 pub record Answer : Type 0 where
   pub number : ℕ
   pub objects : ℕ
@@ -77,12 +78,13 @@ pub record Answer : Type 0 where
   pub addresses : ℕ
   pub end : ℕ
   pub place : ℕ
+  pub long_integers : ℕ
 
 abbrev pub answer_of : Out (Unit {0}) → Answer
 answer_of (got v m) =
     record
-    { number = 0; objects = m.objects.count; slots = m.slots.count; values = m.values.count; addresses = m.addresses.count; end = m.at; place = 0 }
-answer_of (no n q m) = record { number = n; objects = 0; slots = 0; values = 0; addresses = 0; end = 0; place = q }
+    { number = 0; objects = m.objects.count; slots = m.slots.count; values = m.values.count; addresses = m.addresses.count; end = m.at; place = 0; long_integers = m.long_integers }
+answer_of (no n q m) = record { number = n; objects = 0; slots = 0; values = 0; addresses = 0; end = 0; place = q; long_integers = 0 }
 
 -- the events of a reading, the latest first; of a refused payload none
 abbrev pub told_of : Log → List Event

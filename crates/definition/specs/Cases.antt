@@ -1,7 +1,7 @@
 -- Examples a to l of docs/FORMAT.md ("Examples"), as one table with one proof. Assumes nothing.
 use Rattle.std.specs.Prelude.{◌≡◌, refl, List, [], ◌∷◌, map, reverse, ℕ, ◌*◌, ◌^◌, take, replicate, set}
 use Rattle.stream.specs.Bytes.{peek_at, little_endian, raw_at}
-use Rattle.stream.specs.PutInt.{int_length, int_at}
+use Rattle.stream.specs.PutInt.{int_length, int_at, shortest, is_long}
 use Rattle.sheet.specs.Names.{k_new_object, k_root_array}
 use Rattle.sheet.specs.Sheet.{all_within, usable, new_object_span}
 use Rattle.heads.specs.Heads.{order, first_of, head_of}
@@ -12,7 +12,7 @@ use Rattle.alloc.specs.Fill.{max_fill_to_align, fill_to_align}
 use Rattle.alloc.specs.Allocation.{spaces_of, next_chunk, advance_of, allocate_of}
 use Rattle.alloc.specs.Resolve.{addressed, resolve_of, ordinal_from}
 use Rattle.backref.specs.HotRing.{entered, hot_at}
-use Rattle.backref.specs.Legacy.{packed_backref, plain_backref, backref_of}
+use Rattle.backref.specs.Legacy.{placed, single}
 use Rattle.definition.specs.Memory.{in_map, in_slot, in_value, dropped, Event, opened, passed, item, value, resolve, begins, synchronize, Table, Out, got, no, byte, int}
 use Rattle.definition.specs.Slots.{add_value, add_slot, waiter, resolved, keep_item, place_item}
 use Rattle.definition.specs.Object.{add_object, allocate, chunk_changes, map_first, flag_object, keep_map, resolves, items, body, object}
@@ -37,14 +37,14 @@ call_a p = record { sheet = sheet_a; payload = p; reservations = []; trusted = [
 abbrev pub rooms_a : Rooms
 rooms_a = record { objects = 16; slots = 48; values = 12; addresses = 5 }
 
--- what a call gives: 0, the four record counts and `end`, then the records of each table; or the
--- refusal's number and place
+-- what a call gives: 0, the four record counts, `end` and the number of long integers, then the
+-- records of each table; or the refusal's number and place
 abbrev pub records : ℕ → Table → List ℕ
 records fields t = take (t.count * fields) t.rows
 
 abbrev pub shown : Out (Unit {0}) → List (List ℕ)
 shown (got v m) =
-    (0 ∷ m.objects.count ∷ m.slots.count ∷ m.values.count ∷ m.addresses.count ∷ m.at ∷ []) ∷
+    (0 ∷ m.objects.count ∷ m.slots.count ∷ m.values.count ∷ m.addresses.count ∷ m.at ∷ m.long_integers ∷ []) ∷
     records 4 m.objects ∷
     records 6 m.slots ∷
     records 3 m.values ∷
@@ -59,25 +59,25 @@ Case = List ℕ × List (List ℕ)
 abbrev pub cases : List Case
 cases =
     -- a: one object of two words
-    ((0x00 ∷ 0x08 ∷ 0x45 ∷ 0x46 ∷ 0x0D ∷ []), ((0 ∷ 1 ∷ 2 ∷ 0 ∷ 0 ∷ 5 ∷ []) ∷ (16 ∷ 0 ∷ 0 ∷ 2 ∷ []) ∷ (0 ∷ 0 ∷ 2 ∷ 5 ∷ 0 ∷ 0 ∷ 0 ∷ 1 ∷ 2 ∷ 6 ∷ 0 ∷ 0 ∷ []) ∷ ([]) ∷ ([]) ∷ [])) ∷
+    ((0x00 ∷ 0x08 ∷ 0x45 ∷ 0x46 ∷ 0x0D ∷ []), ((0 ∷ 1 ∷ 2 ∷ 0 ∷ 0 ∷ 5 ∷ 0 ∷ []) ∷ (16 ∷ 0 ∷ 0 ∷ 2 ∷ []) ∷ (0 ∷ 0 ∷ 2 ∷ 5 ∷ 0 ∷ 0 ∷ 0 ∷ 1 ∷ 2 ∷ 6 ∷ 0 ∷ 0 ∷ []) ∷ ([]) ∷ ([]) ∷ [])) ∷
     -- b: no byte: 4 at 0
     (([]), ((4 ∷ 0 ∷ []) ∷ [])) ∷
     -- c: one object of one word
-    ((0x00 ∷ 0x04 ∷ 0x45 ∷ 0x0D ∷ []), ((0 ∷ 1 ∷ 1 ∷ 0 ∷ 0 ∷ 4 ∷ []) ∷ (8 ∷ 0 ∷ 0 ∷ 1 ∷ []) ∷ (0 ∷ 0 ∷ 2 ∷ 5 ∷ 0 ∷ 0 ∷ []) ∷ ([]) ∷ ([]) ∷ [])) ∷
+    ((0x00 ∷ 0x04 ∷ 0x45 ∷ 0x0D ∷ []), ((0 ∷ 1 ∷ 1 ∷ 0 ∷ 0 ∷ 4 ∷ 0 ∷ []) ∷ (8 ∷ 0 ∷ 0 ∷ 1 ∷ []) ∷ (0 ∷ 0 ∷ 2 ∷ 5 ∷ 0 ∷ 0 ∷ []) ∷ ([]) ∷ ([]) ∷ [])) ∷
     -- d: declared 0 words, its map is one: 12 at 0
     ((0x00 ∷ 0x00 ∷ 0x45 ∷ 0x0D ∷ []), ((12 ∷ 0 ∷ []) ∷ [])) ∷
     -- e: a repeat of 3 at index 1
-    ((0x00 ∷ 0x10 ∷ 0x45 ∷ 0x81 ∷ 0x46 ∷ 0x0D ∷ []), ((0 ∷ 1 ∷ 2 ∷ 1 ∷ 0 ∷ 6 ∷ []) ∷ (32 ∷ 0 ∷ 0 ∷ 2 ∷ []) ∷ (0 ∷ 0 ∷ 2 ∷ 5 ∷ 0 ∷ 0 ∷ 0 ∷ 1 ∷ 7 ∷ 3 ∷ 0 ∷ 0 ∷ []) ∷ (2 ∷ 6 ∷ 0 ∷ []) ∷ ([]) ∷ [])) ∷
+    ((0x00 ∷ 0x10 ∷ 0x45 ∷ 0x81 ∷ 0x46 ∷ 0x0D ∷ []), ((0 ∷ 1 ∷ 2 ∷ 1 ∷ 0 ∷ 6 ∷ 0 ∷ []) ∷ (32 ∷ 0 ∷ 0 ∷ 2 ∷ []) ∷ (0 ∷ 0 ∷ 2 ∷ 5 ∷ 0 ∷ 0 ∷ 0 ∷ 1 ∷ 7 ∷ 3 ∷ 0 ∷ 0 ∷ []) ∷ (2 ∷ 6 ∷ 0 ∷ []) ∷ ([]) ∷ [])) ∷
     -- f: the repeat is wider than what is left: 12 at 0
     ((0x00 ∷ 0x0C ∷ 0x45 ∷ 0x81 ∷ 0x46 ∷ 0x0D ∷ []), ((12 ∷ 0 ∷ []) ∷ [])) ∷
     -- g: a back-reference, then the hot place that it filled
-    ((0x00 ∷ 0x0C ∷ 0x45 ∷ 0x08 ∷ 0x00 ∷ 0x90 ∷ 0x0D ∷ []), ((0 ∷ 1 ∷ 3 ∷ 0 ∷ 0 ∷ 7 ∷ []) ∷ (24 ∷ 0 ∷ 0 ∷ 3 ∷ []) ∷ (0 ∷ 0 ∷ 2 ∷ 5 ∷ 0 ∷ 0 ∷ 0 ∷ 1 ∷ 1 ∷ 0 ∷ 0 ∷ 0 ∷ 0 ∷ 2 ∷ 1 ∷ 0 ∷ 0 ∷ 0 ∷ []) ∷ ([]) ∷ ([]) ∷ [])) ∷
+    ((0x00 ∷ 0x0C ∷ 0x45 ∷ 0x08 ∷ 0x00 ∷ 0x90 ∷ 0x0D ∷ []), ((0 ∷ 1 ∷ 3 ∷ 0 ∷ 0 ∷ 7 ∷ 0 ∷ []) ∷ (24 ∷ 0 ∷ 0 ∷ 3 ∷ []) ∷ (0 ∷ 0 ∷ 2 ∷ 5 ∷ 0 ∷ 0 ∷ 0 ∷ 1 ∷ 1 ∷ 0 ∷ 0 ∷ 0 ∷ 0 ∷ 2 ∷ 1 ∷ 0 ∷ 0 ∷ 0 ∷ []) ∷ ([]) ∷ ([]) ∷ [])) ∷
     -- h: an empty hot place: 9 at 4
     ((0x00 ∷ 0x08 ∷ 0x45 ∷ 0x90 ∷ 0x0D ∷ []), ((9 ∷ 4 ∷ []) ∷ [])) ∷
     -- i: a back-reference to object 1 of 1: 8 at 5
     ((0x00 ∷ 0x08 ∷ 0x45 ∷ 0x08 ∷ 0x04 ∷ 0x0D ∷ []), ((8 ∷ 5 ∷ []) ∷ [])) ∷
     -- j: a pending slot that the nested object resolves
-    ((0x00 ∷ 0x0C ∷ 0x45 ∷ 0x0E ∷ 0x00 ∷ 0x04 ∷ 0x46 ∷ 0x0F ∷ 0x00 ∷ 0x0D ∷ []), ((0 ∷ 2 ∷ 4 ∷ 0 ∷ 0 ∷ 10 ∷ []) ∷ (24 ∷ 0 ∷ 0 ∷ 3 ∷ 8 ∷ 4 ∷ 0 ∷ 1 ∷ []) ∷ (0 ∷ 0 ∷ 2 ∷ 5 ∷ 0 ∷ 0 ∷ 0 ∷ 1 ∷ 1 ∷ 1 ∷ 0 ∷ 0 ∷ 1 ∷ 0 ∷ 2 ∷ 6 ∷ 0 ∷ 0 ∷ 0 ∷ 2 ∷ 1 ∷ 1 ∷ 0 ∷ 0 ∷ []) ∷ ([]) ∷ ([]) ∷ [])) ∷
+    ((0x00 ∷ 0x0C ∷ 0x45 ∷ 0x0E ∷ 0x00 ∷ 0x04 ∷ 0x46 ∷ 0x0F ∷ 0x00 ∷ 0x0D ∷ []), ((0 ∷ 2 ∷ 4 ∷ 0 ∷ 0 ∷ 10 ∷ 0 ∷ []) ∷ (24 ∷ 0 ∷ 0 ∷ 3 ∷ 8 ∷ 4 ∷ 0 ∷ 1 ∷ []) ∷ (0 ∷ 0 ∷ 2 ∷ 5 ∷ 0 ∷ 0 ∷ 0 ∷ 1 ∷ 1 ∷ 1 ∷ 0 ∷ 0 ∷ 1 ∷ 0 ∷ 2 ∷ 6 ∷ 0 ∷ 0 ∷ 0 ∷ 2 ∷ 1 ∷ 1 ∷ 0 ∷ 0 ∷ []) ∷ ([]) ∷ ([]) ∷ [])) ∷
     -- k: a second kSynchronize: 14 at 5
     ((0x00 ∷ 0x08 ∷ 0x45 ∷ 0x46 ∷ 0x0D ∷ 0x0D ∷ []), ((14 ∷ 5 ∷ []) ∷ [])) ∷
     -- l: variable raw data of length 0 reads one byte: 12 at 0
@@ -89,7 +89,7 @@ abbrev pub CasesHold : Type 0
 CasesHold = map (λ (c : Case). shown (graph (call_a c.0) rooms_a)) cases ≡ map (λ (c : Case). c.1) cases
 
 pub cases_hold : CasesHold
-unfolding peek_at little_endian raw_at int_length int_at all_within usable new_object_span order first_of head_of alignment_of closing_of written filled spaces_of entered hot_at byte int add_value add_slot waiter resolved keep_item place_item add_object flag_object keep_map resolves items body object backref_to pending_reference raw_data by_head reference ref_at entries padding closing walk called graph
+unfolding peek_at little_endian raw_at int_length int_at shortest is_long all_within usable new_object_span order first_of head_of alignment_of closing_of written filled spaces_of entered hot_at byte int add_value add_slot waiter resolved keep_item place_item add_object flag_object keep_map resolves items body object backref_to pending_reference raw_data by_head reference ref_at entries padding closing walk called graph
 cases_hold = refl
 
 -- a legacy sheet of words of 8 bytes, in the manner of V8 7.8, with six reservations of the top bit
@@ -131,22 +131,27 @@ further_cases =
     -- in legacy a byte from the spaces up to below kBackref opens no object as a reference: 10 at 3
     ((call_l (0x00 ∷ 0x08 ∷ 0x45 ∷ 0x06 ∷ 0x14 ∷ [])), ((10 ∷ 3 ∷ []) ∷ [])) ∷
     -- but as first byte it does, in a space without counters
-    ((call_l (0x07 ∷ 0x08 ∷ 0x45 ∷ 0x46 ∷ 0x14 ∷ [])), ((0 ∷ 1 ∷ 2 ∷ 0 ∷ 1 ∷ 5 ∷ []) ∷ (16 ∷ 0 ∷ 0 ∷ 2 ∷ []) ∷ (0 ∷ 0 ∷ 2 ∷ 5 ∷ 0 ∷ 0 ∷ 0 ∷ 1 ∷ 2 ∷ 6 ∷ 0 ∷ 0 ∷ []) ∷ ([]) ∷ (7 ∷ 0 ∷ 0 ∷ 0 ∷ 0 ∷ []) ∷ [])) ∷
+    ((call_l (0x07 ∷ 0x08 ∷ 0x45 ∷ 0x46 ∷ 0x14 ∷ [])), ((0 ∷ 1 ∷ 2 ∷ 0 ∷ 1 ∷ 5 ∷ 0 ∷ []) ∷ (16 ∷ 0 ∷ 0 ∷ 2 ∷ []) ∷ (0 ∷ 0 ∷ 2 ∷ 5 ∷ 0 ∷ 0 ∷ 0 ∷ 1 ∷ 2 ∷ 6 ∷ 0 ∷ 0 ∷ []) ∷ ([]) ∷ (7 ∷ 0 ∷ 0 ∷ 0 ∷ 0 ∷ []) ∷ [])) ∷
     -- a fault in a legacy closing section ends it; kNop bytes are still read from there
-    ((call_l (0x00 ∷ 0x04 ∷ 0x45 ∷ 0xFF ∷ 0x13 ∷ 0x13 ∷ 0x14 ∷ 0x13 ∷ [])), ((0 ∷ 1 ∷ 1 ∷ 0 ∷ 1 ∷ 6 ∷ []) ∷ (8 ∷ 0 ∷ 0 ∷ 1 ∷ []) ∷ (0 ∷ 0 ∷ 2 ∷ 5 ∷ 0 ∷ 0 ∷ []) ∷ ([]) ∷ (0 ∷ 0 ∷ 0 ∷ 0 ∷ 1 ∷ []) ∷ [])) ∷
+    ((call_l (0x00 ∷ 0x04 ∷ 0x45 ∷ 0xFF ∷ 0x13 ∷ 0x13 ∷ 0x14 ∷ 0x13 ∷ [])), ((0 ∷ 1 ∷ 1 ∷ 0 ∷ 1 ∷ 6 ∷ 0 ∷ []) ∷ (8 ∷ 0 ∷ 0 ∷ 1 ∷ []) ∷ (0 ∷ 0 ∷ 2 ∷ 5 ∷ 0 ∷ 0 ∷ []) ∷ ([]) ∷ (0 ∷ 0 ∷ 0 ∷ 0 ∷ 1 ∷ []) ∷ [])) ∷
     -- kRootArray among the bytes of kNewObject: as a reference it is a root
-    ((call_root_inside (0x00 ∷ 0x08 ∷ 0x45 ∷ 0x05 ∷ 0x04 ∷ 0x14 ∷ [])), ((0 ∷ 1 ∷ 2 ∷ 0 ∷ 1 ∷ 6 ∷ []) ∷ (16 ∷ 0 ∷ 0 ∷ 2 ∷ []) ∷ (0 ∷ 0 ∷ 2 ∷ 5 ∷ 0 ∷ 0 ∷ 0 ∷ 1 ∷ 2 ∷ 1 ∷ 0 ∷ 0 ∷ []) ∷ ([]) ∷ (0 ∷ 0 ∷ 0 ∷ 0 ∷ 1 ∷ []) ∷ [])) ∷
+    ((call_root_inside (0x00 ∷ 0x08 ∷ 0x45 ∷ 0x05 ∷ 0x04 ∷ 0x14 ∷ [])), ((0 ∷ 1 ∷ 2 ∷ 0 ∷ 1 ∷ 6 ∷ 0 ∷ []) ∷ (16 ∷ 0 ∷ 0 ∷ 2 ∷ []) ∷ (0 ∷ 0 ∷ 2 ∷ 5 ∷ 0 ∷ 0 ∷ 0 ∷ 1 ∷ 2 ∷ 1 ∷ 0 ∷ 0 ∷ []) ∷ ([]) ∷ (0 ∷ 0 ∷ 0 ∷ 0 ∷ 1 ∷ []) ∷ [])) ∷
     -- in the closing section too, and no deferred entry
-    ((call_root_inside (0x00 ∷ 0x04 ∷ 0x45 ∷ 0x05 ∷ 0x04 ∷ 0x14 ∷ [])), ((0 ∷ 1 ∷ 1 ∷ 0 ∷ 1 ∷ 6 ∷ []) ∷ (8 ∷ 0 ∷ 0 ∷ 1 ∷ []) ∷ (0 ∷ 0 ∷ 2 ∷ 5 ∷ 0 ∷ 0 ∷ []) ∷ ([]) ∷ (0 ∷ 0 ∷ 0 ∷ 0 ∷ 1 ∷ []) ∷ [])) ∷
+    ((call_root_inside (0x00 ∷ 0x04 ∷ 0x45 ∷ 0x05 ∷ 0x04 ∷ 0x14 ∷ [])), ((0 ∷ 1 ∷ 1 ∷ 0 ∷ 1 ∷ 6 ∷ 0 ∷ []) ∷ (8 ∷ 0 ∷ 0 ∷ 1 ∷ []) ∷ (0 ∷ 0 ∷ 2 ∷ 5 ∷ 0 ∷ 0 ∷ []) ∷ ([]) ∷ (0 ∷ 0 ∷ 0 ∷ 0 ∷ 1 ∷ []) ∷ [])) ∷
     -- as first byte: 5 at 0
     ((call_root_inside (0x05 ∷ 0x08 ∷ 0x45 ∷ 0x46 ∷ 0x14 ∷ [])), ((5 ∷ 0 ∷ []) ∷ [])) ∷
     -- but a byte past the full span opens the top object, as under every legacy sheet
-    ((call_root_inside (0x06 ∷ 0x08 ∷ 0x45 ∷ 0x46 ∷ 0x14 ∷ [])), ((0 ∷ 1 ∷ 2 ∷ 0 ∷ 1 ∷ 5 ∷ []) ∷ (16 ∷ 0 ∷ 0 ∷ 2 ∷ []) ∷ (0 ∷ 0 ∷ 2 ∷ 5 ∷ 0 ∷ 0 ∷ 0 ∷ 1 ∷ 2 ∷ 6 ∷ 0 ∷ 0 ∷ []) ∷ ([]) ∷ (6 ∷ 0 ∷ 0 ∷ 0 ∷ 1 ∷ []) ∷ [])) ∷
-    ((call_root_inside (0x07 ∷ 0x08 ∷ 0x45 ∷ 0x46 ∷ 0x14 ∷ [])), ((0 ∷ 1 ∷ 2 ∷ 0 ∷ 1 ∷ 5 ∷ []) ∷ (16 ∷ 0 ∷ 0 ∷ 2 ∷ []) ∷ (0 ∷ 0 ∷ 2 ∷ 5 ∷ 0 ∷ 0 ∷ 0 ∷ 1 ∷ 2 ∷ 6 ∷ 0 ∷ 0 ∷ []) ∷ ([]) ∷ (7 ∷ 0 ∷ 0 ∷ 0 ∷ 0 ∷ []) ∷ [])) ∷
+    ((call_root_inside (0x06 ∷ 0x08 ∷ 0x45 ∷ 0x46 ∷ 0x14 ∷ [])), ((0 ∷ 1 ∷ 2 ∷ 0 ∷ 1 ∷ 5 ∷ 0 ∷ []) ∷ (16 ∷ 0 ∷ 0 ∷ 2 ∷ []) ∷ (0 ∷ 0 ∷ 2 ∷ 5 ∷ 0 ∷ 0 ∷ 0 ∷ 1 ∷ 2 ∷ 6 ∷ 0 ∷ 0 ∷ []) ∷ ([]) ∷ (6 ∷ 0 ∷ 0 ∷ 0 ∷ 1 ∷ []) ∷ [])) ∷
+    ((call_root_inside (0x07 ∷ 0x08 ∷ 0x45 ∷ 0x46 ∷ 0x14 ∷ [])), ((0 ∷ 1 ∷ 2 ∷ 0 ∷ 1 ∷ 5 ∷ 0 ∷ []) ∷ (16 ∷ 0 ∷ 0 ∷ 2 ∷ []) ∷ (0 ∷ 0 ∷ 2 ∷ 5 ∷ 0 ∷ 0 ∷ 0 ∷ 1 ∷ 2 ∷ 6 ∷ 0 ∷ 0 ∷ []) ∷ ([]) ∷ (7 ∷ 0 ∷ 0 ∷ 0 ∷ 0 ∷ []) ∷ [])) ∷
     -- back-references keep the full span: space 5, in which no object lies
     ((call_root_inside (0x00 ∷ 0x08 ∷ 0x45 ∷ 0x0D ∷ 0x00 ∷ 0x14 ∷ [])), ((15 ∷ 5 ∷ []) ∷ [])) ∷
     -- *usable* goes by the full span
     ((call_span_too_long (0x00 ∷ 0x04 ∷ 0x45 ∷ 0x14 ∷ [])), ((1 ∷ 0 ∷ []) ∷ [])) ∷
+    -- integers longer than their values need are counted: a size in two bytes and a back-reference
+    -- in three, and not a root that needs its four
+    ((call_a (0x00 ∷ 0x0D ∷ 0x00 ∷ 0x45 ∷ 0x08 ∷ 0x02 ∷ 0x00 ∷ 0x00 ∷ 0x0A ∷ 0x03 ∷ 0x00 ∷ 0x00 ∷ 0x01 ∷ 0x0D ∷ [])), ((0 ∷ 1 ∷ 3 ∷ 0 ∷ 0 ∷ 14 ∷ 2 ∷ []) ∷ (24 ∷ 0 ∷ 0 ∷ 3 ∷ []) ∷ (0 ∷ 0 ∷ 2 ∷ 5 ∷ 0 ∷ 0 ∷ 0 ∷ 1 ∷ 1 ∷ 0 ∷ 0 ∷ 0 ∷ 0 ∷ 2 ∷ 2 ∷ 4194304 ∷ 0 ∷ 0 ∷ []) ∷ ([]) ∷ ([]) ∷ [])) ∷
+    -- so is the chunk of a back-reference that the payload's end cuts, in the closing section
+    ((call_l (0x00 ∷ 0x04 ∷ 0x45 ∷ 0x1D ∷ 0x08 ∷ 0x01 ∷ 0x00 ∷ [])), ((0 ∷ 1 ∷ 1 ∷ 0 ∷ 1 ∷ 7 ∷ 1 ∷ []) ∷ (8 ∷ 0 ∷ 0 ∷ 1 ∷ []) ∷ (0 ∷ 0 ∷ 2 ∷ 5 ∷ 0 ∷ 0 ∷ []) ∷ ([]) ∷ (0 ∷ 0 ∷ 0 ∷ 0 ∷ 1 ∷ []) ∷ [])) ∷
     []
 
 abbrev pub FurtherCasesHold : Type 0
@@ -154,7 +159,7 @@ FurtherCasesHold =
     map (λ (c : CallCase). shown (graph c.0 rooms_a)) further_cases ≡ map (λ (c : CallCase). c.1) further_cases
 
 pub further_hold : FurtherCasesHold
-unfolding peek_at little_endian raw_at int_length int_at all_within usable new_object_span order first_of head_of alignment_of closing_of written filled spaces_of entered hot_at byte int add_value add_slot waiter resolved keep_item place_item add_object flag_object keep_map resolves items body object backref_to pending_reference raw_data by_head reference ref_at entries padding closing walk called graph fill_to_align max_fill_to_align advance_of allocate_of next_chunk addressed resolve_of ordinal_from packed_backref plain_backref backref_of allocate chunk_changes map_first legacy_reference add_slots entry_items entry
+unfolding peek_at little_endian raw_at int_length int_at shortest is_long all_within usable new_object_span order first_of head_of alignment_of closing_of written filled spaces_of entered hot_at byte int add_value add_slot waiter resolved keep_item place_item add_object flag_object keep_map resolves items body object backref_to pending_reference raw_data by_head reference ref_at entries padding closing walk called graph fill_to_align max_fill_to_align advance_of allocate_of next_chunk addressed resolve_of ordinal_from placed single allocate chunk_changes map_first legacy_reference add_slots entry_items entry
 further_hold = refl
 
 -- what a reading tells: a weak and a pending slot, an object with a resolve and raw data, and a
@@ -191,5 +196,5 @@ abbrev pub EventsHold : Type 0
 EventsHold = events_of (graph (call_a told_payload) rooms_a) ≡ reverse told_events
 
 pub told_holds : EventsHold
-unfolding peek_at little_endian raw_at int_length int_at all_within usable new_object_span order first_of head_of alignment_of closing_of written filled spaces_of entered hot_at byte int add_value add_slot waiter resolved keep_item place_item add_object flag_object keep_map resolves items body object backref_to pending_reference raw_data by_head reference ref_at entries padding closing walk called graph
+unfolding peek_at little_endian raw_at int_length int_at shortest is_long all_within usable new_object_span order first_of head_of alignment_of closing_of written filled spaces_of entered hot_at byte int add_value add_slot waiter resolved keep_item place_item add_object flag_object keep_map resolves items body object backref_to pending_reference raw_data by_head reference ref_at entries padding closing walk called graph
 told_holds = refl

@@ -11,7 +11,8 @@
 -- Reference, Closing, Call, and Cases with the examples.
 use Rattle.std.specs.Prelude.{if◌then◌else◌, Bool, List, ◌∷◌, ℕ, ◌+◌, ltb, length, get_or, Option, Some, None}
 use Rattle.stream.specs.declared.putint.Int.{Int}
-use Rattle.stream.specs.PutInt.{int_at}
+use Rattle.std.specs.Int.{from_bool}
+use Rattle.stream.specs.PutInt.{int_at, is_long}
 use Rattle.sheet.specs.Sheet.{word_bytes}
 use Rattle.tables.specs.declared.values.Fields.{Fields}
 use Rattle.tables.specs.Records.{room, written}
@@ -71,8 +72,8 @@ abbrev pub table : List ℕ → ℕ → Table
 table rows count = record { rows = rows; count = count }
 
 -- what a reader has: the cursor, the four tables, the hot ring, the next pending number and how
--- many slots wait, the with-skip amount that stands, the pending alignment, the chunk counters, and
--- the events recorded
+-- many slots wait, the with-skip amount that stands, the pending alignment, the chunk counters, how
+-- many integers were longer than their values need, and the events recorded
 pub record Mem : Type 0 where
   pub at : ℕ
   pub objects : Table
@@ -85,6 +86,7 @@ pub record Mem : Type 0 where
   pub skip : ℕ
   pub alignment : ℕ
   pub alloc : LegacyAlloc
+  pub long_integers : ℕ
   pub log : Log
 
 -- what a reader gives: a value with what it has then; or a refusal's number and place with what it
@@ -154,6 +156,10 @@ with_alloc t a c m = record m { addresses = t; alignment = a; alloc = c }
 abbrev pub aligned : ℕ → Mem → Mem
 aligned a m = with_alloc m.addresses a m.alloc m
 
+-- so many integers were longer than their values need
+abbrev pub with_long : ℕ → Mem → Mem
+with_long n m = record m { long_integers = n }
+
 -- an event is recorded, where events are
 abbrev pub noted : Event → Mem → Mem
 noted e m = record m { log = note e m.log }
@@ -179,9 +185,14 @@ unfoldable pub byte : Input → Reader ℕ
 byte x m =
     (if ltb m.at (length x.payload) then next_byte x else cut x) m
 
+-- an integer was read whole, and is counted if it is longer than its value needs. Nothing else
+-- counts integers; plain bytes are none
+abbrev pub past_int : Int → Mem → Mem
+past_int i m = with_long (m.long_integers + from_bool (is_long i)) (moved (m.at + i.count) m)
+
 -- an integer
 abbrev pub after_int : Input → Option Int → Reader ℕ
-after_int x (Some i) m = got i.value (moved (m.at + i.count) m)
+after_int x (Some i) m = got i.value (past_int i m)
 after_int x None m = cut x m
 
 unfoldable pub int : Input → Reader ℕ

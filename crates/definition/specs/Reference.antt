@@ -1,6 +1,6 @@
 -- A reference: what its head byte says, in the order of the Rust's `parse_ref_inner`
 -- (specs/Heads.antt of the crate `heads`). Assumes nothing: these are definitions.
-use Rattle.std.specs.Prelude.{if◌then◌else◌, Bool, true, ℕ, zero, suc, ◌+◌, ◌*◌, ◌^◌, ◌-◌, max, ltb, Option, Some, None, Ok, Err}
+use Rattle.std.specs.Prelude.{if◌then◌else◌, Bool, true, ℕ, zero, suc, ◌+◌, ◌*◌, ◌^◌, ◌-◌, max, ltb, Option, Some, None}
 use Rattle.stream.specs.Bytes.{raw_at}
 use Rattle.sheet.specs.Sheet.{is_legacy, raw_advances}
 use Rattle.heads.specs.declared.kinds.Kind.{Kind}
@@ -12,9 +12,9 @@ use Rattle.tables.specs.declared.values.SlotValue.{SlotValue}
 use Rattle.tables.specs.declared.values.SlotValue.TheVariants.{Ref as IsRef, Repeat, RepeatPrev, Skip, StreamBytes, Raw as IsRaw, ClearedWeak, WeakRef, PendingRef}
 use Rattle.tables.specs.Values.{fields_of}
 use Rattle.backref.specs.HotRing.{entered, hot_at}
-use Rattle.backref.specs.declared.legacy.BackrefError.TheVariants.{Cut, Unknown}
-use Rattle.backref.specs.Legacy.{Answer, backref_of}
-use Rattle.definition.specs.Memory.{Input, word, passed, got, Reader, ◌>>=◌, ◌>>◌, give, change, refuse, refuse_at, moved, with_hot, with_pending, with_skip, aligned, noted, here, cut, byte, int}
+use Rattle.backref.specs.Legacy.{is_single, placed, single}
+use Rattle.definition.specs.Memory.{Input, word, passed, got, Reader, ◌>>=◌, ◌>>◌, give, change, refuse, refuse_at, moved, with_hot, with_pending, with_skip, aligned, noted, here, byte, int}
+use Rattle.alloc.specs.declared.resolve.Place.{Place}
 use Rattle.definition.specs.Slots.{add_value}
 use Rattle.definition.specs.Object.{change_chunk, object}
 
@@ -43,15 +43,28 @@ of_hot None = refuse 9
 abbrev pub hot_place : ℕ → Reader SlotValue
 hot_place i m = of_hot (hot_at m.hot i) m
 
--- legacy: by address or number; no entry with a number: refusal 15
-abbrev pub of_backref : Input → Answer → Reader SlotValue
-of_backref x (Ok b) m = refers_hot b.target (moved b.next m)
-of_backref x (Err Cut) m = cut x m
-of_backref x (Err (Unknown next)) m = refuse 15 (moved next m)
+-- legacy: of one integer, in 6.x and where the space is numbered; no object has the number: refusal
+-- 15
+abbrev pub of_single : Option Ref → Reader SlotValue
+of_single (Some r) = refers_hot r
+of_single None = refuse 15
+
+abbrev pub single_reference : Input → ℕ → ℕ → Reader SlotValue
+single_reference x space value m =
+    of_single (single x.sheet m.addresses.rows m.addresses.count m.alignment space value) m
+
+-- or of two, chunk and offset
+abbrev pub place_reference : Input → ℕ → Place → Reader SlotValue
+place_reference x space place m =
+    refers_hot (placed x.sheet m.addresses.rows m.addresses.count m.alignment space place) m
+
+abbrev pub after_first : Input → ℕ → ℕ → Reader SlotValue
+after_first x space first =
+    if is_single x.sheet space then single_reference x space first
+    else (int x >>= (λ second. place_reference x space (record { chunk = first; offset = second })))
 
 unfoldable pub legacy_reference : Input → ℕ → Reader SlotValue
-legacy_reference x space m =
-    of_backref x (backref_of x.sheet x.payload m.addresses.rows m.addresses.count m.alignment space m.at) m
+legacy_reference x space = int x >>= after_first x space
 
 -- things outside the payload, as read-only references with a first number of their own: 2^32 less 1
 -- for caches, 2 for builtins, 3 for external and 4 for API references, 5 for off-heap targets

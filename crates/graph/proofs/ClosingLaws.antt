@@ -69,8 +69,7 @@ module _ (x : Input) (m : Mem) where
 -- the state with an alignment that stands, after a byte
 abbrev aligned_to : ℕ → State → State
 aligned_to a s =
-    record
-    { at = s.at + 1; objects = s.objects; slots = s.slots; values = s.values; addresses = s.addresses; pending = s.pending; waiting = s.waiting; skip = s.skip; alignment = a }
+    record s { at = s.at + 1; alignment = a }
 
 -- what holds at the head of the loop over the entries
 pub record Loop (w₀ : Walker) (s₀ : State) (w : Walker) (s : State) : Type 0 where

@@ -76,8 +76,8 @@ fn list(out: &mut impl Write, alloc: Global, input: &Input) -> io::Result<()> {
     };
     writeln!(
         out,
-        "graph {} {} {} {} {}",
-        g.objects, g.slots, g.values, g.addresses, g.end
+        "graph {} {} {} {} {} {}",
+        g.objects, g.slots, g.values, g.addresses, g.end, g.long_integers
     )?;
     records::<4>(out, "o", &objects, g.objects)?;
     records::<6>(out, "s", &slots, g.slots)?;

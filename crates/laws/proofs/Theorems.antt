@@ -25,13 +25,15 @@ module _ (x : Input) where
   rules =
       record {
         on_move = λ S m at s i h l. tt;
+        on_long = λ S m n i. tt;
         on_amount = λ S m n s i d h. tt;
         on_enter = λ S m r s i v. tt;
         aside = λ m m' v a h. tt;
         on_given = λ S m v i d. tt;
         on_backref = λ S m o i h. tt;
         on_hot = λ S m i r s h e. tt;
-        on_found = λ S m space b s i e. tt;
+        on_single = λ S m space value r s i e. tt;
+        on_place = λ S m space place s i. tt;
         on_raw = λ S m n advances s i h. (tt, tt);
         on_pending = λ S m s i h. (tt, tt);
         on_value = λ S m v s i h l. (tt, tt, λ n. tt);

@@ -292,13 +292,15 @@ pub seated_rules : {x : Input} → Proper x → Rules x (Seated x) NoValue
 seated_rules {x} g =
     record {
       on_move = λ S m at s i h l. i;
+      on_long = λ S m n i. i;
       on_amount = λ S m n s i d h. i;
       on_enter = λ S m r s i v. i;
       aside = λ m m' v a h. tt;
       on_given = λ S m v i d. tt;
       on_backref = λ S m o i h. tt;
       on_hot = λ S m i r s h e. tt;
-      on_found = λ S m space b s i e. tt;
+      on_single = λ S m space value r s i e. tt;
+      on_place = λ S m space place s i. tt;
       on_raw = λ S m n advances s i h. (i, tt);
       on_pending = λ S m s i h. (i, tt);
       on_value = λ S m v s i h l. (i, tt, λ n. tt);

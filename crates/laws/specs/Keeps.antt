@@ -11,7 +11,8 @@ use Rattle.std.proofs.Math.Dec.{ltb, eqb}
 use Rattle.std.proofs.Math.ListN.{length}
 use Rattle.stream.specs.declared.putint.Int.{Int}
 use Rattle.stream.specs.Bytes.{peek_at}
-use Rattle.stream.specs.PutInt.{int_at}
+use Rattle.std.specs.Int.{from_bool}
+use Rattle.stream.specs.PutInt.{int_at, is_long}
 use Rattle.sheet.specs.Names.{k_deferred}
 use Rattle.sheet.specs.Sheet.{is_legacy, is_six_x, is_map_first, lo_space}
 use Rattle.sheet.specs.Usable.{Usable}
@@ -25,13 +26,13 @@ use Rattle.tables.specs.Values.{fields_of, width_of}
 use Rattle.tables.specs.Records.{room}
 use Rattle.tables.proofs.RecordLaws.{filled_length}
 use Rattle.alloc.specs.Allocation.{Outcome, allocate_of}
-use Rattle.definition.specs.Memory.{Input, word, Kept as Where, item, tell, Table, Mem, Out, got, no, Reader, and_then, ◌>>=◌, change, give, refuse, moved, with_skip, byte, after_int, int, appended}
+use Rattle.definition.specs.Memory.{Input, word, Kept as Where, item, tell, Table, Mem, Out, got, no, Reader, and_then, ◌>>=◌, change, give, refuse, moved, with_skip, byte, after_int, int, appended, with_long}
 use Rattle.definition.specs.Slots.{add_value, add_slot, waiter, fill_waiter, resolved, waits_of, keep_item, repeat_previous, place_item}
 use Rattle.definition.specs.Object.{peek, add_object, large_byte, change_chunk, after_allocation, allocate, alignment_byte, chunk_changes, map_first, map_then_allocate, read_map, flags, flag_object, keep_map, resolves, items, closed, body, object}
 use Rattle.laws.specs.Sound.{Proper, Kept}
 use Rattle.laws.specs.Leaves.{IntEnds, int_ends, tag_inside, peek-inside, peek-below, alignment_inside, Counters, chunk_counters, Allocates, allocate_grants}
 use Rattle.laws.specs.Rules.{Frame, frame, Sides, Aside, Slotted, Rules, with_slot}
-use Rattle.laws.specs.Steps.{listed_up, Good, Ends, Keeping, gives, refuses, either, here, by, last, then₁, then₂, then₃, then₄, law, append-ends, kept_noted, kept_pending, kept_skip, kept_counters, counters_now, kept_allocated, kept_value, kept_slot, kept_filled, kept_object, kept_flagged, good_moved, good_aligned}
+use Rattle.laws.specs.Steps.{listed_up, Good, Ends, Keeping, gives, refuses, either, here, by, last, then₁, then₂, then₃, then₄, law, append-ends, kept_noted, kept_pending, kept_skip, kept_counters, counters_now, kept_allocated, kept_value, kept_slot, kept_filled, kept_object, kept_flagged, good_moved, good_long, good_aligned}
 
 -- ---- what readers give
 
@@ -43,13 +44,13 @@ Any m a m' = Unit {0}
 abbrev pub Reads : {A : Type 0} → Mem → A → Mem → Type 0
 Reads m a m' = m.at < m'.at
 
--- a number was read, and only the cursor moved
+-- a number was read, and only the cursor moved, and integers were counted
 pub record Passed (most : ℕ) (m : Mem) (v : ℕ) (m' : Mem) : Type 0 where
   pub reads : m.at < m'.at
   pub small : v < most
   pub skip_same : m'.skip ≡ m.skip
   pub pending_same : m'.pending ≡ m.pending
-  pub only : m' ≡ moved m'.at m
+  pub only : m' ≡ with_long m'.long_integers (moved m'.at m)
 
 -- a table has one record more
 pub record More (t : Mem → Table) (m m' : Mem) : Type 0 where
@@ -142,8 +143,14 @@ module _ {x : Input} {I : List Frame → Mem → Type 0} {W : Mem → SlotValue 
       gives (good_moved R w (m.at + 1) (omega arith) (omega arith)) (record { reads = omega arith; small = g.bytes m.at; skip_same = refl; pending_same = refl; only = refl }))
       (λ _. refuses (good_moved R w (length x.payload) w.kept.sound.within (omega arith))))
 
+  one_at_most : (b : Bool) → from_bool b ≤ 1
+  one_at_most true = omega arith
+  one_at_most false = omega arith
+
   int_after : {S : List Frame} {m : Mem} → Good x I S m m → (i : Option Int) → IntEnds x.payload m.at i → Ends x I m (λ _. S) (Passed (2 ^ 30) m) (after_int x i m)
-  int_after {m} w (Some i) e = gives (good_moved R w (m.at + i.count) (omega arith) (omega arith)) (record { reads = omega arith; small = e.3; skip_same = refl; pending_same = refl; only = refl })
+  int_after {m} w (Some i) e =
+      let v = good_moved R w (m.at + i.count) (omega arith) (omega arith) in
+      gives (good_long R v (m.long_integers + from_bool (is_long i)) (omega (arith, w.kept.sound.long_low, one_at_most (is_long i)))) (record { reads = omega arith; small = e.3; skip_same = refl; pending_same = refl; only = refl })
   int_after w None e = refuses (good_moved R w (length x.payload) w.kept.sound.within (omega arith))
 
   pub int_keeps : Keeping x I (Passed (2 ^ 30)) (int x)
@@ -210,7 +217,7 @@ module _ {x : Input} {I : List Frame → Mem → Type 0} {W : Mem → SlotValue 
   pub chunk_byte_keeps : Keeping x I Reads (byte x >>= (λ space. change (change_chunk x space)))
   chunk_byte_keeps =
       law (λ S m w. then₁ w (by w byte_keeps) _
-      (λ space m1 w1 k1 p. gives (subst (λ (n : Mem). Good x I S m (change_chunk x space n)) (sym p.only) (good_chunk w space m1.at p.reads w1.kept.sound.within)) p.reads))
+      (λ space m1 w1 k1 p. gives (subst (λ (n : Mem). Good x I S m (change_chunk x space n)) (sym p.only) (good_long R (good_chunk w space m1.at p.reads w1.kept.sound.within) m1.long_integers w1.kept.sound.long_low)) p.reads))
 
   chunk_keeps : (space n : ℕ) → space < 256 → Keeping x I Besides (chunk_changes x space n)
   unfolding chunk_changes

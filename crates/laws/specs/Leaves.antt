@@ -1,6 +1,6 @@
 -- What the definitions below the walk keep: integers, raw ranges, back-references, the ring,
 -- allocation, head bytes. Assumes nothing.
-use Rattle.std.specs.Prelude.{if◌then◌else◌, ◌≡◌, Bool, not, ◌&&◌, ◌||◌, ◌≢◌, List, [], ◌∷◌, ℕ, zero, suc, ◌+◌, ◌-◌, ◌%◌, ◌^◌, ◌<◌, ◌≤◌, ltb, leb, eqb, get_or, set, Option, Some, None, Ok, Err}
+use Rattle.std.specs.Prelude.{if◌then◌else◌, ◌≡◌, Bool, not, ◌&&◌, ◌||◌, ◌≢◌, List, [], ◌∷◌, ℕ, zero, suc, ◌+◌, ◌-◌, ◌%◌, ◌^◌, ◌<◌, ◌≤◌, ltb, leb, eqb, get_or, set, Option, Some, None}
 use Rattle.std.proofs.Math.Path.{refl}
 use Rattle.std.proofs.Common.{◌∙◌, ⊎_elim, arith, lt_of_lt_of_le, length-set, pow_mono}
 use Rattle.std.proofs.Math.Bool.{true, false}
@@ -11,7 +11,7 @@ use Rattle.stream.specs.Bytes.{peek_at, little_endian, raw_at}
 use Rattle.stream.specs.PutInt.{int_length, int_at}
 use Rattle.stream.proofs.ByteLaws.{Bytes, le_below, peek-byte}
 use Rattle.sheet.specs.Names.{k_new_object, k_synchronize, k_alignment_prefix, k_new_meta_map}
-use Rattle.sheet.specs.Sheet.{number, present, new_object_span, word_bytes, is_legacy, is_six_x}
+use Rattle.sheet.specs.Sheet.{number, present, new_object_span, is_legacy}
 use Rattle.sheet.specs.declared.tests.Closing.TheVariants.{Synchronize, Alignment, Deferred, Reference}
 use Rattle.sheet.specs.Tests.{in_span, alignment_of, is_entry, closing_of}
 use Rattle.sheet.specs.Usable.{Usable}
@@ -21,14 +21,10 @@ use Rattle.tables.specs.Records.{room}
 use Rattle.tables.proofs.RecordLaws.{written_length}
 use Rattle.alloc.specs.declared.legacy_alloc.LegacyAlloc.{LegacyAlloc}
 use Rattle.alloc.specs.declared.legacy_alloc.Request.{Request}
-use Rattle.alloc.specs.declared.resolve.Place.{Place}
-use Rattle.alloc.specs.Resolve.{resolve_of, ordinal_from}
 use Rattle.alloc.specs.Fill.{fill_to_align}
 use Rattle.alloc.specs.Allocation.{advance_of, next_chunk, Outcome, placed, allocate_of}
-use Rattle.backref.specs.declared.legacy.BackrefError.TheVariants.{Cut, Unknown}
 use Rattle.backref.specs.declared.hot_ring.HotRing.{HotRing}
 use Rattle.backref.specs.HotRing.{entered}
-use Rattle.backref.specs.Legacy.{Answer, numbered_as, by_number, by_place, with_int, index_of, unpacked, packed_backref, plain_backref, backref_of}
 
 -- ---- integers and raw ranges
 
@@ -104,48 +100,6 @@ module _ (v : List ℕ) (u : Usable v) where
 pub entered_length : (hot : HotRing) (r : Ref) → length (entered hot r).places ≡ length hot.places
 unfolding entered
 entered_length hot r = length-set hot.places (hot.next % 8) (Some r)
-
--- ---- legacy back-references
-
--- the cursor after a back-reference lies after it and within the payload
-abbrev pub BackrefEnds : List ℕ → ℕ → Answer → Type 0
-BackrefEnds p at (Ok b) = (at < b.next) × (b.next ≤ length p)
-BackrefEnds p at (Err Cut) = Unit {0}
-BackrefEnds p at (Err (Unknown next)) = (at < next) × (next ≤ length p)
-
-module _ (p : List ℕ) (at : ℕ) where
-  by_number_lem : (f : Option ℕ) (next : ℕ) → at < next → next ≤ length p → BackrefEnds p at (by_number f next)
-  by_number_lem (Some o) next h l = (h, l)
-  by_number_lem None next h l = (h, l)
-
-  by_place_lem : (f : Option ℕ) (place : Place) (next : ℕ) → at < next → next ≤ length p → BackrefEnds p at (by_place f place next)
-  by_place_lem (Some o) place next h l = (h, l)
-  by_place_lem None place next h l = (h, l)
-
-  after_int_lem : (i : Option Int) (from : ℕ) (f : ℕ → ℕ → Answer) → at ≤ from → IntEnds p from i → ((v next : ℕ) → at < next → next ≤ length p → BackrefEnds p at (f v next)) → BackrefEnds p at (with_int i from f)
-  after_int_lem (Some i) from f b e h = h i.value (from + i.count) (omega arith) e.2
-  after_int_lem None from f b e h = tt
-
-module _ (v p t : List ℕ) (n alignment space at : ℕ) (bs : Bytes p) where
-  packed_ends : BackrefEnds p at (packed_backref v p t n alignment space at)
-  unfolding packed_backref
-  packed_ends =
-      after_int_lem p at (int_at p at) at _ (omega arith) (int_ends p at bs)
-      (λ value next h l. if_case (BackrefEnds p at) (eqb (numbered_as v space) 0) _ _
-      (λ _. by_place_lem p at (resolve_of t n space (unpacked v (index_of v value)).chunk (unpacked v (index_of v value)).offset alignment (word_bytes v)) _ next h l)
-      (λ _. by_number_lem p at (ordinal_from t (numbered_as v space) (index_of v value) 0 n) next h l))
-
-  plain_ends : BackrefEnds p at (plain_backref v p t n alignment space at)
-  unfolding plain_backref
-  plain_ends =
-      after_int_lem p at (int_at p at) at _ (omega arith) (int_ends p at bs)
-      (λ first next h l. if_case (BackrefEnds p at) (eqb (numbered_as v space) 0) _ _
-      (λ _. after_int_lem p at (int_at p next) next _ (omega arith) (int_ends p next bs) (λ second next' h' l'. by_place_lem p at (resolve_of t n space first second alignment (word_bytes v)) _ next' h' l'))
-      (λ _. by_number_lem p at (ordinal_from t (numbered_as v space) first 0 n) next h l))
-
-  pub backref_ends : BackrefEnds p at (backref_of v p t n alignment space at)
-  unfolding backref_of
-  backref_ends = if_case (BackrefEnds p at) (is_six_x v) _ _ (λ _. packed_ends) (λ _. plain_ends)
 
 -- ---- allocation
 

@@ -91,13 +91,15 @@ pub numbered-rules : (x : Input) → Rules x Numbers FreshValue
 numbered-rules x =
     record {
       on_move = λ S m at s i h l. i;
+      on_long = λ S m n i. i;
       on_amount = λ S m n s i d h. i;
       on_enter = λ S m r s i v. i;
       aside = λ m m' v a h. subst (λ (s : Sides). FreshIn s v) (sym a) h;
       on_given = λ S m v i d. given_fresh x (sides m) v d;
       on_backref = λ S m o i h. tt;
       on_hot = λ S m i r s h e. tt;
-      on_found = λ S m space b s i e. tt;
+      on_single = λ S m space value r s i e. tt;
+      on_place = λ S m space place s i. tt;
       on_raw = λ S m n advances s i h. (i, tt);
       on_pending = λ S m s i h. (waits_more i (m.pending + 1) (omega arith), fresh_next i);
       on_value = λ S m v s i h l. (i, tt, λ n. tt);

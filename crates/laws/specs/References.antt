@@ -1,6 +1,6 @@
 -- A reference keeps what it has in order (Sound.antt) and an invariant with its rules (Rules.antt),
 -- reads a byte at least, and no item is wider than 2 ^ 34 bytes. Assumes nothing.
-use Rattle.std.specs.Prelude.{if◌then◌else◌, ◌≡◌, Bool, ltb, length, Option, Some, None, Ok, Err}
+use Rattle.std.specs.Prelude.{if◌then◌else◌, ◌≡◌, Bool, ltb, length, Option, Some, None}
 use Rattle.std.proofs.Math.Path.{refl}
 use Rattle.std.proofs.Math.Bool.{true, false}
 use Rattle.std.proofs.Common.{⊎_elim, ltb-true}
@@ -18,15 +18,15 @@ use Rattle.tables.specs.declared.values.SlotValue.{SlotValue}
 use Rattle.tables.specs.declared.values.SlotValue.TheVariants.{Ref as IsRef, RepeatPrev, Skip, StreamBytes, ClearedWeak}
 use Rattle.tables.specs.Values.{width_of}
 use Rattle.backref.specs.HotRing.{entered, hot_at}
-use Rattle.backref.specs.declared.legacy.BackrefError.TheVariants.{Cut, Unknown}
-use Rattle.backref.specs.Legacy.{Answer, backref_of}
-use Rattle.definition.specs.Memory.{Input, word, Mem, Reader, ◌>>=◌, ◌>>◌, give, change, moved, with_hot, int, aligned}
-use Rattle.definition.specs.Reference.{skip_amount, refers, refers_hot, backref_to, of_hot, hot_place, of_backref, legacy_reference, outside, pending_reference, after_raw, raw_data, raw_bytes, weak_of, repeat_of, repeat_root, by_head, reference, ref_at}
+use Rattle.alloc.specs.declared.resolve.Place.{Place}
+use Rattle.backref.specs.Legacy.{is_single, single}
+use Rattle.definition.specs.Memory.{Input, word, Mem, Reader, ◌>>=◌, ◌>>◌, give, change, with_hot, int, aligned}
+use Rattle.definition.specs.Reference.{skip_amount, refers, refers_hot, backref_to, of_hot, hot_place, of_single, place_reference, legacy_reference, outside, pending_reference, after_raw, raw_data, raw_bytes, weak_of, repeat_of, repeat_root, by_head, reference, ref_at}
 use Rattle.laws.specs.Sound.{Proper}
 use Rattle.heads.proofs.Rules.{Argued, head_argued}
-use Rattle.laws.specs.Leaves.{RawEnds, raw_ends, BackrefEnds, backref_ends}
+use Rattle.laws.specs.Leaves.{RawEnds, raw_ends}
 use Rattle.laws.specs.Rules.{Frame, HeadOf, with_amount, gives_skip, gives_bytes, gives_previous, GivenRef, Given, Rules}
-use Rattle.laws.specs.Steps.{Good, Ends, Keeping, gives, refuses, either, here, by, last, then₁, then₂, law, weaken, kept_noted, kept_moved, kept_pending, kept_skip, good_moved, good_entered, good_aligned}
+use Rattle.laws.specs.Steps.{Good, Ends, Keeping, gives, refuses, either, here, by, last, then₁, then₂, law, weaken, kept_noted, kept_moved, kept_pending, kept_skip, good_entered, good_aligned}
 use Rattle.laws.specs.Keeps.{Reads, Refers, word_low, sheet_gives, byte_keeps, int_keeps, value_ends, chunk_byte_keeps, object-keeping}
 
 module _ {x : Input} (g : Proper x) where
@@ -92,15 +92,22 @@ module _ {x : Input} {I : List Frame → Mem → Type 0} {W : Mem → SlotValue 
   pub legacy_reference_keeps : (space : ℕ) → Keeping x I (Refers x W) (legacy_reference x space)
   unfolding legacy_reference
   legacy_reference_keeps space =
-      law (λ S m w. found w (backref_of x.sheet x.payload m.addresses.rows m.addresses.count m.alignment space m.at) refl
-      (backref_ends x.sheet x.payload m.addresses.rows m.addresses.count m.alignment space m.at g.bytes))
+      law (λ S m w. then₁ w (by w (int_keeps g R)) _
+      (λ first m1 w1 k1 p. either (is_single x.sheet space) _ _
+      (λ _. found w1 p.reads first _ refl)
+      (λ _. then₁ w1 (by w1 (int_keeps g R)) _
+      (λ second m2 w2 k2 q. at_place w2 (omega (arith, p.reads, q.reads)) (record { chunk = first; offset = second })))))
     where
-      found : {S : List Frame} {m : Mem} → Good x I S m m → (b : Answer) → backref_of x.sheet x.payload m.addresses.rows m.addresses.count m.alignment space m.at ≡ b → BackrefEnds x.payload m.at b → Ends x I m (λ _. S) (Refers x W m) (of_backref x b m)
-      found {S} {m} w (Ok b) q e =
-          let h : W (moved b.next m) (IsRef b.target) = R.aside m (moved b.next m) (IsRef b.target) refl (R.on_found S m space b w.kept.sound w.has q) in
-          hot_ends (good_moved R w b.next (omega arith) e.1) b.target h (record { reads = e.0; narrow = omega (arith, word_low g); has = entered_has b.target h })
-      found w (Err Cut) q e = refuses (good_moved R w (length x.payload) w.kept.sound.within (omega arith))
-      found w (Err (Unknown next)) q e = refuses (good_moved R w next (omega arith) e.1)
+      entering : {S : List Frame} {m₀ m : Mem} → Good x I S m₀ m → m₀.at < m.at → (r : Ref) → W m (IsRef r) → Ends x I m₀ (λ _. S) (Refers x W m₀) (refers_hot r m)
+      entering w l r h = hot_ends w r h (record { reads = l; narrow = omega (arith, word_low g); has = entered_has r h })
+
+      found : {S : List Frame} {m₀ m : Mem} → Good x I S m₀ m → m₀.at < m.at → (value : ℕ) (o : Option Ref)
+          → single x.sheet m.addresses.rows m.addresses.count m.alignment space value ≡ o → Ends x I m₀ (λ _. S) (Refers x W m₀) (of_single o m)
+      found {S} {m = m} w l value (Some r) e = entering w l r (R.on_single S m space value r w.kept.sound w.has e)
+      found w l value None e = refuses w
+
+      at_place : {S : List Frame} {m₀ m : Mem} → Good x I S m₀ m → m₀.at < m.at → (place : Place) → Ends x I m₀ (λ _. S) (Refers x W m₀) (place_reference x space place m)
+      at_place {S} {m = m} w l place = entering w l _ (R.on_place S m space place w.kept.sound w.has)
 
   outside_keeps : (n : ℕ) → Keeping x I Gives (outside x n)
   outside_keeps n = int_first _ (λ i h. refers_keeps (RoRef (2 ^ 32 - n) i) tt)

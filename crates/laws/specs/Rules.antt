@@ -2,7 +2,7 @@
 -- by each step holds of every reading. The invariant I speaks of the objects that are being read,
 -- the innermost first, and of what a reader has, also where it refuses; W speaks of a value that
 -- was read, until it is kept or dropped. Assumes nothing: these are definitions.
-use Rattle.std.specs.Prelude.{◌≡◌, Bool, true, false, List, [], ◌∷◌, ℕ, ◌+◌, ◌*◌, ◌/◌, ◌^◌, ◌<◌, ◌≤◌, length, Some, Ok}
+use Rattle.std.specs.Prelude.{◌≡◌, Bool, true, false, List, [], ◌∷◌, ℕ, ◌+◌, ◌*◌, ◌/◌, ◌^◌, ◌<◌, ◌≤◌, length, Some}
 use Rattle.sheet.specs.Sheet.{is_legacy}
 use Rattle.sheet.specs.declared.tests.Closing.TheVariants.{Synchronize}
 use Rattle.sheet.specs.Tests.{is_deferred, closing_of}
@@ -18,9 +18,9 @@ use Rattle.tables.specs.Values.{fields_of, width_of}
 use Rattle.tables.specs.Records.{room, object_row, slot_row, value_row}
 use Rattle.alloc.specs.Allocation.{Outcome, allocate_of}
 use Rattle.backref.specs.HotRing.{entered, hot_at}
-use Rattle.backref.specs.declared.legacy.Backref.{Backref}
-use Rattle.backref.specs.Legacy.{backref_of}
-use Rattle.definition.specs.Memory.{Input, word, Kept as Place, in_map, in_slot, in_value, dropped, opened, passed, item, value, begins, synchronize, Table, table, Mem, moved, with_objects, with_slots, with_values, with_hot, with_pending, with_skip, with_alloc, aligned, noted, added}
+use Rattle.alloc.specs.declared.resolve.Place.{Place as Position}
+use Rattle.backref.specs.Legacy.{placed, single}
+use Rattle.definition.specs.Memory.{Input, word, Kept as Place, in_map, in_slot, in_value, dropped, opened, passed, item, value, begins, synchronize, Table, table, Mem, moved, with_objects, with_slots, with_values, with_hot, with_pending, with_skip, with_long, with_alloc, aligned, noted, added}
 use Rattle.definition.specs.Slots.{counted, resolved, waits_of, previous}
 use Rattle.definition.specs.Object.{peek, change_chunk, flags, flagged}
 use Rattle.laws.specs.Sound.{Sound}
@@ -133,6 +133,8 @@ with_map x o v m = noted (item o 0 (word x) m.slots.count) (with_slot o 0 (field
 pub record Rules (x : Input) (I : List Frame → Mem → Type 0) (W : Mem → SlotValue → Type 0) : Type 0 where
   -- the cursor moves on
   pub on_move : (S : List Frame) (m : Mem) (at : ℕ) → Sound x m → I S m → m.at ≤ at → at ≤ length x.payload → I S (moved at m)
+  -- integers that are longer than their values need are counted
+  pub on_long : (S : List Frame) (m : Mem) (n : ℕ) → I S m → I S (with_long n m)
   -- a with-skip amount is read
   pub on_amount : (S : List Frame) (m : Mem) (n : ℕ) → Sound x m → I S m → HeadOf x with_amount → n < 2 ^ 30 → I S (with_skip (m.skip + n) m)
   -- a reference enters the ring
@@ -142,7 +144,10 @@ pub record Rules (x : Input) (I : List Frame → Mem → Type 0) (W : Mem → Sl
   pub on_given : (S : List Frame) (m : Mem) (v : SlotValue) → I S m → Given x v → W m v
   pub on_backref : (S : List Frame) (m : Mem) (o : ℕ) → I S m → o < m.objects.count → W m (IsRef (Object o))
   pub on_hot : (S : List Frame) (m : Mem) (i : ℕ) (r : Ref) → Sound x m → I S m → hot_at m.hot i ≡ Some r → W m (IsRef r)
-  pub on_found : (S : List Frame) (m : Mem) (space : ℕ) (b : Backref) → Sound x m → I S m → backref_of x.sheet x.payload m.addresses.rows m.addresses.count m.alignment space m.at ≡ Ok b → W m (IsRef b.target)
+  pub on_single : (S : List Frame) (m : Mem) (space value : ℕ) (r : Ref) → Sound x m → I S m
+      → single x.sheet m.addresses.rows m.addresses.count m.alignment space value ≡ Some r → W m (IsRef r)
+  pub on_place : (S : List Frame) (m : Mem) (space : ℕ) (place : Position) → Sound x m → I S m
+      → W m (IsRef (placed x.sheet m.addresses.rows m.addresses.count m.alignment space place))
   pub on_raw : (S : List Frame) (m : Mem) (n : ℕ) (advances : Bool) → Sound x m → I S m → m.at + n ≤ length x.payload → (I S (with_raw n m)) × (W (with_raw n m) (IsRaw (record { off = m.at; len = n; advances = advances })))
   pub on_pending : (S : List Frame) (m : Mem) → Sound x m → I S m → m.pending < m.at → (I S (with_pending (m.pending + 1) m.waiting m)) × (W (with_pending (m.pending + 1) m.waiting m) (PendingRef m.pending))
   -- a value record, for a weak or for repeats; in 6.x of the previous slot's value

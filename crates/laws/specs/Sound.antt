@@ -30,6 +30,7 @@ pub record Sound (x : Input) (m : Mem) : Type 0 where
   pub skip_low : m.skip ≤ m.at * 2 ^ 30
   pub pending_low : m.pending ≤ m.at
   pub waiting_low : m.waiting ≤ m.slots.count
+  pub long_low : m.long_integers ≤ m.at
 
 -- and at every index: chunk numbers are no higher than the cursor, and slot counts than the number
 -- of slots

@@ -13,7 +13,7 @@ use Rattle.alloc.specs.declared.legacy_alloc.LegacyAlloc.{LegacyAlloc}
 use Rattle.alloc.specs.Allocation.{Outcome}
 use Rattle.backref.specs.declared.hot_ring.HotRing.{HotRing}
 use Rattle.backref.specs.HotRing.{entered}
-use Rattle.definition.specs.Memory.{Input, Event, Table, table, Mem, Out, got, no, Reader, and_then, moved, with_objects, with_slots, with_values, with_hot, with_pending, with_skip, with_alloc, aligned, noted, added, append}
+use Rattle.definition.specs.Memory.{Input, Event, Table, table, Mem, Out, got, no, Reader, and_then, moved, with_objects, with_slots, with_values, with_hot, with_pending, with_skip, with_alloc, aligned, noted, added, append, with_long}
 use Rattle.definition.specs.Slots.{counted}
 use Rattle.definition.specs.Object.{flagged}
 use Rattle.laws.specs.Sound.{Onward, Kept}
@@ -166,6 +166,14 @@ module _ {x : Input} {m₀ m : Mem} (w : Kept x m₀ m) where
         onward = omega (arith, w.onward);
       }
 
+  pub kept_long : (n : ℕ) → n ≤ m.at → Kept x m₀ (with_long n m)
+  kept_long n h =
+      record {
+        sound = omega (arith, w.sound);
+        counted = record { chunk_low = w.counted.chunk_low; count_low = w.counted.count_low };
+        onward = omega (arith, w.onward);
+      }
+
   -- chunk counters
   pub kept_counters : (a : ℕ) (c : LegacyAlloc) → Counters m.at c → Kept x m₀ (with_alloc m.addresses a c m)
   kept_counters a c h =
@@ -254,6 +262,9 @@ module _ {x : Input} {m₀ m : Mem} (w : Kept x m₀ m) where
 module _ {x : Input} {I : List Frame → Mem → Type 0} {W : Mem → SlotValue → Type 0} (R : Rules x I W) {S : List Frame} {m₀ m : Mem} (w : Good x I S m₀ m) where
   pub good_moved : (at : ℕ) → m.at ≤ at → at ≤ length x.payload → Good x I S m₀ (moved at m)
   good_moved at h l = record { kept = kept_moved w.kept at h l; has = R.on_move S m at w.kept.sound w.has h l; listed = w.listed }
+
+  pub good_long : (n : ℕ) → n ≤ m.at → Good x I S m₀ (with_long n m)
+  good_long n h = record { kept = kept_long w.kept n h; has = R.on_long S m n w.has; listed = w.listed }
 
   pub good_entered : (r : Ref) → W m (IsRef r) → Good x I S m₀ (with_hot (entered m.hot r) m)
   good_entered r v = record { kept = kept_hot w.kept _ (entered_length m.hot r); has = R.on_enter S m r w.kept.sound w.has v; listed = w.listed }

@@ -33,14 +33,16 @@ ring r hot = ring_with r.enters r.value hot
 
 -- the state after it
 abbrev pub after : Leaf → State → State
-after r s = moved_to r.next s
+after r s = record s { at = r.next; long_integers = s.long_integers + r.long_integers }
 
 -- a head of this kind, after which the cursor stands, is this leaf: it gives the leaf's value,
--- whose width the leaf has, and which becomes a slot that does not wait
+-- whose width the leaf has, and which becomes a slot that does not wait. It has two integers at
+-- most
 pub record Stands (x : Input) (tag : ℕ) (kind : Kind) (a : ℕ) (s : State) (l : Lent) (r : Leaf) : Type 0 where
   pub is : (inner : Reader SlotValue) → got r.value (mem (after r s) (hot_is (ring r l.hot) l)) ≡ by_head x inner tag kind a (mem s l)
   pub width : r.width ≡ width_of (word x) r.value
   pub narrow : word x ≤ 8 → r.width < 2 ^ 20
+  pub few : r.long_integers ≤ 2
   pub kept : (o done : ℕ) (m : Mem) → keep_item x o done r.value m ≡ place_item x o done r.value m
   pub waits : 0 ≡ waits_of r.value
 

@@ -18,12 +18,14 @@ ghost use Rattle.backref.specs.declared.hot_ring.HotRing.{HotRing};
 ghost use Rattle.definition.specs.Reference.{reference as referenceOf};
 ghost use Rattle.readers.specs.Lent.{input_of, Kept, Addressed};
 ghost use Rattle.leaves.specs.Leaf.{Found, Missing, LeafAt, LeafByte, NoLeafAt, begins_leaf, RefusedAs, ItemByte, RoomyItem, item_of, kind_at, argument_at, FoundIn, MissingIn, StaysInOrder, ReadAs, slot_in, ring_with};
+ghost use Rattle.readers.specs.Views.{Counts};
 
 use backref::hot_ring::HotRing;
+use backref::legacy::is_single;
 use heads::heads::Head;
 use heads::kinds::Kind;
 use objects::item::Level;
-use readers::simple::find_backref;
+use readers::simple::{find_place, find_single};
 use readers::state::State;
 use readers::walker::{DEEPEST, Walker};
 use sheet::numbers::{word_bytes, words_in};
@@ -43,17 +45,20 @@ pub struct Leaf {
     pub next: usize,
     /// It enters the hot ring.
     pub enters: bool,
+    /// How many of its integers are longer than their values need.
+    pub long_integers: u64,
 }
 
 // A reference, which is one word wide.
-fn reference(r: Ref, next: usize, word: u64, enters: bool) -> Leaf
-    ensures { result ≡ record { value = IsRef r; width = word; next = next; enters = enters } }
+fn reference(r: Ref, next: usize, word: u64, enters: bool, long_integers: u64) -> Leaf
+    ensures { result ≡ record { value = IsRef r; width = word; next = next; enters = enters; long_integers = long_integers } }
 {
     Leaf {
         value: SlotValue::Ref(r),
         width: word,
         next,
         enters,
+        long_integers,
     }
 }
 
@@ -67,7 +72,7 @@ fn hot_leaf(hot: &HotRing, place: usize, next: usize, word: u64) -> Option<Leaf>
         → Missing p hot.now objects word next Hot place }
 {
     let r = (*hot.places.get(place)?)?;
-    Some(reference(r, next, word, false))
+    Some(reference(r, next, word, false, 0))
 }
 
 // An object by plain index, which enters the ring.
@@ -81,7 +86,8 @@ fn back_leaf(p: &[u8], at: usize, objects: usize, word: u64) -> Option<Leaf>
     if objects as u64 <= i.value as u64 {
         return None;
     }
-    Some(reference(Ref::Object(i.value as u64), at + i.count, word, true))
+    let long = u64::from(i.is_long());
+    Some(reference(Ref::Object(i.value as u64), at + i.count, word, true, long))
 }
 
 // A root by integer, which enters the ring.
@@ -93,7 +99,8 @@ fn root_array_leaf(p: &[u8], at: usize, word: u64) -> Option<Leaf>
         → Missing p.now hot objects word at RootArray i }
 {
     let i = putint(p, at)?;
-    Some(reference(Ref::Root(i.value as u64), at + i.count, word, true))
+    let long = u64::from(i.is_long());
+    Some(reference(Ref::Root(i.value as u64), at + i.count, word, true, long))
 }
 
 // A read-only reference.
@@ -108,12 +115,9 @@ fn read_only_leaf(p: &[u8], at: usize, word: u64) -> Option<Leaf>
     let next = at + chunk.count;
     let offset = putint(p, next)?;
     let end = next + offset.count;
-    Some(reference(
-        Ref::RoRef(chunk.value as u64, offset.value as u64),
-        end,
-        word,
-        false,
-    ))
+    let long = u64::from(chunk.is_long()) + u64::from(offset.is_long());
+    let r = Ref::RoRef(chunk.value as u64, offset.value as u64);
+    Some(reference(r, end, word, false, long))
 }
 
 // Fixed raw data of n words.
@@ -136,6 +140,7 @@ fn raw_leaf(p: &[u8], at: usize, n: u64, word: u64) -> Option<Leaf>
         width: bytes,
         next,
         enters: false,
+        long_integers: 0,
     })
 }
 
@@ -155,7 +160,7 @@ fn leaf_of(w: &Walker, head: Head, at: usize, objects: usize) -> Option<Leaf>
         Kind::Backref => back_leaf(p, at, objects, word),
         Kind::Hot => hot_leaf(&w.hot, a as usize, at, word),
         Kind::RootArray => root_array_leaf(p, at, word),
-        Kind::RootConstant => Some(reference(Ref::Root(a), at, word, false)),
+        Kind::RootConstant => Some(reference(Ref::Root(a), at, word, false, 0)),
         Kind::ReadOnly => read_only_leaf(p, at, word),
         Kind::FixedRaw => raw_leaf(p, at, a, word),
         _ => None,
@@ -180,8 +185,18 @@ fn legacy_leaf(w: &Walker, s: State, at: usize, space: u64) -> Option<Leaf>
     ensures some { FoundIn w.now s at LegacyBackref space result }
     ensures none { IsNone result → MissingIn w.now s at LegacyBackref space }
 {
-    let b = find_backref(w, s, space, at).ok()?;
-    Some(reference(b.target, b.next, word_bytes(w.sheet), true))
+    let word = word_bytes(w.sheet);
+    let first = putint(w.payload, at)?;
+    let next = at + first.count;
+    let long = u64::from(first.is_long());
+    if is_single(w.sheet, space) {
+        let r = find_single(w, s, space, first.value)?;
+        return Some(reference(r, next, word, true, long));
+    }
+    let second = putint(w.payload, next)?;
+    let r = find_place(w, s, space, first.value, second.value);
+    let longs = long + u64::from(second.is_long());
+    Some(reference(r, next + second.count, word, true, longs))
 }
 
 // The leaf at the cursor, a legacy back-reference too.
@@ -216,6 +231,7 @@ pub fn enter(hot: &mut HotRing, leaf: Leaf)
 /// Reads the leaf at the cursor as a reference: its value, and the state after it. `None` as in
 /// `leaf_at`; then nothing is changed.
 pub fn take_leaf(w: &mut Walker, s: State) -> Option<(SlotValue, State)>
+    requires { Counts s }
     ensures read { IfSome result (ReadAs w.old s w.new (referenceOf (input_of w.old))) }
     ensures none { IsNone result → LeafByte w.old s.at
         → RefusedAs w.old s (referenceOf (input_of w.old)) }
@@ -224,7 +240,11 @@ pub fn take_leaf(w: &mut Walker, s: State) -> Option<(SlotValue, State)>
 {
     let leaf = leaf_at(w, s.at, s.objects)?;
     enter(&mut w.hot, leaf);
-    let t = State { at: leaf.next, ..s };
+    let t = State {
+        at: leaf.next,
+        long_integers: s.long_integers + leaf.long_integers,
+        ..s
+    };
     Some((leaf.value, t))
 }
 
@@ -236,7 +256,7 @@ pub fn take_leaf(w: &mut Walker, s: State) -> Option<(SlotValue, State)>
 /// refuses the item (its slot's room included), and where the sum of its bytes could pass 2^64;
 /// then nothing is changed.
 pub fn place_leaf(w: &mut Walker, s: State, d: usize, level: Level) -> Option<(u64, State)>
-    requires { Countable w.old.objects.now level.object × Addressed w.old s.addresses }
+    requires { Countable w.old.objects.now level.object × Addressed w.old s.addresses × Counts s }
     ensures read { IfSome result (λ r. (d < 64) × ReadAs w.old s w.new (λ inner. slot_in (input_of w.old) (referenceOf (input_of w.old) inner) level.object level.done) r) }
     ensures none { IsNone result → d < 64 → ItemByte w.old s.at → RoomyItem w.old s level
         → RefusedAs w.old s (item_of w.old level) }
@@ -261,6 +281,7 @@ pub fn place_leaf(w: &mut Walker, s: State, d: usize, level: Level) -> Option<(u
         at: leaf.next,
         slots: s.slots + 1,
         skip: 0,
+        long_integers: s.long_integers + leaf.long_integers,
         ..s
     };
     Some((end, t))

@@ -13,7 +13,7 @@ use Rattle.objects.specs.Item.{slot_of}
 -- the state without the with-skip amount
 abbrev unskipped : State → State
 unskipped s =
-    record { at = s.at; objects = s.objects; slots = s.slots; values = s.values; addresses = s.addresses; pending = s.pending; waiting = s.waiting; skip = 0; alignment = s.alignment }
+    record s { skip = 0 }
 
 -- the slot of an object, from what the slot record's reader answered
 module _ (x : Input) (o done child : ℕ) (s t : State) (l l' : Lent) {i : ℕ} {f : Fields} (index_is : i ≡ (done + s.skip) / word x) (fields_are : f ≡ fields_of (IsRef (Object child))) where

@@ -104,8 +104,7 @@ module _ (x : Input) (s : State) (space bytes o : ℕ) (w : ℕ) (l : Lent) (ew 
   -- the state with one address record more
   abbrev located : ℕ → State
   located alignment =
-      record
-      { at = s.at; objects = s.objects; slots = s.slots; values = s.values; addresses = s.addresses + 1; pending = s.pending; waiting = s.waiting; skip = s.skip; alignment = alignment }
+      record s { addresses = s.addresses + 1; alignment = alignment }
 
   pub allocated : {alignment : ℕ} {c' : LegacyAlloc} {after : List ℕ} → outcome 0 alignment c' after ≡ allocates → {l' : Lent} → l' ≡ addresses_is after (alloc_is c' l) → got tt (mem (located alignment) l') ≡ allocate x space bytes o (mem s l)
   unfolding allocate
@@ -126,8 +125,7 @@ module _ (x : Input) (space : ℕ) (m : Mem) where
 -- the cursor after a chunk change
 abbrev stepped : State → State
 stepped t =
-    record
-    { at = t.at + 2; objects = t.objects; slots = t.slots; values = t.values; addresses = t.addresses; pending = t.pending; waiting = t.waiting; skip = t.skip; alignment = t.alignment }
+    record t { at = t.at + 2 }
 
 -- what holds at the head of the loop: the fuel left is enough, and what is left gives what the
 -- whole gives

@@ -20,7 +20,7 @@ use Rattle.sheet.specs.Tests.{is_resolve}
 use Rattle.sheet.proofs.UsableSheet.{usable_gives}
 use Rattle.tables.specs.Records.{room, filled}
 use Rattle.tables.proofs.RecordLaws.{filled_length}
-use Rattle.definition.specs.Memory.{Input, Mem, got, no, moved, with_pending, byte, int, after_int}
+use Rattle.definition.specs.Memory.{Input, Mem, got, no, moved, past_int, with_pending, byte, int, after_int}
 use Rattle.definition.specs.Slots.{waiter, renumbered, fill_waiter, resolved}
 use Rattle.definition.specs.Object.{peek, resolves}
 use Rattle.laws.specs.Waiting.{Waits, some_wait, waiter_found as waits-found}
@@ -28,7 +28,7 @@ use Rattle.laws.specs.Numbered.{Numbered as Waiting, resolved-numbered}
 use Rattle.readers.specs.declared.state.State.{State}
 use Rattle.readers.specs.declared.walker.Walker.{Walker}
 use Rattle.readers.specs.Lent.{input_of, lent_of, Kept}
-use Rattle.readers.specs.Views.{Lent, mem, slots_is}
+use Rattle.readers.specs.Views.{Lent, mem, slots_is, Counts}
 use Rattle.objects.specs.Index.{Indexed}
 use Rattle.objects.proofs.AnswerLaws.{kept_still, kept_then}
 use Rattle.objects.proofs.WaiterLaws.{by_case, waiter_found, indexed_filled}
@@ -59,6 +59,10 @@ fill_at : (k o : ℕ) (m : Mem) → (fill_waiter k o m).at ≡ m.at
 fill_at zero o m = refl
 fill_at (suc k) o m = refl
 
+fill_long : (k o : ℕ) (m : Mem) → (fill_waiter k o m).long_integers ≡ m.long_integers
+fill_long zero o m = refl
+fill_long (suc k) o m = refl
+
 fill_count : (k o : ℕ) (m : Mem) → (fill_waiter k o m).slots.count ≡ m.slots.count
 fill_count zero o m = refl
 fill_count (suc k) o m = refl
@@ -76,6 +80,10 @@ module _ (n o : ℕ) (m : Mem) where
   unfolding resolved
   resolved_at = fill_at (waiter m.slots.rows n m.slots.count) o m
 
+  resolved_long : (resolved n o m).long_integers ≡ m.long_integers
+  unfolding resolved
+  resolved_long = fill_long (waiter m.slots.rows n m.slots.count) o m
+
   resolved_count : (resolved n o m).slots.count ≡ m.slots.count
   unfolding resolved
   resolved_count = fill_count (waiter m.slots.rows n m.slots.count) o m
@@ -85,7 +93,7 @@ module _ (n o : ℕ) (m : Mem) where
 record IntRead (p : List ℕ) (m m' : Mem) : Type 0 where
   found_int : Int
   is : int_at p m.at ≡ Some found_int
-  moves : m' ≡ moved (m.at + found_int.count) m
+  moves : m' ≡ past_int found_int m
 
 module _ (x : Input) (v : ℕ) (m m' : Mem) where
   int_cases : (i : Option Int) → int_at x.payload m.at ≡ i → got v m' ≡ after_int x i m → IntRead x.payload m m'
@@ -128,7 +136,7 @@ tag_within v p at u e =
 -- the state when the tag has been read
 abbrev pub passed : State → State
 passed s =
-    record { at = s.at + 1; objects = s.objects; slots = s.slots; values = s.values; addresses = s.addresses; pending = s.pending; waiting = s.waiting; skip = s.skip; alignment = s.alignment }
+    record s { at = s.at + 1 }
 
 -- the state when the number has been read
 record Numbered (p : List ℕ) (s t : State) : Type 0 where
@@ -157,6 +165,7 @@ pub record Resolving (w₀ : Walker) (o : ℕ) (s₀ : State) (w : Walker) (s : 
   pub left : ℕ
   pub enough : length w₀.payload.now ≤ s.at + left
   pub within : s.at ≤ length w₀.payload.now
+  pub counts : Counts s
   pub fits : s.slots ≤ room 6 w.slots.now
   pub same : resolves (input_of w₀) o left (mem s (lent_of w)) ≡ resolves (input_of w₀) o (length w₀.payload.now - s₀.at) (mem s₀ (lent_of w₀))
   pub indexed : Indexed w.slots.now s.slots w.pending.now
@@ -164,9 +173,9 @@ pub record Resolving (w₀ : Walker) (o : ℕ) (s₀ : State) (w : Walker) (s : 
   pub kept : Kept w₀ w
 
 module _ (w₀ : Walker) (o : ℕ) (s₀ : State) where
-  pub resolving_start : s₀.at ≤ length w₀.payload.now → s₀.slots ≤ room 6 w₀.slots.now → Indexed w₀.slots.now s₀.slots w₀.pending.now → Waits w₀.slots.now s₀.slots s₀.pending s₀.waiting → Resolving w₀ o s₀ w₀ s₀
-  resolving_start h g x w =
-      record { left = length w₀.payload.now - s₀.at; enough = omega arith; within = h; fits = g; same = refl; indexed = x; waits = w; kept = kept_still w₀ }
+  pub resolving_start : s₀.at ≤ length w₀.payload.now → Counts s₀ → s₀.slots ≤ room 6 w₀.slots.now → Indexed w₀.slots.now s₀.slots w₀.pending.now → Waits w₀.slots.now s₀.slots s₀.pending s₀.waiting → Resolving w₀ o s₀ w₀ s₀
+  resolving_start h e g x w =
+      record { left = length w₀.payload.now - s₀.at; enough = omega arith; within = h; counts = e; fits = g; same = refl; indexed = x; waits = w; kept = kept_still w₀ }
 
   module _ (w : Walker) (s : State) (k : Resolving w₀ o s₀ w s) where
     abbrev x : Input
@@ -208,12 +217,13 @@ module _ (w₀ : Walker) (o : ℕ) (s₀ : State) where
           pub resolving_less : length w₀.payload.now - s'.at < length w₀.payload.now - s.at
           resolving_less = omega (arith, read.more, read.within, turn_at)
 
-          pub resolving_turn : Indexed w'.slots.now s'.slots w'.pending.now → Kept w w' → Resolving w₀ o s₀ w' s'
-          resolving_turn g h =
+          pub resolving_turn : Counts t → Indexed w'.slots.now s'.slots w'.pending.now → Kept w w' → Resolving w₀ o s₀ w' s'
+          resolving_turn f g h =
               record {
                 left = k.left - 1;
                 enough = omega (arith, read.more, turn_at, k.enough);
                 within = omega (arith, read.within, turn_at);
+                counts = (let b = ap (λ (m : Mem). m.long_integers) a ∙ resolved_long n o (mem t (lent_of w)) in omega (arith, f, b, turn_at));
                 fits =
                     let b = ap (λ (m : Mem). m.slots.count) a ∙ resolved_count n o (mem t (lent_of w)) in
                     let c = ap (λ (m : Mem). length m.slots.rows) a ∙ resolved_length n o (mem t (lent_of w)) in

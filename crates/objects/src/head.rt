@@ -3,7 +3,7 @@
 ghost use Rattle.std.specs.Prelude.{true, false, ◌≡◌, ◌^◌, ◌<◌, IfSome, IsNone};
 ghost use Rattle.sheet.specs.Sheet.{usable};
 ghost use Rattle.heads.specs.declared.kinds.Kind.TheVariants.{NewObject as NewObjectKind};
-ghost use Rattle.readers.specs.Views.{mem, seen, Below};
+ghost use Rattle.readers.specs.Views.{mem, seen, Below, Counts};
 ghost use Rattle.readers.specs.Lent.{input_of, lent_of, Kept};
 ghost use Rattle.objects.specs.Head.{recording, opening, OpensAt, NewAt};
 
@@ -54,7 +54,7 @@ pub fn new_object_at(w: &Walker, at: usize) -> Option<NewObject>
 /// in words. In 6.x a large object has one byte more. Refused (docs/FORMAT.md, "Refusals") where
 /// the payload ends and where the record has no room.
 pub fn open_object(w: &mut Walker, s: State, new: NewObject) -> Answer<u64>
-    requires { usable w.old.sheet.now ≡ true }
+    requires { (usable w.old.sheet.now ≡ true) × Counts s }
     ensures is { seen result (lent_of w.new) ≡ opening (input_of w.old) new.space new.tag (mem s (lent_of w.old)) }
     ensures small { Below (2 ^ 30) result }
     ensures kept { Kept w.old w.new }

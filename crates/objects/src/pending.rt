@@ -8,7 +8,7 @@ ghost use Rattle.tables.specs.Records.{room};
 ghost use Rattle.definition.specs.Memory.{with_pending};
 ghost use Rattle.definition.specs.Slots.{waits_for, waiter, renumbered, resolved};
 ghost use Rattle.definition.specs.Object.{resolves as resolvesFrom};
-ghost use Rattle.readers.specs.Views.{Lent, mem, seen};
+ghost use Rattle.readers.specs.Views.{Lent, mem, seen, Counts};
 ghost use Rattle.readers.specs.Lent.{input_of, lent_of, Kept};
 ghost use Rattle.objects.specs.Index.{counted, Entry, Indexed, IndexedAfter, Waiting};
 
@@ -110,7 +110,7 @@ fn resolve(w: &mut Walker, s: State, number: u64, o: u64) -> State
 /// under each number becomes a reference to `o`. Refused where the payload ends in a number.
 #[inline(always)]
 pub fn resolves(w: &mut Walker, s: State, o: u64) -> Answer<()>
-    requires usable { (usable w.old.sheet.now ≡ true) × (s.at ≤ length w.old.payload.now) }
+    requires usable { (usable w.old.sheet.now ≡ true) × (s.at ≤ length w.old.payload.now) × Counts s }
     requires waits { Waiting w.old s }
     ensures is { seen result (lent_of w.new) ≡ resolvesFrom (input_of w.old) o (length w.old.payload.now - s.at) (mem s (lent_of w.old)) }
     ensures index { IndexedAfter result w.new.slots.now w.new.pending.now }

@@ -1,6 +1,9 @@
 -- An object whose map is a leaf: its head, its map, its address and its slot 0. Assumes nothing.
-use Rattle.std.specs.Prelude.{if◌then◌else◌, ◌≡◌, refl, Bool, true, false, List, ℕ, ◌+◌, ◌*◌, ◌^◌, ◌<◌, ltb, eqb}
+use Rattle.std.specs.Prelude.{if◌then◌else◌, ◌≡◌, refl, Bool, true, false, List, ℕ, ◌+◌, ◌*◌, ◌^◌, ◌<◌, ◌≤◌, ltb, eqb}
 use Rattle.std.proofs.Common.{arith, ap, subst, lt-ltb}
+use Rattle.std.specs.Int.{from_bool}
+use Rattle.stream.specs.declared.putint.Int.{Int}
+use Rattle.stream.specs.PutInt.{is_long}
 use Rattle.sheet.specs.Sheet.{is_legacy, word_bytes}
 use Rattle.heads.specs.Heads.{Heads}
 use Rattle.tables.specs.declared.values.Fields.{Fields}
@@ -75,7 +78,7 @@ new_indexed {w} {w'} a n o index f {t} p x =
 
 -- the map's slot
 slot_kept : (x : Input) (o : ℕ) (v : SlotValue) (s : State) (l : Lent) {ot st : List ℕ} → flags x v ≡ false → ltb s.slots (room 6 l.slots) ≡ true → ot ≡ counted l.objects o → st ≡ written l.slots s.slots (slot_row o 0 (fields_of v) 0)
-    → got tt (mem (record { at = s.at; objects = s.objects; slots = s.slots + 1; values = s.values; addresses = s.addresses; pending = s.pending; waiting = s.waiting; skip = s.skip; alignment = s.alignment }) (objects_is ot (slots_is st l))) ≡ keep_map x o v (mem s l)
+    → got tt (mem (record s { slots = s.slots + 1 }) (objects_is ot (slots_is st l))) ≡ keep_map x o v (mem s l)
 unfolding keep_map flag_object add_slot
 slot_kept x o v s l f b eo es =
     let z : s.waiting + 0 ≡ s.waiting = omega arith in
@@ -83,11 +86,14 @@ slot_kept x o v s l f b eo es =
 
 -- ---- where no leaf is the map
 
--- the state after the object's record, the integer before the map having so many bytes
-abbrev recorded : ℕ → State → State
-recorded count s =
-    record
-    { at = s.at + count; objects = s.objects + 1; slots = s.slots; values = s.values; addresses = s.addresses; pending = s.pending; waiting = s.waiting; skip = s.skip; alignment = s.alignment }
+pub bit_low : (b : Bool) → from_bool b ≤ 1
+bit_low true = omega arith
+bit_low false = omega arith
+
+-- the state after the object's record, where this integer stands before the map
+abbrev recorded : Int → State → State
+recorded i s =
+    record s { at = s.at + i.count; objects = s.objects + 1; long_integers = s.long_integers + from_bool (is_long i) }
 
 pub map_refused : (w : Walker) (s : State) (count : ℕ) (space tag : ℕ) → Heads w.sheet.now w.heads.now → MapByte w s count → NoLeafAt w (s.at + count) (s.objects + 1) → s.objects < room 4 w.objects.now → (inner : Reader SlotValue)
     → Refused (opened (input_of w) (reference (input_of w) inner) space tag s.objects (mem s (lent_of w)))
@@ -96,9 +102,10 @@ map_refused w s count space tag decoded b missing roomy inner =
     let x : Input = input_of w in
     let bytes : ℕ = b.words * word x in
     let l : Lent = objects_is (written w.objects.now s.objects (object_row bytes tag)) (lent_of w) in
-    let m₁ : Mem = mem (recorded count s) l in
+    let i : Int = record { value = b.words; count = count } in
+    let m₁ : Mem = mem (recorded i s) l in
     let head : got b.words m₁ ≡ opening x space tag (mem s (lent_of w)) = rw (← b.sized, b.no_large_byte, lt-ltb s.objects (room 4 w.objects.now) roomy) refl in
-    let r : Refused (reference x inner m₁) = leaf_refused w (recorded count s) l refl decoded b.leaf.0 missing inner in
+    let r : Refused (reference x inner m₁) = leaf_refused w (recorded i s) l refl decoded b.leaf.0 missing inner in
     let map : Refused (read_map x (reference x inner) space bytes s.objects m₁) = rw (b.not_first, b.no_address) r in
     let rest : ℕ → Reader ℕ = λ words. read_map x (reference x inner) space (words * word x) s.objects >>= keep_map x s.objects >> give (words * word x) in
     subst (λ (o : Out ℕ). Refused (and_then o rest)) head (refused_then _ (λ (u : Unit {0}). give bytes) (refused_then _ (keep_map x s.objects) map))
@@ -106,18 +113,17 @@ map_refused w s count space tag decoded b missing roomy inner =
 -- ---- the whole
 
 -- the state after the map's slot, from the one before all and the one after the address
-abbrev opened_state : Leaf → State → State → State
-opened_state r s t =
-    record
-    { at = r.next; objects = s.objects + 1; slots = s.slots + 1; values = t.values; addresses = t.addresses; pending = t.pending; waiting = t.waiting; skip = t.skip; alignment = t.alignment }
+abbrev opened_state : Int → Leaf → State → State → State
+opened_state i r s t =
+    record t { at = r.next; objects = s.objects + 1; slots = s.slots + 1; long_integers = s.long_integers + from_bool (is_long i) + r.long_integers }
 
-module _ (w w₁ : Walker) (s t : State) (ts words : ℕ) (map : Leaf) (space tag : ℕ) (decoded : Heads w.sheet.now w.heads.now) (ew : ts ≡ word_bytes w.sheet.now) (a : MapAt w s words map) (g : Given w s space (words * ts) s.objects t w₁) {f : Fields} {ot ot' st : List ℕ} {hot : HotRing} (po : Put w₁.objects.now s.objects (object_row (words * ts) tag) true ot) (eo : ot' ≡ counted ot s.objects)
+module _ (w w₁ : Walker) (s t : State) (ts : ℕ) (size : Int) (map : Leaf) (space tag : ℕ) (decoded : Heads w.sheet.now w.heads.now) (ew : ts ≡ word_bytes w.sheet.now) (a : MapAt w s size map) (g : Given w s space (size.value * ts) s.objects t w₁) {f : Fields} {ot ot' st : List ℕ} {hot : HotRing} (po : Put w₁.objects.now s.objects (object_row (size.value * ts) tag) true ot) (eo : ot' ≡ counted ot s.objects)
     (ef : f ≡ fields_of map.value) (ps : Put w₁.slots.now s.slots (slot_row s.objects 0 f 0) true st) (eh : hot ≡ ring map w₁.hot) where
   abbrev x : Input
   x = input_of w
 
   abbrev bytes : ℕ
-  bytes = words * ts
+  bytes = size.value * ts
 
   abbrev m : Mem
   m = mem s (lent_of w)
@@ -126,15 +132,14 @@ module _ (w w₁ : Walker) (s t : State) (ts words : ℕ) (map : Leaf) (space ta
   l₁ = objects_is (written w.objects.now s.objects (object_row bytes tag)) (lent_of w)
 
   abbrev m₁ : Mem
-  m₁ = mem (recorded a.count s) l₁
+  m₁ = mem (recorded size s) l₁
 
   abbrev m₂ : Mem
-  m₂ = mem (after map (recorded a.count s)) (hot_is (ring map w.hot) l₁)
+  m₂ = mem (after map (recorded size s)) (hot_is (ring map w.hot) l₁)
 
   abbrev s₃ : State
   s₃ =
-      record
-      { at = map.next; objects = s.objects + 1; slots = s.slots; values = s.values; addresses = t.addresses; pending = s.pending; waiting = s.waiting; skip = s.skip; alignment = t.alignment }
+      record s { at = map.next; objects = s.objects + 1; addresses = t.addresses; alignment = t.alignment; long_integers = s.long_integers + from_bool (is_long size) + map.long_integers }
 
   abbrev l₃ : Lent
   l₃ = addresses_is w₁.addresses.now (alloc_is w₁.alloc (hot_is (ring map w.hot) l₁))
@@ -161,7 +166,7 @@ module _ (w w₁ : Walker) (s t : State) (ts words : ℕ) (map : Leaf) (space ta
   given = carried x space bytes s.objects m (is_legacy w.sheet.now) g.given
 
   -- the head
-  is_opened : got words m₁ ≡ opening x space tag m
+  is_opened : got size.value m₁ ≡ opening x space tag m
   unfolding int add_object
   is_opened =
       let b : ltb s.objects (room 4 w.objects.now) ≡ true = rw same_objects at (put_done po refl).0 in
@@ -171,15 +176,15 @@ module _ (w w₁ : Walker) (s t : State) (ts words : ℕ) (map : Leaf) (space ta
     -- the map
     is_read : got map.value (mem s₃ l₃) ≡ read_map x (reference x inner) space bytes s.objects m₁
     is_read =
-        let read : got map.value m₂ ≡ reference x inner m₁ = leaf_read w (s.at + a.count) (s.objects + 1) map decoded a.leaf inner (recorded a.count s) l₁ refl refl refl in
+        let read : got map.value m₂ ≡ reference x inner m₁ = leaf_read w (s.at + size.count) (s.objects + 1) map decoded a.leaf inner (recorded size s) l₁ refl refl refl in
         rw a.not_first (map_read (is_legacy w.sheet.now) x (reference x inner) space bytes s.objects map.value m₁ m₂ (mem s₃ l₃) read (given.1 m₂ refl refl refl))
 
     -- its slot
-    is_kept : got tt (mem (record { at = map.next; objects = s.objects + 1; slots = s.slots + 1; values = s.values; addresses = t.addresses; pending = s.pending; waiting = s.waiting; skip = s.skip; alignment = t.alignment }) (objects_is ot' (slots_is st l₃))) ≡ keep_map x s.objects map.value (mem s₃ l₃)
+    is_kept : got tt (mem (record s₃ { slots = s.slots + 1 }) (objects_is ot' (slots_is st l₃))) ≡ keep_map x s.objects map.value (mem s₃ l₃)
     is_kept =
         slot_kept x s.objects map.value s₃ l₃ (a.unflagged w.sheet.now w.payload.now w.spaces) (rw same_slots at (put_done ps refl).0) (rw is_object at eo) (rw (same_slots, ef) at (put_done ps refl).1)
 
-    pub is_whole : got bytes (mem (opened_state map s t) (objects_is ot' (slots_is st (hot_is hot (lent_of w₁))))) ≡ opened x (reference x inner) space tag s.objects m
+    pub is_whole : got bytes (mem (opened_state size map s t) (objects_is ot' (slots_is st (hot_is hot (lent_of w₁))))) ≡ opened x (reference x inner) space tag s.objects m
     is_whole =
         let e = given.0 in
         let ev : t.values ≡ s.values = ap (λ (m : Mem). m.values.count) e in

@@ -1,6 +1,7 @@
 -- An object whose map is a leaf, opened without the readers of every reference. Assumes nothing:
 -- these are definitions.
 use Rattle.std.specs.Prelude.{if◌then◌else◌, ◌≡◌, true, false, List, ℕ, ◌+◌, ◌*◌, ◌^◌, ◌<◌, Option, Some, None}
+use Rattle.stream.specs.declared.putint.Int.{Int}
 use Rattle.stream.specs.PutInt.{int_at}
 use Rattle.sheet.specs.Sheet.{is_six_x, is_map_first, is_legacy}
 use Rattle.tables.specs.declared.values.SlotValue.{SlotValue}
@@ -27,13 +28,12 @@ opened x r space tag o =
 
 -- the size stands at the cursor and the map after it, a leaf that sets no flag; no byte of a large
 -- object stands between them, and nothing but an allocation follows the map, no resolve either
-pub record MapAt (w : Walker) (s : State) (words : ℕ) (map : Leaf) : Type 0 where
+pub record MapAt (w : Walker) (s : State) (size : Int) (map : Leaf) : Type 0 where
   pub no_large_byte : is_six_x w.sheet.now ≡ false
   pub not_first : is_map_first w.sheet.now ≡ false
-  pub count : ℕ
-  pub sized : Some (record { value = words; count = count }) ≡ int_at w.payload.now s.at
-  pub small : words < 2 ^ 30
-  pub leaf : LeafAt w (s.at + count) (s.objects + 1) (Some map)
+  pub sized : Some size ≡ int_at w.payload.now s.at
+  pub small : size.value < 2 ^ 30
+  pub leaf : LeafAt w (s.at + size.count) (s.objects + 1) (Some map)
   pub unflagged : (sh q : List ℕ) (sp : ℕ) → flags (input sh q sp w.trusted.now) map.value ≡ false
 
 -- the size stands at the cursor, and after it the head of what may be a leaf; nothing but the map

@@ -5,6 +5,7 @@ ghost use Rattle.sheet.specs.Sheet.{usable};
 ghost use Rattle.tables.specs.Records.{room};
 ghost use Rattle.address_index.specs.Links.{Linked};
 ghost use Rattle.definition.specs.Reference.{reference};
+ghost use Rattle.readers.specs.Views.{Counts};
 ghost use Rattle.readers.specs.Lent.{input_of, PendingKept, Untouched};
 ghost use Rattle.objects.specs.Index.{Indexed};
 ghost use Rattle.leaves.specs.Leaf.{NoLeafAt, ReadAs, RefusedAs};
@@ -16,15 +17,15 @@ use objects::map::{allocate_object, is_flagged};
 use readers::state::State;
 use readers::walker::{DEEPEST, Walker};
 use sheet::numbers::{legacy, map_first, six_x, word_bytes};
-use stream::putint::putint;
+use stream::putint::{Int, putint};
 use tables::records::{OBJECT_FIELDS, SLOT_FIELDS, Slot, add_object, append_slot, has_room};
 use tables::values::Fields;
 
-// The size in words and the map of an object after whose head the cursor stands, where the map is a
+// The size and the map of an object after whose head the cursor stands, where the map is a
 // leaf that the trusted list does not flag. Sheets in which a large object has a byte after its
 // size or the map comes before the address are left to the readers of every object.
 #[inline(always)]
-fn map_at(w: &Walker, s: State) -> Option<(u64, Leaf)>
+fn map_at(w: &Walker, s: State) -> Option<(Int, Leaf)>
     requires { s.objects < 2 ^ 63 }
     ensures some { IfSome result (λ r. MapAt w.now s r.0 r.1) }
     ensures none { IsNone result → (count : ℕ) → MapByte w.now s count
@@ -38,7 +39,7 @@ fn map_at(w: &Walker, s: State) -> Option<(u64, Leaf)>
     if is_flagged(w.trusted, map.value) {
         return None;
     }
-    Some((size.value as u64, map))
+    Some((size, map))
 }
 
 // In a legacy sheet an address record of object o of so many bytes; in others an object has none.
@@ -74,7 +75,7 @@ fn records_fit(w: &Walker, s: State) -> bool
 /// given too, and the walk's answer is the same either way.
 #[inline(always)]
 pub fn open_leaf(w: &mut Walker, s: State, d: usize, new: NewObject) -> Option<(u64, State)>
-    requires usable { (usable w.old.sheet.now ≡ true) × (new.space < 256) × (s.objects < 2 ^ 63) }
+    requires usable { (usable w.old.sheet.now ≡ true) × (new.space < 256) × (s.objects < 2 ^ 63) × Counts s }
     requires linked_before { Linked w.old.addresses.now s.addresses w.old.index.now }
     ensures read { IfSome result (λ r. (d < 64) × (r.0 < 2 ^ 33) × (s.objects < r.1.objects) × ReadAs w.old s w.new (λ inner. opened (input_of w.old) (reference (input_of w.old) inner) new.space new.tag s.objects) r) }
     ensures linked { IfSome result (λ r. Linked w.new.addresses.now r.1.addresses w.new.index.now) }
@@ -88,10 +89,11 @@ pub fn open_leaf(w: &mut Walker, s: State, d: usize, new: NewObject) -> Option<(
         return None;
     }
     let o = s.objects;
-    let (words, map) = map_at(w, s)?;
+    let (size, map) = map_at(w, s)?;
     if !records_fit(w, s) {
         return None;
     }
+    let words = size.value as u64;
     let bytes = words * word_bytes(w.sheet);
     let t = give_address(w, s, new.space, bytes, o as u64)?;
     let slot = Slot {
@@ -107,6 +109,7 @@ pub fn open_leaf(w: &mut Walker, s: State, d: usize, new: NewObject) -> Option<(
         at: map.next,
         objects: o + 1,
         slots: s.slots + 1,
+        long_integers: s.long_integers + u64::from(size.is_long()) + map.long_integers,
         ..t
     };
     Some((bytes, u))

@@ -7,7 +7,7 @@ use Rattle.std.specs.Prelude.{Option, Some, None}
 use Rattle.stream.specs.declared.putint.Int.{Int}
 use Rattle.stream.specs.PutInt.{int_at}
 use Rattle.stream.proofs.IntegerLaws.{IntWithin, int_within}
-use Rattle.definition.specs.Memory.{Input, Mem, Out, got, no, moved, with_skip, after_int, and_then, change, int}
+use Rattle.definition.specs.Memory.{Input, Mem, Out, got, no, moved, with_skip, with_long, past_int, after_int, and_then, change, int}
 use Rattle.definition.specs.Reference.{skip_amount}
 use Rattle.readers.specs.declared.state.State.{State}
 use Rattle.readers.specs.Views.{Lent, input, mem}
@@ -17,13 +17,13 @@ use Rattle.readers.proofs.ViewLaws.{nothing}
 pub int_ends : {r : Option Int} {i : Int} → r ≡ Some i → (p : List ℕ) (at : ℕ) → r ≡ int_at p at → IntWithin p at i.count
 int_ends k p at e = int_within p at (rw e at k)
 
--- an integer moves the cursor and no more
+-- an integer moves the cursor, may be counted as long, and does no more
 module _ (x : Input) (m k : Mem) (n : ℕ) where
-  after_keeps : (i : Option Int) → got n k ≡ after_int x i m → k ≡ moved k.at m
-  after_keeps (Some i) e = let q : k ≡ moved (m.at + i.count) m = cc in rw q
+  after_keeps : (i : Option Int) → got n k ≡ after_int x i m → k ≡ with_long k.long_integers (moved k.at m)
+  after_keeps (Some i) e = let q : k ≡ past_int i m = cc in rw q
   after_keeps None e = absurd (let z : ◌≡◌ {A = ℕ} 0 1 = cc in omega arith)
 
-  int_keeps : got n k ≡ int x m → k ≡ moved k.at m
+  pub int_keeps : got n k ≡ int x m → k ≡ with_long k.long_integers (moved k.at m)
   unfolding int
   int_keeps e = after_keeps (int_at x.payload m.at) e
 

@@ -1,10 +1,10 @@
 -- References that hold no other, at each way out. Assumes nothing.
-use mathlib.Core.Path.{◌≡◌}
-use mathlib.Core.Bool.{Bool}
+use mathlib.Core.Path.{◌≡◌, ap, ◌∙◌}
+use mathlib.Core.Bool.{Bool, true, false}
 use Prim.Native.Nat.{ℕ, ◌-◌, ◌*◌, ◌^◌, ◌<◌, ◌≤◌}
 use native.Mathlib.Nat.{mul-le-mul, le_of_lt}
 use borrow.Author.Tests.{lt-ltb, le-ltb}
-use Rattle.std.specs.Prelude.{Option, Some, Ok}
+use Rattle.std.specs.Prelude.{Option, Some, None}
 use Rattle.stream.specs.Bytes.{raw_at}
 use Rattle.heads.specs.declared.kinds.Kind.{Kind}
 use Rattle.heads.specs.declared.kinds.Kind.TheVariants.{LegacyBackrefWithSkip, HotWithSkip, RootConstantWithSkip, Api, OffHeapTarget}
@@ -14,12 +14,12 @@ use Rattle.tables.specs.declared.values.Ref.TheVariants.{Object, RoRef}
 use Rattle.tables.specs.declared.values.SlotValue.{SlotValue}
 use Rattle.tables.specs.declared.values.SlotValue.TheVariants.{Ref as IsRef, Skip, StreamBytes, Raw as IsRaw}
 use Rattle.backref.specs.HotRing.{hot_at}
-use Rattle.backref.specs.declared.legacy.Backref.{Backref}
-use Rattle.backref.specs.Legacy.{Answer, backref_of}
-use Rattle.definition.specs.Memory.{Input, passed, Mem, Out, got, ◌>>=◌, ◌>>◌, give, refuse, moved, noted, int}
+use Rattle.backref.specs.Legacy.{is_single, placed, single}
+use Rattle.definition.specs.Memory.{with_long, no, Input, passed, Mem, Out, got, ◌>>=◌, ◌>>◌, give, refuse, moved, noted, int}
 use Rattle.definition.specs.Reference.{skip_amount, refers, refers_hot, backref_to, hot_place, legacy_reference, raw_data}
 use Rattle.readers.specs.Simple.{read_ints, skipped_to, read_skipped}
 use Rattle.readers.proofs.ViewLaws.{regrouped}
+use Rattle.readers.proofs.IntLaws.{int_keeps}
 
 -- ---- the hot ring and back-references
 
@@ -35,9 +35,44 @@ module _ (m : Mem) (i : ℕ) where
   pub hot_is_lem : {h : Option Ref} → h ≡ hot_at m.hot i → {r : Ref} → h ≡ Some r → got (IsRef r) m ≡ hot_place i m
   hot_is_lem e k = rw (← e, k)
 
-pub legacy_to : (x : Input) (space : ℕ) (m : Mem) {b : Answer} → b ≡ backref_of x.sheet x.payload m.addresses.rows m.addresses.count m.alignment space m.at → {r : Backref} → b ≡ Ok r → refers_hot r.target (moved r.next m) ≡ legacy_reference x space m
-unfolding legacy_reference
-legacy_to x space m e k = rw (← e, k)
+-- of a legacy back-reference, once its first integer has been read, and once both have
+module _ (x : Input) (space : ℕ) (m : Mem) where
+  pub first_no : {n q : ℕ} {m₁ : Mem} → no n q m₁ ≡ int x m → no n q m₁ ≡ legacy_reference x space m
+  unfolding legacy_reference
+  first_no e = rw (← e)
+
+  module _ {first : ℕ} {m₁ : Mem} (e : got first m₁ ≡ int x m) where
+    kept : m₁ ≡ with_long m₁.long_integers (moved m₁.at m)
+    kept = int_keeps x m m₁ first e
+
+    addresses : m₁.addresses ≡ m.addresses
+    addresses = ap (λ (j : Mem). j.addresses) kept
+
+    alignment : m₁.alignment ≡ m.alignment
+    alignment = ap (λ (j : Mem). j.alignment) kept
+
+    module _ (t : is_single x.sheet space ≡ true) {o : Option Ref} (s : o ≡ single x.sheet m.addresses.rows m.addresses.count m.alignment space first) where
+      pub single_no : o ≡ None → refuse 15 m₁ ≡ legacy_reference x space m
+      unfolding legacy_reference
+      single_no k = rw (← e, t, addresses, alignment, ← s, k)
+
+      pub single_to : {r : Ref} → o ≡ Some r → refers_hot r m₁ ≡ legacy_reference x space m
+      unfolding legacy_reference
+      single_to k = rw (← e, t, addresses, alignment, ← s, k)
+
+    module _ (t : is_single x.sheet space ≡ false) where
+      pub second_no : {n q : ℕ} {m₂ : Mem} → no n q m₂ ≡ int x m₁ → no n q m₂ ≡ legacy_reference x space m
+      unfolding legacy_reference
+      second_no f = rw (← e, t, ← f)
+
+      pub place_to : {second : ℕ} {m₂ : Mem} → got second m₂ ≡ int x m₁ → {r : Ref}
+          → r ≡ placed x.sheet m.addresses.rows m.addresses.count m.alignment space (record { chunk = first; offset = second }) → refers_hot r m₂ ≡ legacy_reference x space m
+      unfolding legacy_reference
+      place_to {second} {m₂} f p =
+          let q : m₂ ≡ with_long m₂.long_integers (moved m₂.at m₁) = int_keeps x m₁ m₂ second f in
+          let a : m₂.addresses ≡ m.addresses = ap (λ (j : Mem). j.addresses) q ∙ addresses in
+          let b : m₂.alignment ≡ m.alignment = ap (λ (j : Mem). j.alignment) q ∙ alignment in
+          rw (← e, t, ← f, a, b, ← p)
 
 -- ---- raw data
 

@@ -1,6 +1,6 @@
 -- What the code holds, as the definition's `Mem`, and what it answers, as an `Out`. Nobody listens
 -- to code. Assumes nothing: these are definitions.
-use Rattle.std.specs.Prelude.{List, ℕ, ◌<◌, Result, Ok, Err}
+use Rattle.std.specs.Prelude.{List, ℕ, ◌<◌, ◌≤◌, Result, Ok, Err}
 use Rattle.refusals.specs.declared.refusal.Refusal.{Refusal}
 use Rattle.refusals.specs.declared.refusal.Refusal.TheVariants.{PayloadEnds}
 use Rattle.refusals.specs.Numbers.{number_of}
@@ -25,7 +25,7 @@ pub record Lent : Type 0 where
 abbrev pub mem : State → Lent → Mem
 mem s l =
     record
-    { at = s.at; objects = table l.objects s.objects; slots = table l.slots s.slots; values = table l.values s.values; addresses = table l.addresses s.addresses; hot = l.hot; pending = s.pending; waiting = s.waiting; skip = s.skip; alignment = s.alignment; alloc = l.alloc; log = off }
+    { at = s.at; objects = table l.objects s.objects; slots = table l.slots s.slots; values = table l.values s.values; addresses = table l.addresses s.addresses; hot = l.hot; pending = s.pending; waiting = s.waiting; skip = s.skip; alignment = s.alignment; alloc = l.alloc; long_integers = s.long_integers; log = off }
 
 -- what a reader answers
 abbrev pub Answer : Type 0 → Type 0
@@ -40,9 +40,15 @@ abbrev pub refused_at : Refusal → ℕ → State → Refused
 refused_at r q s = record { refusal = r; place = q; state = s }
 
 abbrev pub moved_to : ℕ → State → State
-moved_to at s =
-    record
-    { at = at; objects = s.objects; slots = s.slots; values = s.values; addresses = s.addresses; pending = s.pending; waiting = s.waiting; skip = s.skip; alignment = s.alignment }
+moved_to at s = record s { at = at }
+
+-- so many integers in all were longer than their values need, each of which had a byte at least
+abbrev pub Counts : State → Type 0
+Counts s = s.long_integers ≤ s.at
+
+abbrev pub CountsAfter : {A : Type 0} → Result (A × State) Refused → Type 0
+CountsAfter (Ok r) = Counts r.1
+CountsAfter (Err e) = Unit {0}
 
 abbrev pub cut_at : ℕ → State → Refused
 cut_at size s = refused_at PayloadEnds size (moved_to size s)

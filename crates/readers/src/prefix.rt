@@ -2,7 +2,7 @@
 //! repeats (docs/FORMAT.md, "Head bytes" and "Repeats").
 ghost use Rattle.std.specs.Prelude.{◌≡◌, List, ℕ, ◌-◌, ◌^◌, ◌<◌, get_or};
 ghost use Rattle.definition.specs.Slots.{add_value as addValue};
-ghost use Rattle.readers.specs.Views.{Lent, input, mem, seen};
+ghost use Rattle.readers.specs.Views.{Lent, input, mem, seen, Counts};
 ghost use Rattle.readers.specs.Lent.{input_of, lent_of, Kept};
 ghost use Rattle.readers.specs.Prefix.{held as heldAs, Begins, RepeatsRoot};
 
@@ -36,7 +36,7 @@ pub enum Prefix {
 /// asks. With any other head nothing is read.
 #[tactic(auto, unfolding(definition::specs::Reference::by_head))]
 pub fn begin(w: &mut Walker, s: State, head: Head) -> Answer<Prefix>
-    requires { (i : ℕ) → get_or w.old.alloc.cur i 0 < 2 ^ 32 - 1 }
+    requires { ((i : ℕ) → get_or w.old.alloc.cur i 0 < 2 ^ 32 - 1) × Counts s }
     ensures begins { (tag : ℕ) → Begins (input_of w.old) tag head.kind head.argument s (lent_of w.old) result (lent_of w.new) }
     ensures kept { Kept w.old w.new }
 {

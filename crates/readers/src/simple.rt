@@ -2,9 +2,9 @@
 ghost use Rattle.std.specs.Prelude.{◌≡◌, List, ℕ, ◌^◌, ◌<◌};
 ghost use Rattle.heads.specs.declared.kinds.Kind.TheVariants.{HotWithSkip};
 ghost use Rattle.definition.specs.Memory.{Reader};
-ghost use Rattle.backref.specs.Legacy.{backref_of};
+ghost use Rattle.backref.specs.Legacy.{placed, single};
 ghost use Rattle.definition.specs.Reference.{refers_hot, legacy_reference, raw_data, pending_reference, hot_place, by_head};
-ghost use Rattle.readers.specs.Views.{Lent, input, mem, seen};
+ghost use Rattle.readers.specs.Views.{Lent, input, mem, seen, Counts};
 ghost use Rattle.readers.specs.Lent.{input_of, lent_of, Kept, Addressed};
 ghost use Rattle.readers.specs.Simple.{Makes, MakesOfTwo, read_backref, read_root, read_int, read_ints, read_raw, read_skipped, Simple};
 
@@ -12,7 +12,8 @@ use crate::ints::{read_int, read_skip};
 use crate::state::{Answer, State};
 use crate::walker::Walker;
 use address_index::resolve::AddressIndex;
-use backref::legacy::{Backref, BackrefError, LegacyReader};
+use alloc::resolve::Place;
+use backref::legacy::{LegacyReader, is_single};
 use heads::heads::Head;
 use heads::kinds::Kind;
 use refusals::refusal::Refusal;
@@ -31,6 +32,7 @@ fn enter(w: &mut Walker, s: State, r: Ref) -> Answer<SlotValue>
 
 // kBackref: an object by plain index, which enters the ring.
 fn back_ref(w: &mut Walker, s: State) -> Answer<SlotValue>
+    requires { Counts s }
     ensures is { seen result (lent_of w.new) ≡ read_backref (input_of w.old) (mem s (lent_of w.old)) }
     ensures kept { Kept w.old w.new }
 {
@@ -43,6 +45,7 @@ fn back_ref(w: &mut Walker, s: State) -> Answer<SlotValue>
 
 // kRootArray: a root by integer, which enters the ring.
 fn root_array(w: &mut Walker, s: State) -> Answer<SlotValue>
+    requires { Counts s }
     ensures is { seen result (lent_of w.new) ≡ read_root (input_of w.old) (mem s (lent_of w.old)) }
     ensures kept { Kept w.old w.new }
 {
@@ -59,11 +62,12 @@ fn hot_ref(w: &Walker, s: State, place: usize) -> Answer<SlotValue>
     Ok((SlotValue::Ref(r), s))
 }
 
-/// The back-reference to a space that stands at a place, the one after its head byte.
+/// What the integer of a back-reference to a space that has one refers to; none where no object has
+/// the number.
 #[inline(always)]
-pub fn find_backref(w: &Walker, s: State, space: u64, at: usize) -> Result<Backref, BackrefError>
+pub fn find_single(w: &Walker, s: State, space: u64, value: u32) -> Option<Ref>
     requires { Addressed w.now s.addresses }
-    ensures { result ≡ backref_of w.now.sheet.now w.now.payload.now w.now.addresses.now s.addresses s.alignment space at }
+    ensures { result ≡ single w.now.sheet.now w.now.addresses.now s.addresses s.alignment space value }
 {
     let addresses = AddressIndex {
         table: w.addresses,
@@ -72,33 +76,56 @@ pub fn find_backref(w: &Walker, s: State, space: u64, at: usize) -> Result<Backr
     };
     let reader = LegacyReader {
         sheet: w.sheet,
-        payload: w.payload,
         addresses,
         alignment: s.alignment,
         space,
     };
-    reader.backref_at(at)
+    reader.by_value(value)
 }
 
-/// A legacy back-reference to a space, which enters the ring. Refused as cut off where the payload
-/// ends in it, and with `NoSuchNumber` at the place after it where its number has no entry.
-#[tactic(auto, unfolding(definition::specs::Reference::legacy_reference))]
-pub fn legacy_ref(w: &mut Walker, s: State, space: u64) -> Answer<SlotValue>
-    requires { Addressed w.old s.addresses }
+/// What a back-reference to a space of two integers refers to: an object at this place, or the
+/// place itself in the read-only heap.
+#[inline(always)]
+pub fn find_place(w: &Walker, s: State, space: u64, chunk: u32, offset: u32) -> Ref
+    requires { Addressed w.now s.addresses }
+    ensures { result ≡ placed w.now.sheet.now w.now.addresses.now s.addresses s.alignment space (record { chunk = chunk; offset = offset }) }
+{
+    let addresses = AddressIndex {
+        table: w.addresses,
+        index: w.index,
+        count: s.addresses,
+    };
+    let reader = LegacyReader {
+        sheet: w.sheet,
+        addresses,
+        alignment: s.alignment,
+        space,
+    };
+    let place = Place {
+        chunk: u64::from(chunk),
+        offset: u64::from(offset),
+    };
+    reader.by_place(place)
+}
+
+/// A legacy back-reference to a space, which enters the ring (the Rust's `legacy_backref`). Refused
+/// as cut off where the payload ends in it, and with `NoSuchNumber` at the place after it where no
+/// object has its number.
+pub fn legacy_backref(w: &mut Walker, s: State, space: u64) -> Answer<SlotValue>
+    requires { Addressed w.old s.addresses × Counts s }
     ensures is { seen result (lent_of w.new) ≡ legacy_reference (input_of w.old) space (mem s (lent_of w.old)) }
     ensures kept { Kept w.old w.new }
 {
-    match find_backref(w, s, space, s.at) {
-        Ok(b) => {
-            let t = State { at: b.next, ..s };
-            enter(w, t, b.target)
-        }
-        Err(BackrefError::Cut) => Err(s.cut(w.payload)),
-        Err(BackrefError::Unknown(next)) => {
-            let t = State { at: next, ..s };
-            Err(t.refused(Refusal::NoSuchNumber))
-        }
+    let (first, t) = read_int(w.payload, s)?;
+    if is_single(w.sheet, space) {
+        let Some(r) = find_single(w, s, space, first as u32) else {
+            return Err(t.refused(Refusal::NoSuchNumber));
+        };
+        return enter(w, t, r);
     }
+    let (second, u) = read_int(w.payload, t)?;
+    let r = find_place(w, s, space, first as u32, second as u32);
+    enter(w, u, r)
 }
 
 // Raw data of n bytes.
@@ -119,6 +146,7 @@ fn raw_data(p: &[u8], s: State, n: u64, advances: bool) -> Answer<SlotValue>
 // kVariableRawData: a length in words, in legacy in bytes; a length of 0 reads one byte.
 #[tactic(auto, using(crate::proofs::SimpleLaws::product_small))]
 fn variable_raw(sheet: &[u16], p: &[u8], s: State) -> Answer<SlotValue>
+    requires { Counts s }
     ensures { (tr : List ℕ) (sp : ℕ) (l : Lent) → seen result l ≡ read_raw (input sheet.now p.now sp tr) (mem s l) }
 {
     let (n, t) = read_int(p, s)?;
@@ -151,7 +179,8 @@ fn ro_ref(chunk: u64, n: u32) -> SlotValue
 
 // A head with one integer, of which its value is made.
 fn one_int<F: FnOnce(u32) -> SlotValue>(p: &[u8], s: State, make: F) -> Answer<SlotValue>
-    requires { F.IsAlwaysCallable make }
+    requires counts { Counts s }
+    requires callable { F.IsAlwaysCallable make }
     ensures { (f : ℕ → SlotValue) → Makes f (F.post make) → (v tr : List ℕ) (sp : ℕ) (l : Lent) → seen result l ≡ read_int f (input v p.now sp tr) (mem s l) }
 {
     let (n, t) = read_int(p, s)?;
@@ -160,7 +189,8 @@ fn one_int<F: FnOnce(u32) -> SlotValue>(p: &[u8], s: State, make: F) -> Answer<S
 
 // A head with two integers, of which its value is made.
 fn two_ints<F: FnOnce(u32, u32) -> SlotValue>(p: &[u8], s: State, make: F) -> Answer<SlotValue>
-    requires { F.IsAlwaysCallable make }
+    requires counts { Counts s }
+    requires callable { F.IsAlwaysCallable make }
     ensures { (f : ℕ → ℕ → SlotValue) → MakesOfTwo f (F.post make) → (v tr : List ℕ) (sp : ℕ) (l : Lent) → seen result l ≡ read_ints f (input v p.now sp tr) (mem s l) }
 {
     let (a, t) = read_int(p, s)?;
@@ -183,6 +213,7 @@ fn pending_ref(s: State) -> Answer<SlotValue>
 
 // A head with a with-skip amount before what it is. Which of five it is, is asked after the amount.
 fn with_skip(w: &mut Walker, s: State, head: Head) -> Answer<SlotValue>
+    requires counts { Counts s }
     requires addressed { Addressed w.old s.addresses × (s.skip < 2 ^ 63) }
     requires place { head.kind ≡ HotWithSkip → head.argument < 8 }
     ensures is { seen result (lent_of w.new) ≡ read_skipped (input_of w.old) head.kind head.argument (mem s (lent_of w.old)) }
@@ -192,7 +223,7 @@ fn with_skip(w: &mut Walker, s: State, head: Head) -> Answer<SlotValue>
     let ((), t) = read_skip(p, s)?;
     let a = head.argument as u64;
     match head.kind {
-        Kind::LegacyBackrefWithSkip => legacy_ref(w, t, a),
+        Kind::LegacyBackrefWithSkip => legacy_backref(w, t, a),
         Kind::HotWithSkip => hot_ref(w, t, a as usize),
         Kind::RootConstantWithSkip => Ok((SlotValue::Ref(Ref::Root(a)), t)),
         Kind::Api => one_int(p, t, |n| ro_ref(API, n)),
@@ -205,6 +236,7 @@ fn with_skip(w: &mut Walker, s: State, head: Head) -> Answer<SlotValue>
 /// (the branches of the Rust's `parse_ref_inner` that call no reader of references).
 #[tactic(auto, using(crate::proofs::SimpleLaws::target_grouped, crate::proofs::SimpleLaws::product_small), unfolding(definition::specs::Reference::by_head))]
 pub fn simple_ref(w: &mut Walker, s: State, tag: usize, head: Head) -> Answer<SlotValue>
+    requires counts { Counts s }
     requires addressed { Addressed w.old s.addresses × (s.skip < 2 ^ 63) × (s.pending < 2 ^ 63) }
     requires simple { Simple head.kind head.argument }
     ensures is { (inner : Reader SlotValue) → seen result (lent_of w.new) ≡ by_head (input_of w.old) inner tag head.kind head.argument (mem s (lent_of w.old)) }
@@ -214,7 +246,7 @@ pub fn simple_ref(w: &mut Walker, s: State, tag: usize, head: Head) -> Answer<Sl
     let a = head.argument as u64;
     match head.kind {
         Kind::Backref => back_ref(w, s),
-        Kind::LegacyBackref => legacy_ref(w, s, a),
+        Kind::LegacyBackref => legacy_backref(w, s, a),
         Kind::Hot => hot_ref(w, s, a as usize),
         Kind::RootArray => root_array(w, s),
         Kind::RootConstant => Ok((SlotValue::Ref(Ref::Root(a)), s)),

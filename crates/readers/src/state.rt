@@ -6,7 +6,8 @@ use refusals::refusal::Refusal;
 
 /// The cursor `at`, as a place in the payload; how many records each of the four tables has; the
 /// next pending number and how many slots wait for one; the with-skip amount that stands, in bytes;
-/// and the alignment that is pending (crates/alloc/src/fill.rt).
+/// the alignment that is pending (crates/alloc/src/fill.rt); and how many of the integers that were
+/// read whole were longer than their values need.
 #[derive(Clone, Copy, Default)]
 pub struct State {
     pub at: usize,
@@ -18,6 +19,7 @@ pub struct State {
     pub waiting: u64,
     pub skip: u64,
     pub alignment: u64,
+    pub long_integers: u64,
 }
 
 /// A refusal with its place in the payload and the state that it left.

@@ -13,7 +13,7 @@ use native.Mathlib.Nat.{lt_of_lt_of_le}
 use Rattle.stream.specs.declared.putint.Int.{Int}
 use Rattle.std.specs.Prelude.{if◌then◌else◌, Option, Some, None}
 use Rattle.stream.specs.Bytes.{little_endian}
-use Rattle.stream.specs.PutInt.{int_length, int_at}
+use Rattle.stream.specs.PutInt.{int_length, int_at, shortest, is_long}
 use Rattle.stream.proofs.ByteLaws.{Bytes, le_below}
 
 module _ (p : List ℕ) (at : ℕ) where
@@ -43,6 +43,19 @@ module _ (p : List ℕ) (at : ℕ) where
   pub int_below : {raw n : ℕ} → Bytes p → n ≡ int_length p at → raw ≡ little_endian p at n → raw < 2 ^ 32
   int_below {raw} {n} bs e r =
       rw r (lt_of_lt_of_le (le_below p at n bs) (pow_mono {j = 32} (omega (arith, count_small))))
+
+-- one byte is the fewest
+pub one_is_short : (i : Int) → i.count ≤ 1 → false ≡ is_long i
+unfolding is_long shortest
+one_is_short i h =
+    let low : 1 ≤ shortest i.value = least (ltb i.value (2 ^ 6)) (ltb i.value (2 ^ 14)) (ltb i.value (2 ^ 22)) in
+    rw (le-ltb (shortest i.value) i.count (omega (arith, h, low)))
+  where
+    least : (a b c : Bool) → 1 ≤ (if a then 1 else if b then 2 else if c then 3 else 4)
+    least true b c = omega arith
+    least false true c = omega arith
+    least false false true = omega arith
+    least false false false = omega arith
 
 -- an integer that is not cut has one to four bytes, all in the payload
 pub record IntWithin (p : List ℕ) (at n : ℕ) : Type 0 where

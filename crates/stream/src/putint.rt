@@ -4,7 +4,7 @@
 //! little-endian number, and the value is that number shifted right by 2 (docs/FORMAT.md,
 //! "Integers").
 ghost use Rattle.std.specs.Prelude.{◌≡◌, length};
-ghost use Rattle.stream.specs.PutInt.{int_at, Small};
+ghost use Rattle.stream.specs.PutInt.{int_at, is_long as isLong, shortest, Small};
 
 use crate::bytes::{byte, little_endian};
 
@@ -15,6 +15,34 @@ pub struct Int {
     pub value: u32,
     /// From 1 to 4.
     pub count: usize,
+}
+
+// The fewest bytes that a value needs.
+#[tactic(auto, unfolding(crate::specs::PutInt::shortest))]
+fn shortest(value: u32) -> usize
+    ensures { result ≡ shortest value }
+{
+    if value < 64 {
+        1
+    } else if value < 16384 {
+        2
+    } else if value < 4194304 {
+        3
+    } else {
+        4
+    }
+}
+
+impl Int {
+    /// It has more bytes than its value needs: a shorter integer has the same value. An integer of
+    /// one byte is never long, and this is asked first.
+    #[tactic(auto, using(crate::proofs::IntegerLaws::one_is_short), unfolding(crate::specs::PutInt::is_long))]
+    #[inline(always)]
+    pub fn is_long(self) -> bool
+        ensures { result ≡ isLong self }
+    {
+        1 < self.count && shortest(self.value) < self.count
+    }
 }
 
 /// The integer at a place; `None` where the payload ends before it does.

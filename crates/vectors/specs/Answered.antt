@@ -6,7 +6,7 @@ use Rattle.vectors.specs.declared.case.Outcome.{Outcome}
 abbrev pub numbers_of : Outcome → Answer
 numbers_of o =
     record
-    { number = o.number; objects = o.objects; slots = o.slots; values = o.values; addresses = o.addresses; end = o.end; place = o.place }
+    { number = o.number; objects = o.objects; slots = o.slots; values = o.values; addresses = o.addresses; end = o.end; place = o.place; long_integers = o.long_integers }
 
 -- the outcome, and what the call leaves in the tables
 abbrev pub Called : Case → Outcome → Case → Type 0

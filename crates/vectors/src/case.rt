@@ -40,6 +40,8 @@ pub struct Outcome {
     pub end: u64,
     /// The refusal's place; 0 where the call accepted.
     pub place: u64,
+    /// How many integers were longer than their values need; 0 after a refusal.
+    pub long_integers: u64,
 }
 
 impl From<Result<Graph, Refused>> for Outcome {
@@ -55,6 +57,7 @@ impl From<Result<Graph, Refused>> for Outcome {
                 addresses: g.addresses,
                 end: g.end,
                 place: 0,
+                long_integers: g.long_integers,
             },
             Err(e) => Outcome {
                 number: e.refusal.number(),
@@ -64,6 +67,7 @@ impl From<Result<Graph, Refused>> for Outcome {
                 addresses: 0,
                 end: 0,
                 place: e.place,
+                long_integers: 0,
             },
         }
     }
@@ -91,8 +95,8 @@ fn table(alloc: Global, numbers: &mut Numbers<'_>) -> Result<Vec<u64>, AllocErro
 
 /// Reads the frozen outcome.
 pub fn read_outcome(cases: &mut Numbers<'_>) -> Outcome
-    ensures fields { result.number ∷ result.objects ∷ result.slots ∷ result.values ∷ result.addresses ∷ result.end ∷ result.place ∷ [] ≡ numbers 7 cases.old.0.now }
-    ensures rest { cases.new.0.now ≡ after_numbers 7 cases.old.0.now }
+    ensures fields { result.number ∷ result.objects ∷ result.slots ∷ result.values ∷ result.addresses ∷ result.end ∷ result.place ∷ result.long_integers ∷ [] ≡ numbers 8 cases.old.0.now }
+    ensures rest { cases.new.0.now ≡ after_numbers 8 cases.old.0.now }
 {
     Outcome {
         number: cases.number(),
@@ -102,6 +106,7 @@ pub fn read_outcome(cases: &mut Numbers<'_>) -> Outcome
         addresses: cases.number(),
         end: cases.number(),
         place: cases.number(),
+        long_integers: cases.number(),
     }
 }
 

@@ -6,7 +6,8 @@ use std::fmt;
 /// Which parts of a case differ from what is frozen.
 #[derive(Clone, Copy)]
 pub struct Differences {
-    /// The outcome: a refusal and its place, or the record counts and the cursor at the finish.
+    /// The outcome: a refusal and its place, or the record counts, the cursor at the finish and the
+    /// number of long integers.
     pub outcome: bool,
     /// The object table, and so for the other three.
     pub objects: bool,

@@ -22,12 +22,11 @@ use Rattle.tables.specs.declared.values.SlotValue.TheVariants.{Ref as IsRef}
 use Rattle.tables.specs.declared.values.Fields.{Fields}
 use Rattle.tables.specs.Values.{fields_of}
 use Rattle.backref.specs.HotRing.{hot_at}
-use Rattle.backref.specs.declared.legacy.BackrefError.TheVariants.{Cut, Unknown}
-use Rattle.backref.specs.Legacy.{Answer as Found, backref_of}
+use Rattle.backref.specs.Legacy.{is_single, single}
 use Rattle.definition.specs.Memory.{Input, Table, Mem, Out, got, no, Reader, and_then, ◌>>=◌, ◌>>◌, change, moved, aligned, after_int, byte, int, has_room}
 use Rattle.definition.specs.Slots.{add_value}
 use Rattle.definition.specs.Object.{change_chunk, object}
-use Rattle.definition.specs.Reference.{skip_amount, backref_to, of_hot, hot_place, of_backref, legacy_reference, pending_reference, after_raw, raw_data, weak_of, repeat_of, repeat_root, by_head, reference, ref_at}
+use Rattle.definition.specs.Reference.{skip_amount, backref_to, of_hot, hot_place, of_single, place_reference, after_first, legacy_reference, pending_reference, after_raw, raw_data, weak_of, repeat_of, repeat_root, by_head, reference, ref_at}
 use Rattle.laws.specs.Sound.{Holds, Referred}
 use Rattle.laws.proofs.Theorems.{ref_keeps}
 use Rattle.laws.specs.Numbered.{Ordered, ref_numbered}
@@ -40,7 +39,7 @@ use Rattle.readers.specs.declared.prefix.Held.TheVariants.{Plain, Weak, Repeated
 use Rattle.readers.specs.declared.prefix.Prefix.{Prefix}
 use Rattle.readers.specs.declared.prefix.Prefix.TheVariants.{Inner, Root as RootHeld, Other}
 use Rattle.refusals.specs.Numbers.{number_of}
-use Rattle.readers.specs.Views.{Lent, Answer, mem, seen, moved_to, cut_at}
+use Rattle.readers.specs.Views.{Lent, Answer, mem, seen, moved_to, cut_at, Counts}
 use Rattle.readers.specs.Lent.{input_of, lent_of, Kept, Addressed, HeadAt}
 use Rattle.objects.specs.declared.head.NewObject.{NewObject}
 use Rattle.objects.specs.Head.{NewAt}
@@ -88,14 +87,19 @@ module _ (x : Input) where
   amount_still : Still (skip_amount x)
   amount_still = then_leaves records_of (int x) _ int_still (λ n m. refl)
 
-  backref_of_lem : (b : Found) → Still (of_backref x b)
-  backref_of_lem (Ok b) m = refl
-  backref_of_lem (Err Cut) m = refl
-  backref_of_lem (Err (Unknown next)) m = refl
+  single_still : (o : Option Ref) → Still (of_single o)
+  single_still (Some r) m = refl
+  single_still None m = refl
+
+  first_still : (space first : ℕ) → Still (after_first x space first)
+  first_still space first m =
+      same_choose records_of (is_single x.sheet space) _ _ m
+      (λ _. single_still (single x.sheet m.addresses.rows m.addresses.count m.alignment space first) m)
+      (then_leaves records_of (int x) (λ second. place_reference x space (record { chunk = first; offset = second })) int_still (λ second m. refl) m)
 
   pub legacy_still : (space : ℕ) → Still (legacy_reference x space)
   unfolding legacy_reference
-  legacy_still space m = backref_of_lem (backref_of x.sheet x.payload m.addresses.rows m.addresses.count m.alignment space m.at) m
+  legacy_still space = then_leaves records_of (int x) (after_first x space) int_still (first_still space)
 
   raw_of : (n : ℕ) (advances : Bool) (r : Option ℕ) → Still (after_raw n advances r)
   raw_of n advances (Some end) m = refl
@@ -330,6 +334,9 @@ module _ {w : Walker} {s : State} {head : CodeHead} {p : Answer Prefix} {w₁ : 
       let z = is (Ok (Other, t)) q in
       let o : InOrder x w.heads.now (mem t l₁) (scratch_of w₁) = rw z.1 (subst (λ (l : Lent). InOrder x w.heads.now (mem (moved_to (s.at + 1) s) l) (scratch_of w₁)) (sym z.2) (rw (same_scratch w w₁ c.kept.1) (order_moved (order_of c.ready) c.read.inside))) in
       (addressed (ready_on {w = w} {w' = w₁} {s' = t} c.kept.0 o), rw z.1 (omega (arith, c.ready.sound, c.ready.proper)), rw z.1 (omega (arith, c.ready.sound, c.ready.proper)))
+
+  pub other_counts : {t : State} → p ≡ Ok (Other, t) → Counts t
+  other_counts {t} q = let z = is (Ok (Other, t)) q in rw z.1 (omega (arith, c.ready.sound))
 
   -- a prefix before an inner reference
   pub inner_starts : {h : Held} {t : State} → p ≡ Ok (Inner h, t) → Ready w₁ t

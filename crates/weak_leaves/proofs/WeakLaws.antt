@@ -41,7 +41,7 @@ weak_refused w s o done decoded b missing inner =
 -- the state with one value record more
 abbrev valued : State → State
 valued s =
-    record { at = s.at; objects = s.objects; slots = s.slots; values = s.values + 1; addresses = s.addresses; pending = s.pending; waiting = s.waiting; skip = s.skip; alignment = s.alignment }
+    record s { values = s.values + 1 }
 
 -- that record
 held : (v : SlotValue) (s : State) (l : Lent) {t : List ℕ} → Put l.values s.values (value_row (fields_of v)) true t → got (WeakRef s.values) (mem (valued s) (values_is t l)) ≡ weak_of v (mem s l)
@@ -64,11 +64,11 @@ unheld_refused w s d r o done decoded found p inner =
 -- the state after the slot
 abbrev weak_state : Leaf → State → State
 weak_state r s =
-    record { at = r.next; objects = s.objects; slots = s.slots + 1; values = s.values + 1; addresses = s.addresses; pending = s.pending; waiting = s.waiting; skip = 0; alignment = s.alignment }
+    record s { at = r.next; slots = s.slots + 1; values = s.values + 1; skip = 0; long_integers = s.long_integers + r.long_integers }
 
 -- that slot
 kept : (x : Input) (o done : ℕ) (k : ℕ) (s : State) (l : Lent) {ot st : List ℕ} → s.slots < room 6 l.slots → st ≡ written l.slots s.slots (slot_row o ((done + s.skip) / word_bytes x.sheet) (fields_of (WeakRef k)) 0) → ot ≡ counted l.objects o
-    → got (done + s.skip + word_bytes x.sheet) (mem (record { at = s.at; objects = s.objects; slots = s.slots + 1; values = s.values; addresses = s.addresses; pending = s.pending; waiting = s.waiting; skip = 0; alignment = s.alignment }) (objects_is ot (slots_is st l))) ≡ place_item x o done (WeakRef k) (mem s l)
+    → got (done + s.skip + word_bytes x.sheet) (mem (record s { slots = s.slots + 1; skip = 0 }) (objects_is ot (slots_is st l))) ≡ place_item x o done (WeakRef k) (mem s l)
 unfolding place_item keep_item add_slot
 kept x o done k s l b es eo =
     let z : s.waiting + 0 ≡ s.waiting = omega arith in

@@ -5,6 +5,7 @@ ghost use Rattle.tables.specs.declared.values.SlotValue.{SlotValue};
 ghost use Rattle.tables.specs.Records.{room, Countable};
 ghost use Rattle.definition.specs.Reference.{reference};
 ghost use Rattle.readers.specs.Lent.{input_of, Kept};
+ghost use Rattle.readers.specs.Views.{Counts};
 ghost use Rattle.leaves.specs.Leaf.{slot_in, item_of, NoLeafAt, ReadAs, RefusedAs, RoomyItem, StaysInOrder};
 ghost use Rattle.weak_leaves.specs.Weak.{WeakAt, WeakByte};
 
@@ -44,7 +45,7 @@ fn weak_leaf(w: &Walker, s: State, d: usize) -> Option<Leaf>
 /// cursor, where a record has no room, where the definition refuses the item, and where the sum of
 /// its bytes could pass 2^64; then nothing is changed.
 pub fn place_weak(w: &mut Walker, s: State, d: usize, level: Level) -> Option<(u64, State)>
-    requires { Countable w.old.objects.now level.object }
+    requires { Countable w.old.objects.now level.object × Counts s }
     ensures read { IfSome result (λ r. (d < 63) × ReadAs w.old s w.new (λ inner. slot_in (input_of w.old) (reference (input_of w.old) (reference (input_of w.old) inner)) level.object level.done) r) }
     ensures none { IsNone result → d < 63 → WeakByte w.old s.at → s.slots < room 6 w.old.slots.now
         → RoomyItem w.old s level
@@ -71,6 +72,7 @@ pub fn place_weak(w: &mut Walker, s: State, d: usize, level: Level) -> Option<(u
         slots: s.slots + 1,
         values: k + 1,
         skip: 0,
+        long_integers: s.long_integers + leaf.long_integers,
         ..s
     };
     Some((end, t))

@@ -8,7 +8,7 @@ pub overflow_add-at : goal.overflow_add-at
 overflow_add-at c = omega (arith, int_ends c.in_ok-i.was _ _ c.putint.ensures.value)
 
 pub returns-clause-some : goal.returns-clause-some
-returns-clause-some c = λ hot i. rw c.reference.ensures (back_found _ hot _ _ _ _ i (sym c.putint.ensures.value ∙ c.in_ok-i.was) (omega (arith, c.if-objects-i.false)))
+returns-clause-some c = λ hot i. rw (c.reference.ensures, c.from-long.ensures, c.is_long.ensures) (back_found _ hot _ _ _ _ i (sym c.putint.ensures.value ∙ c.in_ok-i.was) (omega (arith, c.if-objects-i.false)))
 
 pub returns-in_err-i-clause-none : goal.returns-in_err-i-clause-none
 returns-in_err-i-clause-none c = λ none hot i. back_cut _ hot _ _ _ i (sym c.putint.ensures.value ∙ c.in_err-i.was)

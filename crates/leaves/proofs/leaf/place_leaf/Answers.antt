@@ -5,6 +5,11 @@ use Rattle.objects.proofs.WaiterLaws.{indexed_plain}
 use Rattle.leaves.proofs.LeafLaws.{item_read, item_refused, item_full}
 use Rattle.leaves.proofs.leaf.place_leaf.Goals as goal
 
+pub overflow_add-t-2 : goal.overflow_add-t-2
+overflow_add-t-2 c =
+    let f = c.in_ok-leaf.ensures in
+    omega (arith, c.requires.2, f.there.0, (f.found c.args.s.at).few)
+
 pub returns-clause-read : goal.returns-clause-read
 returns-clause-read c =
     let a = c.args in

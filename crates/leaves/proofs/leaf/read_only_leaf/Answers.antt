@@ -11,7 +11,7 @@ pub overflow_add-end : goal.overflow_add-end
 overflow_add-end c = omega (arith, int_ends c.in_ok-offset.was _ _ c.putint-2.ensures.value)
 
 pub returns-clause-some : goal.returns-clause-some
-returns-clause-some c = λ hot objects i. rw c.reference.ensures (read_only_found _ hot objects _ _ _ _ i (sym c.putint.ensures.value ∙ c.in_ok-chunk.was) (sym c.putint-2.ensures.value ∙ c.in_ok-offset.was))
+returns-clause-some c = λ hot objects i. rw (c.reference.ensures, c.from.ensures, c.from-2.ensures, c.is_long.ensures, c.is_long-2.ensures) (read_only_found _ hot objects _ _ _ _ i (sym c.putint.ensures.value ∙ c.in_ok-chunk.was) (sym c.putint-2.ensures.value ∙ c.in_ok-offset.was))
 
 pub returns-in_err-chunk-clause-none : goal.returns-in_err-chunk-clause-none
 returns-in_err-chunk-clause-none c = λ none hot objects i. chunk_cut _ hot objects _ _ i (sym c.putint.ensures.value ∙ c.in_err-chunk.was)

@@ -1,7 +1,13 @@
+use native.Mathlib.Omega.{arith}
 use mathlib.Core.Path.{refl}
 use Rattle.readers.specs.Lent.{lent_of}
-use Rattle.leaves.proofs.LeafLaws.{leaf_read, leaf_refused}
+use Rattle.leaves.proofs.LeafLaws.{leaf_few, leaf_read, leaf_refused}
 use Rattle.leaves.proofs.leaf.take_leaf.Goals as goal
+
+pub overflow_add-t : goal.overflow_add-t
+overflow_add-t c =
+    let f = c.in_ok-leaf.ensures.some in
+    omega (arith, c.requires, f.0.0, leaf_few c.args.w.now c.args.s.at c.args.s.objects c.in_ok-leaf.leaf f c.args.s)
 
 pub returns-clause-read : goal.returns-clause-read
 returns-clause-read c =

@@ -12,7 +12,7 @@ use Rattle.objects.proofs.ResolveLaws.{resolves_stop}
 use Rattle.walker.proofs.ScratchLaws.{after_on}
 use Rattle.walker.proofs.ReadyLaws.{moved_ready, value_ready}
 use Rattle.walker.proofs.ItemsLaws.{tag_is}
-use Rattle.walker.proofs.ReferenceLaws.{ref_deep, ref_cut, new_at, ref_object, space_low, other_simple, other_asks, inner_starts, ref_refused, ref_simple, ref_root, ref_inner_no, head_read, ref_inner_got, read_as}
+use Rattle.walker.proofs.ReferenceLaws.{ref_deep, ref_cut, new_at, ref_object, space_low, other_simple, other_asks, other_counts, inner_starts, ref_refused, ref_simple, ref_root, ref_inner_no, head_read, ref_inner_got, read_as}
 use Rattle.walker.proofs.NestLaws.{object_headless, object_whole, object_opened, object_items, nest_first, opens_no, opens_on, nest_over, nest_whole, nest_deferred, nest_slot_no, nest_slot, nest_begins, put_fits, nest_roomless, nest_ends}
 use Rattle.walker.proofs.LeafLaws.{one_level, leaf_slot, weak_slot, ready_still, leaf_after}
 use Rattle.walker.proofs.MapLaws.{record_ready, mapped_no, followed_no, map_asks, kept_no, resolves_ready, map_ended, put_asks, item_put, leaf_opened, leaf_no, leaf_on, leaf_ended}
@@ -25,7 +25,7 @@ parse_head-resolves-requires-clause-usable t c =
     let a = c.args in
     let r = c.in-Some.ensures in
     let g = leaf_opened c.requires.ready a.d a.new c.requires.depth.1 r.read r.rest (r.indexed c.requires.ready.indexed) r.linked in
-    (g.proper.sheet_usable, g.sound.within)
+    (g.proper.sheet_usable, g.sound.within, g.sound.long_low)
 
 pub parse_head-resolves-requires-clause-waits : goal.parse_head-resolves-requires-clause-waits
 parse_head-resolves-requires-clause-waits t c =
@@ -157,7 +157,7 @@ parse_map-resolves-requires-clause-usable t c =
     let q = c.in_ok-u.ensures in
     let k = c.in_ok-y.ensures in
     let g = resolves_ready c.requires.ready a.d a.new.space a.level c.requires.depth r.after r.is q.is q.rest q.linked k.is k.kept in
-    (g.proper.sheet_usable, g.sound.within)
+    (g.proper.sheet_usable, g.sound.within, g.sound.long_low)
 
 pub parse_map-resolves-requires-clause-waits : goal.parse_map-resolves-requires-clause-waits
 parse_map-resolves-requires-clause-waits t c =
@@ -339,6 +339,9 @@ parse_ref-returns-in_err-prefix-clause-is t c = passed_on _ _ _ c.from_residual-
 
 pub parse_ref-simple_ref-requires-clause-addressed : goal.parse_ref-simple_ref-requires-clause-addressed
 parse_ref-simple_ref-requires-clause-addressed t c = other_asks (head_read c.begin.result c.requires.ready c.head_at.ensures.some c.in_ok-head.ensures.ok_part (c.in_default.ensures.none refl) c.begin.ensures) (read_as c.in_ok-prefix.was c.in-Other.is)
+
+pub parse_ref-simple_ref-requires-clause-counts : goal.parse_ref-simple_ref-requires-clause-counts
+parse_ref-simple_ref-requires-clause-counts t c = other_counts (head_read c.begin.result c.requires.ready c.head_at.ensures.some c.in_ok-head.ensures.ok_part (c.in_default.ensures.none refl) c.begin.ensures) (read_as c.in_ok-prefix.was c.in-Other.is)
 
 pub parse_ref-simple_ref-requires-clause-simple : goal.parse_ref-simple_ref-requires-clause-simple
 parse_ref-simple_ref-requires-clause-simple t c = other_simple (head_read c.begin.result c.requires.ready c.head_at.ensures.some c.in_ok-head.ensures.ok_part (c.in_default.ensures.none refl) c.begin.ensures) (read_as c.in_ok-prefix.was c.in-Other.is)

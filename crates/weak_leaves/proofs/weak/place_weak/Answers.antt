@@ -1,10 +1,18 @@
 use mathlib.Core.Path.{◌≡◌, refl, sym, ◌∙◌}
 use mathlib.Core.Bool.{Bool, true, false}
+use native.Mathlib.Omega.{arith}
+use Prim.Native.Nat.{◌+◌}
 use borrow.Author.Tests.{lt-ltb}
+use Rattle.leaves.proofs.LeafLaws.{leaf_few}
 use Rattle.readers.proofs.ViewLaws.{put_done, put_full}
 use Rattle.objects.proofs.WaiterLaws.{indexed_plain}
 use Rattle.weak_leaves.proofs.WeakLaws.{weak_placed, weak_refused, unheld_refused}
 use Rattle.weak_leaves.proofs.weak.place_weak.Goals as goal
+
+pub overflow_add-t-3 : goal.overflow_add-t-3
+overflow_add-t-3 c =
+    let f = c.in_ok-leaf.ensures.is.leaf in
+    omega (arith, c.requires.1, f.0.0, leaf_few c.args.w.now (c.args.s.at + 1) c.args.s.objects c.in_ok-leaf.leaf f c.args.s)
 
 pub returns-clause-read : goal.returns-clause-read
 returns-clause-read c =
