@@ -85,15 +85,16 @@ fn keep_by_sweeps(filled: Filled<'_>, marks: &mut [u8]) -> Kept
 /// Marks each object that the part's first object keeps with 1, by any reference, and clears every
 /// other mark; and sums the bytes of what it keeps, and of what it keeps by strong references
 /// alone. Refusal 19 where there are fewer marks than objects, or all byte sizes of the part add
-/// up past 2^64 - 1; the marks stay then.
+/// up past 2^64 - 1; marks and scratch stay then.
 ///
 /// In linear time where scratch has a number for each value record and each slot of the part and
-/// two for each object. What scratch holds, before and after, is left open.
+/// two for each object. It may hold anything before, and what it holds after is left open.
 pub fn keep(filled: Filled<'_>, marks: &mut [u8], scratch: &mut [u64]) -> Result<Kept, Refused>
     ensures refused { IsErr result
         ↔ ((length marks.old < filled.entry.counts.objects) ⊎ (2 ^ 64 ≤ all_bytes filled.entry)) }
     ensures error { IfErr result (λ e. e ≡ refused NoMarks) }
-    ensures untouched { OnErr result (marks.new ≡ marks.old) }
+    ensures same_marks { OnErr result (marks.new ≡ marks.old) }
+    ensures same_scratch { OnErr result (scratch.new ≡ scratch.old) }
     ensures kept { IfOk result (IsKept filled.entry marks.new) }
 {
     if (marks.len() as u64) < filled.counts.objects || !bytes_fit(filled) {
