@@ -12,10 +12,10 @@ use Rattle.heads.specs.declared.heads.Head.{Head}
 use Rattle.heads.specs.declared.order.Claim.{Claim}
 use Rattle.heads.specs.declared.order.TheConstants.{ORDER}
 use Rattle.heads.specs.Heads.{order, claims, head_by, first_of, head_of, no_head}
-use Rattle.inspection.specs.Inspection.{name_of, is_shared, mark, Unclaimed, ReadBy, Inspected, Inspection}
+use Rattle.inspection.specs.Inspection.{is_shared, mark, Unclaimed, ReadBy, Inspected, Inspection}
 use Rattle.definition.specs.Memory.{Input, Mem, got, moved, byte}
 use Rattle.definition.specs.Reference.{reference}
-use Rattle.inspection.specs.Rows.{shared_of, joined, Found}
+use Rattle.inspection.specs.Rows.{name_of, shared_of, joined, Found}
 
 -- ---- what is read
 

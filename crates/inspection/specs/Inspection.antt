@@ -2,8 +2,8 @@
 -- reference is read, and whether another name lays hold of the byte too (docs/FORMAT.md, "Head
 -- bytes"). All is said over the one list of heads, `order` of `heads`. Assumes nothing: these are
 -- definitions.
-use Rattle.std.specs.Prelude.{◌≡◌, Bool, true, false, not, ◌&&◌, List, ◌∷◌, ◌++◌, ◌⊎◌, ℕ, ◌+◌, ◌<◌, eqb, length, get_or, Option, Some, None}
-use Rattle.std.specs.List.{find, list_any}
+use Rattle.std.specs.Prelude.{◌≡◌, Bool, true, false, not, ◌&&◌, List, ◌∷◌, ◌++◌, ◌⊎◌, ℕ, ◌+◌, ◌<◌, eqb, length, get_or}
+use Rattle.std.specs.List.{list_any}
 use Rattle.heads.specs.declared.heads.Head.{Head}
 use Rattle.heads.specs.declared.order.Claim.{Claim}
 use Rattle.heads.specs.Heads.{order, claims, head_by, head_of, no_head}
@@ -11,15 +11,7 @@ use Rattle.tables.specs.declared.values.SlotValue.{SlotValue}
 use Rattle.definition.specs.Memory.{Input, Mem, Reader, moved}
 use Rattle.definition.specs.Reference.{by_head, reference}
 
--- ---- what is shown
-
-abbrev pub name_in : Option Claim → Option ℕ
-name_in None = None
-name_in (Some r) = Some r.name
-
--- the name of the first of these rows that lays hold of a byte, by its place in the sheet
-abbrev pub name_of : List ℕ → List Claim → ℕ → Option ℕ
-name_of v rs b = name_in (find (λ r. claims v r b) rs)
+-- ---- whether a byte is shared
 
 -- one of these rows lays hold of the byte under another name
 abbrev pub is_shared : List ℕ → List Claim → ℕ → ℕ → Bool

@@ -1,7 +1,17 @@
 -- What the functions of the inspection promise each other. Assumes nothing: these are definitions.
 use Rattle.std.specs.Prelude.{◌≡◌, Bool, false, not, ◌||◌, List, ℕ, eqb, Option, Some, None}
+use Rattle.std.specs.List.{find}
 use Rattle.heads.specs.declared.order.Claim.{Claim}
-use Rattle.inspection.specs.Inspection.{name_of, is_shared}
+use Rattle.heads.specs.Heads.{claims}
+use Rattle.inspection.specs.Inspection.{is_shared}
+
+abbrev pub name_in : Option Claim → Option ℕ
+name_in None = None
+name_in (Some r) = Some r.name
+
+-- the name of the first of these rows that lays hold of a byte, by its place in the sheet
+abbrev pub name_of : List ℕ → List Claim → ℕ → Option ℕ
+name_of v rs b = name_in (find (λ r. claims v r b) rs)
 
 -- whether another name lays hold of a byte, of these rows and their first name
 abbrev pub shared_of : List ℕ → List Claim → Option ℕ → ℕ → Bool
