@@ -55,7 +55,15 @@ pub extern "C" fn dawichko_graph(
     };
     match parse_with(call, &mut tables) {
         Ok(g) => {
-            *outcome = [g.objects, g.slots, g.values, g.addresses, g.end, 0, g.long_integers];
+            *outcome = [
+                g.objects,
+                g.slots,
+                g.values,
+                g.addresses,
+                g.end,
+                0,
+                g.long_integers,
+            ];
             0
         }
         Err(e) => {

@@ -5,6 +5,9 @@ use Rattle.walker.proofs.ScratchLaws.{after_on}
 use Rattle.deferred.proofs.EntryLaws.{entry_no, entry-cut, entry_done, object_ready, int_ready}
 use Rattle.deferred.proofs.entry.entry.Goals as goal
 
+pub read_int-requires : goal.read_int-requires
+read_int-requires c = (object_ready c.requires.ready c.args.space c.entry_object.ensures.kept c.in_ok-o.ensures.is).sound.long_low
+
 pub entry_items-requires : goal.entry_items-requires
 entry_items-requires c =
     let f = c.entry_object.ensures.kept.0 in
