@@ -42,10 +42,10 @@ EXAMPLES = [
 ]
 # lines that docs/FORMAT.md says of the accepted ones, in the form of graphlist
 SAID = {
-    'a': ['graph 1 2 0 0 5', 'o 16 0 0 2', 's 0 0 2 5 0 0', 's 0 1 2 6 0 0'],
+    'a': ['graph 1 2 0 0 5 0', 'o 16 0 0 2', 's 0 0 2 5 0 0', 's 0 1 2 6 0 0'],
     'e': ['s 0 1 7 3 0 0'],
     'j': ['s 0 1 1 1 0 0'],
-    'a, longer size': ['graph 1 2 0 0 6', 'o 16 0 0 2', 's 0 0 2 5 0 0', 's 0 1 2 6 0 0'],
+    'a, longer size': ['graph 1 2 0 0 6 1', 'o 16 0 0 2', 's 0 0 2 5 0 0', 's 0 1 2 6 0 0'],
 }
 
 
@@ -163,7 +163,7 @@ def main():
     if given.list:
         for k, case in enumerate(cases):
             answer = case.answer[0]
-            outcome = f'refused {answer[0]} {answer[6]}' if answer[0] else 'graph ' + ' '.join(str(n) for n in answer[1:6])
+            outcome = f'refused {answer[0]} {answer[6]}' if answer[0] else 'graph ' + ' '.join(str(n) for n in answer[1:6] + answer[7:])
             print(f'{k}: {FAMILY_OF.get(case.family, case.family)}, {case.name}: {bytes(case.payload).hex(" ")}: {outcome}')
         return
     if not given.folder:
