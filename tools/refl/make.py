@@ -18,7 +18,7 @@ import tempfile
 # the crates' repository keeps no compiled Python
 sys.dont_write_bytecode = True
 
-from noted import payloads as noted
+from noted import long_integers, payloads as noted
 from payloads import Payload, damaged, drawn
 from sheets import SHEETS, coinciding, numbers, on_one_byte, unusable
 
@@ -150,6 +150,11 @@ class Maker:
         for family, sheet, payload in on_one_byte():
             self.add('order', 'order, ' + family, numbers(sheet), payload, [TOP] * 6 if 'kSpaceMask' in sheet else [])
         self.add('legacy', 'legacy8', numbers(SHEETS['legacy8']), [7, 255, 255, 255, 255, 0x45, 0x14], [TOP] * 3, place=6)
+
+    def long_integers(self):
+        """Integers longer than their values need, in every place where one stands."""
+        for name, payload in long_integers():
+            self.plainly(name, payload)
 
     def plainly(self, name, payload, trusted=(), place=None, count=6):
         """A case under one of the sheets, in legacy with so many reservations that each end a
@@ -333,6 +338,7 @@ def main():
         maker.unusable()
     while len(maker.cases) < given.count:
         maker.drawn()
+    maker.long_integers()
     summary(maker.cases, maker.untold)
     cases = [maker.cases[k] for k in given.only] if given.only else maker.cases
     with open(given.file, 'w', encoding='utf-8') as file:

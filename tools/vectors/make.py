@@ -84,6 +84,13 @@ def compared(oracle):
         yield from (cases[k * len(cases) // most] for k in range(most))
 
 
+def long_integers(oracle):
+    """Integers longer than their values need."""
+    maker = refl.Maker(SEED, oracle)
+    maker.long_integers()
+    yield from (case for case in maker.cases if case.whole)
+
+
 def rooms(oracle):
     """Payloads with rooms that are just enough, and with one number less in each table that is
     used: 3 where its last record is missing."""
@@ -157,7 +164,7 @@ def main():
     options.add_argument('--oracle', default='tools/oracle/target/release/oracle')
     options.add_argument('folder', nargs='?')
     given = options.parse_args()
-    cases = [*examples(given.oracle), *compared(given.oracle), *rooms(given.oracle)]
+    cases = [*examples(given.oracle), *compared(given.oracle), *rooms(given.oracle), *long_integers(given.oracle)]
     if not all(fits(case) for case in cases):
         sys.exit('a case is larger than the arrays of the program')
     if given.list:
