@@ -120,7 +120,8 @@ struct Reader<'a> {
     map_first: bool,
     new_object: u8,
     backref: u8,
-    spaces: u64,
+    /// How many bytes from kNewObject on open an object, legacy sheets alone.
+    opening: u64,
     map_space: u64,
     large_space: u64,
     space_tag_size: u32,
@@ -148,6 +149,11 @@ struct Reader<'a> {
     large: u64,
 }
 
+/// How many bytes from kNewObject on open an object in legacy sheets.
+fn opening(sheet: &Sheet) -> u64 {
+    sheet.get("kNumberOfSpaces").unwrap_or(6) as u64
+}
+
 /// The rows of docs/FORMAT.md, "Head bytes", that a sheet's family tests, in their order: name,
 /// span, what is read.
 fn rows(sheet: &Sheet) -> Vec<(&'static str, u64, Head)> {
@@ -158,7 +164,7 @@ fn rows(sheet: &Sheet) -> Vec<(&'static str, u64, Head)> {
     let number = |name| sheet.get(name).unwrap_or(0) as u64;
     let mut rows = Vec::new();
     if legacy {
-        rows.push(("kNewObject", spaces, New));
+        rows.push(("kNewObject", opening(sheet), New));
         if six_x {
             rows.push(("kBackrefWithSkip", spaces, LegacyBackrefWithSkip));
         }
@@ -251,7 +257,7 @@ impl Reader<'_> {
             map_first: sheet.legacy() && sheet.get("kNewMetaMap").is_some(),
             new_object: byte("kNewObject").unwrap_or(0),
             backref: byte("kBackref").unwrap_or(0),
-            spaces: or("kNumberOfSpaces", 6),
+            opening: opening(sheet),
             map_space: or("kMapSpace", 4),
             large_space: or("kLoSpace", 5),
             space_tag_size: or("kSpaceTagSize", 3) as u32,
@@ -621,7 +627,7 @@ impl Reader<'_> {
                 continue;
             }
             let space = byte.checked_sub(self.new_object).map(|space| space as u64);
-            match space.filter(|space| self.legacy && !self.map_first && *space < self.spaces) {
+            match space.filter(|space| self.legacy && !self.map_first && *space < self.opening) {
                 Some(space) => self.entry(space)?,
                 None => drop(self.reference(0)?),
             }
