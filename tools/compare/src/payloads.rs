@@ -596,8 +596,13 @@ impl<'a> Writer<'a> {
         }
     }
 
-    /// The last bytes are missing, so that some item of a legacy closing section is cut.
+    /// The last bytes are missing, so that some item of a legacy closing section is cut, often a
+    /// back-reference.
     fn cut(&mut self) {
+        if self.random.chance(600) {
+            let skips = self.sheet.six_x() && self.random.chance(500);
+            self.backref(if skips { "kBackrefWithSkip" } else { "kBackref" }, None);
+        }
         let left = self.out.len().saturating_sub(self.random.from_to(1, 6));
         self.out.truncate(left);
         self.integers.retain(|integer| integer.place + integer.bytes <= left);
