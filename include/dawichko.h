@@ -36,9 +36,16 @@ extern "C" {
  *                 payload can be made whose back-references are slow to resolve on average. Its
  *                 place depends on the payload's length. Zero does for payloads that V8 wrote.
  *
- * outcome gets the counts of objects, slots, values and addresses, the cursor at the finish, and
- * the refusal's place. After a refusal all but the place are 0, and so is every entry of the
- * tables; else the place is 0, and so is every entry past the counts.
+ * outcome gets the counts of objects, slots, values and addresses, the cursor at the finish, the
+ * refusal's place, and the number of long integers: how many integers of the payload were read
+ * whole and have more bytes than their values need (docs/FORMAT.md, "Integers"). After a refusal
+ * all but the place are 0, and so is every entry of the tables; else the place is 0, and so is
+ * every entry past the counts.
+ *
+ * Long integers change nothing of the graph, and are no sign that a payload is damaged or was made
+ * by another program than V8; nor is 0 a sign that it was not. Where a legacy closing section is
+ * read otherwise than V8 reads it (docs/DIFFERENCES.md, D23 and D24), other bytes are taken for
+ * integers, and a payload that V8 wrote can have some.
  *
  * The call takes up to 130 kB of stack, where objects lie inside each other as deep as is read
  * (docs/BENCHMARKS.md).
@@ -56,7 +63,7 @@ uint64_t dawichko_graph(const uint16_t *sheet, size_t sheet_length,
                         uint64_t *values, size_t values_length,
                         uint64_t *addresses, size_t addresses_length,
                         uint64_t *scratch, size_t scratch_length,
-                        uint64_t outcome[6]);
+                        uint64_t outcome[7]);
 
 #ifdef __cplusplus
 }

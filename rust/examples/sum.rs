@@ -15,6 +15,7 @@ use std::{env, fs};
 struct Sum {
     objects: usize,
     bytes: u64,
+    long_integers: usize,
     /// Where reading ended, and the payload's length.
     end: usize,
     length: usize,
@@ -38,7 +39,13 @@ fn sum(folder: &Path) -> Result<Sum, String> {
     let call = Call { sheet: &sheet, payload: &payload, reservations: &reservations, trusted: &trusted };
     let graph = read(&call).map_err(|refusal| refusal.to_string())?;
     let bytes = graph.objects().map(|object| object.bytes).sum();
-    Ok(Sum { objects: graph.objects().len(), bytes, end: graph.end(), length: payload.len() })
+    Ok(Sum {
+        objects: graph.objects().len(),
+        bytes,
+        long_integers: graph.long_integers(),
+        end: graph.end(),
+        length: payload.len(),
+    })
 }
 
 fn main() -> ExitCode {
@@ -49,6 +56,9 @@ fn main() -> ExitCode {
     match sum(folder.as_ref()) {
         Ok(sum) => {
             println!("{} objects, {} bytes", sum.objects, sum.bytes);
+            if sum.long_integers > 0 {
+                eprintln!("{} integers have more bytes than their values need", sum.long_integers);
+            }
             // Only legacy payloads can end early; objects may then be missing.
             if sum.end < sum.length {
                 eprintln!(
@@ -76,6 +86,7 @@ mod tests {
         let sum = sum(&folder).expect("the payload is accepted");
         assert_eq!((sum.objects, sum.bytes), (180, 12_720));
         assert_eq!(sum.end, sum.length);
+        assert_eq!(sum.long_integers, 0);
     }
 
     #[test]

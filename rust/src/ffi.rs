@@ -40,14 +40,15 @@ pub struct Tables {
     pub scratch: Vec<u64>,
 }
 
-/// The number that the call returns, and its outcome: the four counts, `end` and the place.
-pub fn graph(call: &Call, tables: &mut Tables) -> (u64, [u64; 6]) {
+/// The number that the call returns, and its outcome: the four counts, `end`, the place and the
+/// number of long integers.
+pub fn graph(call: &Call, tables: &mut Tables) -> (u64, [u64; 7]) {
     let work = || {
         let sheet = call.sheet.numbers();
-        let mut outcome = [0; 6];
+        let mut outcome = [0; 7];
         // Sound: each pointer with its length is that of one slice, so it is aligned and leads to
         // as many elements; the tables, scratch and the outcome are borrowed mutably, so nothing
-        // else reads or writes them and they overlap nothing; the outcome has the six numbers that
+        // else reads or writes them and they overlap nothing; the outcome has the seven numbers that
         // are written; and this thread's stack is larger than what the call takes.
         let number = unsafe {
             dawichko_graph(

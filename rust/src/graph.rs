@@ -19,6 +19,7 @@ pub struct Graph<'a> {
     pub(crate) values: Vec<u64>,
     pub(crate) addresses: Vec<u64>,
     pub(crate) end: usize,
+    pub(crate) long_integers: usize,
 }
 
 /// An object that the payload opens.
@@ -225,6 +226,14 @@ impl<'a> Graph<'a> {
     /// (docs/FORMAT.md, "A whole call").
     pub fn end(&self) -> usize {
         self.end
+    }
+
+    /// How many integers of the payload have more bytes than their values need (docs/FORMAT.md,
+    /// "Integers"). They change nothing of the graph, and are no sign of damage; of payloads that
+    /// V8 wrote a few legacy ones have some, because their closing sections are read otherwise than
+    /// V8 reads them (docs/DIFFERENCES.md, D23, D24).
+    pub fn long_integers(&self) -> usize {
+        self.long_integers
     }
 
     /// The payload that was read.

@@ -160,7 +160,8 @@ pub fn read_within<'a>(call: &Call<'a>, rooms: Rooms) -> Result<Graph<'a>, Refus
         addresses: table(rooms.addresses, ADDRESS),
         scratch: scratch(call, rooms),
     };
-    let (number, [objects, slots, values, addresses, end, place]) = ffi::graph(call, &mut tables);
+    let (number, [objects, slots, values, addresses, end, place, long_integers]) =
+        ffi::graph(call, &mut tables);
     if number != 0 {
         return Err(Refusal { number, place: place as usize });
     }
@@ -176,5 +177,6 @@ pub fn read_within<'a>(call: &Call<'a>, rooms: Rooms) -> Result<Graph<'a>, Refus
         values: records(tables.values, values, VALUE),
         addresses: records(tables.addresses, addresses, ADDRESS),
         end: end as usize,
+        long_integers: long_integers as usize,
     })
 }

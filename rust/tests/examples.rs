@@ -24,6 +24,14 @@ fn accepted(payload: &str, (objects, slots, values, end): Expected) {
     assert_eq!(graph.payload(), payload);
 }
 
+/// How many integers of an accepted payload are longer than their values need.
+fn long_integers(sheet: &str, payload: &str) -> usize {
+    let (sheet, payload) = (common::sheet(sheet), bytes(payload));
+    let reservations: &[u32] = if sheet.is_legacy() { &SIX_SPACES } else { &[] };
+    let call = Call { reservations, ..Call::new(&sheet, &payload) };
+    read(&call).expect("the payload is accepted").long_integers()
+}
+
 fn object(bytes: u64, tag_offset: usize, slots: usize) -> Object {
     Object { bytes, tag_offset, raw_len: false, slots }
 }
@@ -106,6 +114,57 @@ fn example_a_changed() {
     assert_eq!(refusal("00 08 45 46"), (13, 4));
     let slots = [slot(0, 0, ROOT_5), slot(0, 1, ROOT_6)];
     accepted("00 09 00 45 46 0D", (&[object(16, 0, 2)], &slots, &[], 6));
+}
+
+#[test]
+fn long_integers_of_each_length() {
+    // example a, with its size of 2 in one to four bytes
+    for (payload, wanted) in [
+        ("00 08 45 46 0D", 0),
+        ("00 09 00 45 46 0D", 1),
+        ("00 0A 00 00 45 46 0D", 1),
+        ("00 0B 00 00 00 45 46 0D", 1),
+        // an index that needs as many bytes, and one that needs one fewer
+        ("00 08 45 0B FC 0D", 0),
+        ("00 08 45 0B 01 01 0D", 0),
+        ("00 08 45 0B FD 00 0D", 1),
+        ("00 08 45 0B 02 00 01 0D", 0),
+        ("00 08 45 0B FE FF 00 0D", 1),
+        ("00 08 45 0B 03 00 00 01 0D", 0),
+        ("00 08 45 0B FF FF FF 00 0D", 1),
+        // 0 in one byte, and in four
+        ("00 08 45 08 00 0D", 0),
+        ("00 08 45 08 03 00 00 00 0D", 1),
+        // size, both numbers of a read-only reference, a resolve, the closing section
+        ("00 0D 00 45 0E 00 05 00 46 0F 01 00 09 01 00 05 00 0B 01 00 0D", 6),
+        // a repeated root is a byte, and no integer
+        ("00 4D 00 45 13 01 00 46 0D", 2),
+    ] {
+        assert_eq!(long_integers(A, payload), wanted, "{payload}");
+    }
+    let roots = A.replace("kFixedRepeat 80", "kFixedRepeatRoot 80");
+    assert_eq!(long_integers(&roots, "00 0C 45 80 01 0D"), 0);
+}
+
+/// Those of a legacy closing section count that a fault ends, if they were read whole.
+#[test]
+fn long_integers_before_a_fault() {
+    for (payload, wanted) in [
+        // a back-reference whose offset is missing, or is cut, or whose chunk is
+        ("00 04 45 1D 08 01 00", 1),
+        ("00 04 45 1D 08 01 00 01", 1),
+        ("00 04 45 1D 08 01", 0),
+        // an entry that finds no object
+        ("00 04 45 00 05 00 09 00 14", 2),
+        // a map's number that there is not
+        ("00 04 45 1D 0C 05 00 14", 1),
+    ] {
+        assert_eq!(long_integers(L8, payload), wanted, "{payload}");
+    }
+    // In 6.x the integer's own value counts, before the bits of the space are taken off.
+    let six = format!("{L8} kBackrefWithSkip 30 kSpaceTagSize 10");
+    assert_eq!(long_integers(&six, "00 08 45 08 03 00 40 00 14"), 1);
+    assert_eq!(long_integers(&six, "00 08 45 08 03 00 00 04 14"), 0);
 }
 
 /// Values of each kind that the sheet has, with what is resolved on request.

@@ -1,5 +1,5 @@
-//! The real payloads of payloads/, held to the answers of the Rust that the library is a port of
-//! (payloads/README.md).
+//! The real payloads of payloads/, held to the answers of the Rust that the library is a port of,
+//! and to the number of long integers, which the Rust does not give (payloads/README.md).
 
 mod common;
 #[path = "../../tools/oracle/src/sha256.rs"]
@@ -17,7 +17,8 @@ fn listing(answer: &Result<Graph, Refusal>) -> String {
     };
     let counts = [graph.objects().len(), graph.slots().len(), graph.values().len(), graph.addresses().len()];
     let [objects, slots, values, addresses] = counts;
-    let mut lines = vec![format!("graph {objects} {slots} {values} {addresses} {}", graph.end())];
+    let (end, long) = (graph.end(), graph.long_integers());
+    let mut lines = vec![format!("graph {objects} {slots} {values} {addresses} {end} {long}")];
     lines.extend(
         graph.objects().map(|o| format!("o {} {} {} {}", o.bytes, o.tag_offset, o.raw_len as u8, o.slots)),
     );

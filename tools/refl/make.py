@@ -18,7 +18,7 @@ import tempfile
 # the crates' repository keeps no compiled Python
 sys.dont_write_bytecode = True
 
-from noted import payloads as noted
+from noted import long_integers, payloads as noted
 from payloads import Payload, damaged, drawn
 from sheets import SHEETS, coinciding, numbers, on_one_byte, root_array_inside, unusable
 
@@ -48,28 +48,28 @@ def ask(oracle, sheet, payload, reservations, trusted):
 # ---- cases
 
 def refusal(number, place, rooms):
-    return [[number, 0, 0, 0, 0, 0, place]] + [[0] * rooms[letter] for letter in 'osvd']
+    return [[number, 0, 0, 0, 0, 0, place, 0]] + [[0] * rooms[letter] for letter in 'osvd']
 
 
 def accepted(rnd, lines):
     """Rooms that are just large enough, and the tables that the Rust's answer stands for in
     them."""
-    counts, end = [int(word) for word in lines[0][1:5]], int(lines[0][5])
+    *counts, end, long = [int(word) for word in lines[0][1:]]
     rooms, tables = {}, []
     for letter, count in zip('osvd', counts):
         rows = [int(word) for line in lines[1:] if line[0] == letter for word in line[1:]]
         rooms[letter] = (count + rnd.randrange(2)) * FIELDS[letter] + rnd.randrange(FIELDS[letter])
         tables.append(rows + [0] * (rooms[letter] - len(rows)))
-    return rooms, [[0] + counts + [end, 0]] + tables
+    return rooms, [[0] + counts + [end, 0, long]] + tables
 
 
 def part(lines):
     """Where the oracle does not know a value that the closing section drops: the numbers without
     the values, objects, addresses."""
-    counts, end = [int(word) for word in lines[0][1:5]], int(lines[0][5])
+    *counts, end, long = [int(word) for word in lines[0][1:]]
     rows = {letter: [int(word) for line in lines[1:] if line[0] == letter for word in line[1:]] for letter in 'od'}
     tables = [rows[letter] + [0] * (LARGE[letter] - len(rows[letter])) for letter in 'od']
-    return LARGE, [[0, counts[0], counts[1], counts[3], end, 0]] + tables, False
+    return LARGE, [[0, counts[0], counts[1], counts[3], end, 0, long]] + tables, False
 
 
 def answered(rnd, lines):
@@ -151,6 +151,11 @@ class Maker:
             self.add('order', 'order, ' + family, numbers(sheet), payload, [TOP] * 6 if 'kSpaceMask' in sheet else [])
         self.add('legacy', 'legacy8', numbers(SHEETS['legacy8']), [7, 255, 255, 255, 255, 0x45, 0x14], [TOP] * 3, place=6)
 
+    def long_integers(self):
+        """Integers longer than their values need, in every place where one stands."""
+        for name, payload in long_integers():
+            self.plainly(name, payload)
+
     def plainly(self, name, payload, trusted=(), place=None, count=6):
         """A case under one of the sheets, in legacy with so many reservations that each end a
         space."""
@@ -203,7 +208,7 @@ def family_of(name):
 # ---- the module
 
 HEADER = """-- Made by tools/refl/make.py with seed {seed}: calls, and what the Rust gives for them (number,
--- counts, `end`, place, the four tables).
+-- counts, `end`, place, the number of long integers, the four tables).
 -- Assumes nothing.
 use Rattle.std.specs.Prelude.{{◌≡◌, refl, List, [], ◌∷◌, map, ℕ, replicate}}
 {uses}
@@ -211,7 +216,7 @@ use Rattle.definition.specs.Memory.{{Out}}
 use Rattle.definition.specs.Call.{{Rooms, Call, table_of, Answer, answer_of}}
 
 abbrev pub numbers_of : Answer → List ℕ
-numbers_of a = a.number ∷ a.objects ∷ a.slots ∷ a.values ∷ a.addresses ∷ a.end ∷ a.place ∷ []
+numbers_of a = a.number ∷ a.objects ∷ a.slots ∷ a.values ∷ a.addresses ∷ a.end ∷ a.place ∷ a.long_integers ∷ []
 
 abbrev pub shown : Rooms → Out (Unit {{0}}) → List (List ℕ)
 shown rooms out =
@@ -237,7 +242,7 @@ given c = shown c.rooms (graph c.call c.rooms)
 
 -- without values and slots, where the Rust does not give a value that the closing section drops
 abbrev pub numbers_of_part : Answer → List ℕ
-numbers_of_part a = a.number ∷ a.objects ∷ a.slots ∷ a.addresses ∷ a.end ∷ a.place ∷ []
+numbers_of_part a = a.number ∷ a.objects ∷ a.slots ∷ a.addresses ∷ a.end ∷ a.place ∷ a.long_integers ∷ []
 
 abbrev pub shown_part : Rooms → Out (Unit {{0}}) → List (List ℕ)
 shown_part rooms out =
@@ -333,6 +338,7 @@ def main():
         maker.unusable()
     while len(maker.cases) < given.count:
         maker.drawn()
+    maker.long_integers()
     # The definition and the Rust differ there (docs/DIFFERENCES.md, D45).
     maker.cases = [case for case in maker.cases if not root_array_inside(case.sheet)]
     summary(maker.cases, maker.untold)

@@ -1,5 +1,7 @@
 """Inputs named in docs/DIFFERENCES.md, others at the corners of the format, and inputs for
-with-skip amounts and the hot ring, by sheet."""
+with-skip amounts, the hot ring and long integers, by sheet."""
+
+from sheets import SHEETS
 
 NOTED = {
     'a': """
@@ -59,3 +61,83 @@ def payloads():
         for sheet, text in inputs.items():
             for payload in text.split(';'):
                 yield sheet, count, list(bytes.fromhex(payload))
+
+
+# ---- integers that are longer than their values need
+
+# where an integer is cut, where a fault follows, in deferred entries, and bytes that are none
+LONG = {
+    'a': """
+        00 09 00 45 46 0D; 00 0A 00 00 45 46 0D; 00 0B 00 00 00 45 46 0D; 00 0D 00 45 0E 00 05 00 46 0F 01 00 09 01 00 05 00 0B 01 00 0D;
+        00 4D 00 45 13 01 00 46 0D; 00 0D 00 45 08 02 00 00 0A 03 00 00 01 0D; 00 09 00 45 46; 00 09 00 45 08 05 00 0D""",
+    'rootOnly8': "00 0C 45 A0 01 0C; 00 4D 00 45 1B 01 00 01 0C",
+    'legacy8': """
+        00 04 45 1D 08 01 00; 00 04 45 1D 08 01 00 01; 00 04 45 1D 08 01; 00 04 45 1D 08 00 01; 00 04 45 00 05 00 09 00 14;
+        00 04 45 1D 0C 05 00 14; 04 08 45 0C 01 00 14; 02 0C 45 16 02 01 00 02 00 00 0D 00 41 42 14; 00 08 45 15 01 46 14;
+        02 08 45 02 01 00 01 00 09 00 46 47 14; 02 08 45 46 02 01 00 01 00 09 00 12 05 00 02 00 00""",
+    'six8': "05 09 00 01 45 46 14; 00 08 45 12 01; 00 04 45 1D 30 01 00 01; 00 04 45 1D 31 01 00 01 00 14",
+    'six8Small': "04 08 45 08 03 00 40 00 14; 04 08 45 08 03 00 00 04 14; 02 08 45 0A 02 00 04 14; 02 08 45 0A 03 00 04 00 14",
+}
+
+# names and how many integers follow them
+INTEGERS = {
+    'kRootArray': 1, 'kReadOnlyHeapRef': 2, 'kAttachedReference': 1, 'kRootArrayConstantsWithSkip': 1, 'kPartialSnapshotCache': 1,
+    'kStartupObjectCache': 1, 'kReadOnlyObjectCache': 1, 'kSharedHeapObjectCache': 1, 'kAllocateJSDispatchEntry': 1,
+    'kJSDispatchEntry': 1, 'kSkip': 1, 'kVariableRawData': 1, 'kVariableRepeat': 1, 'kVariableRepeatRoot': 1,
+}
+SIX_INTEGERS = {
+    'kBuiltin': 1, 'kExternalReference': 1, 'kApiReference': 2, 'kInternalReference': 2, 'kInternalReferenceEncoded': 2,
+    'kDeoptimizerEntryPlain': 1, 'kDeoptimizerEntryFromCode': 1, 'kOffHeapBackingStore': 1, 'kVariableRawCode': 1,
+    'kEmbedderFieldsData': 2, 'kOffHeapTarget': 2,
+}
+
+
+def integer(value, count):
+    return list((value << 2 | count - 1).to_bytes(count, 'little'))
+
+
+def everywhere(sheet):
+    """Payloads whose closing section has a head three times, with its integers in two, three and
+    four bytes where one would do; and the other places where an integer stands."""
+    root, new, last, back = (sheet[name] for name in ('kRootArrayConstants', 'kNewObject', 'kSynchronize', 'kBackref'))
+    legacy, six = 'kSpaceMask' in sheet, 'kBackrefWithSkip' in sheet
+    top = [new, 4, root]
+    yield [new] + integer(1, 2) + [root, last]
+    if 'kResolvePendingForwardRef' in sheet:
+        yield top + [sheet['kResolvePendingForwardRef']] + integer(0, 3) + [last]
+    if 'kHotObjectWithSkip' in sheet:
+        yield top + [sheet['kRootArray'], 4, sheet['kHotObjectWithSkip']] + integer(0, 2) + [last]
+    if not legacy or sheet.get('kNumberOfSpaces', 6) == 0:
+        heads = {back: 1}
+    elif six:
+        heads = {back + 2: 1, sheet['kBackrefWithSkip'] + 2: 2}
+    else:
+        heads = {back + 2: 2}
+    heads.update({sheet[name]: count for name, count in INTEGERS.items() if name in sheet})
+    if six:
+        heads.update({sheet[name]: count for name, count in SIX_INTEGERS.items() if name in sheet})
+    # a byte of raw data, what is repeated, or a root's index
+    after = {sheet.get('kVariableRawData'): [root], sheet.get('kVariableRepeat'): [] if six else [root],
+             sheet.get('kVariableRepeatRoot'): [root]}
+    for head, count in heads.items():
+        yield top + sum(([head] + integer(0, n) * count + after.get(head, []) for n in (2, 3, 4)), []) + [last]
+
+
+def at_the_limits():
+    """Values that need all the bytes they have, and values that just don't."""
+    for bits in (6, 14, 22, 30):
+        for value, count in ((1 << bits) - 1, (bits + 2) // 8), ((1 << bits) - 1, (bits + 10) // 8), (1 << bits, (bits + 10) // 8):
+            if value < 1 << 30 and count <= 4:
+                yield [0, 8, 0x45, 0x0B] + integer(value, count) + [0x0D]
+
+
+def long_integers():
+    """Sheets and payloads."""
+    for sheet, text in LONG.items():
+        for payload in text.split(';'):
+            yield sheet, list(bytes.fromhex(payload))
+    for payload in at_the_limits():
+        yield 'a', payload
+    for sheet in ('a', 'modern8', 'modernSkips8', 'legacy8More', 'legacyNoSpaces8', 'mapFirst8', 'six8'):
+        for payload in everywhere(SHEETS[sheet]):
+            yield sheet, payload

@@ -42,10 +42,10 @@ EXAMPLES = [
 ]
 # lines that docs/FORMAT.md says of the accepted ones, in the form of graphlist
 SAID = {
-    'a': ['graph 1 2 0 0 5', 'o 16 0 0 2', 's 0 0 2 5 0 0', 's 0 1 2 6 0 0'],
+    'a': ['graph 1 2 0 0 5 0', 'o 16 0 0 2', 's 0 0 2 5 0 0', 's 0 1 2 6 0 0'],
     'e': ['s 0 1 7 3 0 0'],
     'j': ['s 0 1 1 1 0 0'],
-    'a, longer size': ['graph 1 2 0 0 6', 'o 16 0 0 2', 's 0 0 2 5 0 0', 's 0 1 2 6 0 0'],
+    'a, longer size': ['graph 1 2 0 0 6 1', 'o 16 0 0 2', 's 0 0 2 5 0 0', 's 0 1 2 6 0 0'],
 }
 
 
@@ -84,6 +84,13 @@ def compared(oracle):
         most = min(len(cases), {0: ACCEPTED, 1: len(cases)}.get(outcome, REFUSED))
         chosen = (cases[k * len(cases) // most] for k in range(most))
         yield from (case for case in chosen if not root_array_inside(case.sheet))
+
+
+def long_integers(oracle):
+    """Integers longer than their values need."""
+    maker = refl.Maker(SEED, oracle)
+    maker.long_integers()
+    yield from (case for case in maker.cases if case.whole)
 
 
 def rooms(oracle):
@@ -159,13 +166,13 @@ def main():
     options.add_argument('--oracle', default='tools/oracle/target/release/oracle')
     options.add_argument('folder', nargs='?')
     given = options.parse_args()
-    cases = [*examples(given.oracle), *compared(given.oracle), *rooms(given.oracle)]
+    cases = [*examples(given.oracle), *compared(given.oracle), *rooms(given.oracle), *long_integers(given.oracle)]
     if not all(fits(case) for case in cases):
         sys.exit('a case is larger than the arrays of the program')
     if given.list:
         for k, case in enumerate(cases):
             answer = case.answer[0]
-            outcome = f'refused {answer[0]} {answer[6]}' if answer[0] else 'graph ' + ' '.join(str(n) for n in answer[1:6])
+            outcome = f'refused {answer[0]} {answer[6]}' if answer[0] else 'graph ' + ' '.join(str(n) for n in answer[1:6] + answer[7:])
             print(f'{k}: {FAMILY_OF.get(case.family, case.family)}, {case.name}: {bytes(case.payload).hex(" ")}: {outcome}')
         return
     if not given.folder:

@@ -35,8 +35,9 @@ pub struct Call {
     pub reserve: Vec<u32>,
 }
 
-/// The counts of the four tables, the cursor at the finish and the refusal's place.
-pub type Outcome = [u64; 6];
+/// The counts of the four tables, the cursor at the finish, the refusal's place, and how many
+/// integers are longer than their values need.
+pub type Outcome = [u64; 7];
 
 /// The tables lent to a call.
 #[derive(Clone, PartialEq)]
@@ -84,7 +85,7 @@ impl Tables {
 
 /// The refusal's number or 0, and the outcome.
 pub fn graph(call: &Call, tables: &mut Tables) -> (u64, Outcome) {
-    let mut outcome = [u64::MAX; 6];
+    let mut outcome = [u64::MAX; 7];
     if let Some(seed) = tables.scratch.get_mut(call.payload.len() + 8) {
         *seed = SEED.load(Ordering::Relaxed);
     }

@@ -14,6 +14,7 @@ use oracle::sheet::Sheet;
 use oracle::Input;
 use rows::ROWS;
 use sheets::Family;
+use std::collections::BTreeMap;
 use std::path::PathBuf;
 use std::process::ExitCode;
 use std::sync::atomic::Ordering;
@@ -99,6 +100,8 @@ struct Timed {
     library: f64,
     rust: Option<f64>,
     twin: Option<f64>,
+    /// Integers of the payload that are longer than their values need.
+    long: u64,
 }
 
 /// The times of one row at each size, and how many times as fast as the Rust the library should be.
@@ -141,7 +144,7 @@ fn run(given: &Options) -> Result<(), String> {
         let sizes = vec![measured(given, &title, &call, real::AIM)?];
         times.push(Times { name: title, aim: real::AIM, sizes });
     }
-    print_notes(given);
+    print_notes(given, &times);
     print_aims(&times);
     if given.stack {
         print_stack();
@@ -149,7 +152,16 @@ fn run(given: &Options) -> Result<(), String> {
     Ok(())
 }
 
-fn print_notes(given: &Options) {
+fn print_notes(given: &Options, times: &[Times]) {
+    let mut long: BTreeMap<u64, usize> = BTreeMap::new();
+    for timed in times.iter().flat_map(|row| &row.sizes) {
+        *long.entry(timed.long).or_default() += 1;
+    }
+    let long: Vec<String> = long.iter().map(|(long, count)| format!("{long} in {count} payloads")).collect();
+    if !long.is_empty() {
+        println!();
+        println!("Integers longer than their values need: {}.", long.join(", "));
+    }
     let mut timed = ROWS.iter().filter(|row| row.name.contains(&given.only));
     if given.rust && timed.any(|row| row.family == Family::Six) {
         println!();
@@ -215,6 +227,7 @@ fn measured(given: &Options, name: &str, call: &Call, aim: f64) -> Result<Timed,
         true => check_rust(name, &input, library::graph(call, &mut tables).1)?,
         false => Duration::MAX,
     };
+    let long = library::graph(call, &mut tables).1[6];
     let mut other = plain.then(|| tables.clone());
     if let Some(other) = &mut other {
         check_twin(name, call, &mut tables, other)?;
@@ -233,7 +246,7 @@ fn measured(given: &Options, name: &str, call: &Call, aim: f64) -> Result<Timed,
         number(twin),
         number(twin.map(|twin| library / twin)),
     );
-    Ok(Timed { library, rust, twin })
+    Ok(Timed { library, rust, twin, long })
 }
 
 /// The least time of some runs. What a run gives is dropped outside the time.

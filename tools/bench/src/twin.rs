@@ -106,6 +106,8 @@ struct Walk<'a> {
     slots: &'a mut [u64],
     values: &'a mut [u64],
     counts: [usize; 3],
+    /// Integers that are longer than their values need.
+    long: u64,
     hot: [Value; 8],
     next_hot: usize,
     /// By pending number the slot that waits, counted from 1, or 0.
@@ -129,18 +131,19 @@ pub fn graph(call: &Call, tables: &mut Tables) -> (u64, Outcome) {
         slots,
         values,
         counts: [0; 3],
+        long: 0,
         hot: [Value(0, 0, 0); 8],
         next_hot: 0,
         pending: Vec::new(),
         waiting: 0,
     };
     let number = walk.whole(&sheet).err().unwrap_or(0);
-    let end = walk.at as u64;
+    let (end, long) = (walk.at as u64, walk.long);
     let [objects, slots, values] = walk.counts;
     for ((table, fields), count) in tables.records.iter_mut().zip(FIELDS).zip([objects, slots, values, 0]) {
         table[count * fields..].fill(0);
     }
-    (number, [objects as u64, slots as u64, values as u64, 0, end, 0])
+    (number, [objects as u64, slots as u64, values as u64, 0, end, 0, long])
 }
 
 impl Walk<'_> {
@@ -185,11 +188,15 @@ impl Walk<'_> {
             let number = u32::from_le_bytes(*four);
             let count = (number & 3) + 1;
             self.at += count as usize;
-            return Ok(((number << (32 - 8 * count)) >> (32 - 8 * count) >> 2) as u64);
+            let highest = number << (32 - 8 * count);
+            // The last byte is 0, and not the only one.
+            self.long += (highest < 1 << 24 && count > 1) as u64;
+            return Ok((highest >> (32 - 8 * count) >> 2) as u64);
         }
         let count = (rest.first().ok_or(4u64)? & 3) as usize + 1;
         let bytes = rest.get(..count).ok_or(4u64)?;
         self.at += count;
+        self.long += (count > 1 && bytes[count - 1] == 0) as u64;
         Ok(bytes.iter().rev().fold(0, |number, byte| number << 8 | *byte as u64) >> 2)
     }
 

@@ -7,7 +7,8 @@ mod rust;
 mod sheets;
 
 use oracle::sheet::{Sheet as Numbers, NAMES};
-use oracle::{real, Input};
+use oracle::{reader, real, Input};
+use payloads::{Integer, Written};
 use port::{Call, Graph, FIELDS};
 use random::Random;
 use std::collections::BTreeMap;
@@ -33,6 +34,11 @@ struct Tally {
     /// Cases with kRootArray inside the span of kNewObject, which the Rust reads otherwise.
     not_asked: u64,
     rooms: u64,
+    /// Cases in which the generator's own count of long integers was compared, and how many of them
+    /// have such integers.
+    noted: [u64; 2],
+    /// Long integers of accepted cases, by what they belong to, and of how many bytes they are.
+    long: BTreeMap<&'static str, [u64; 3]>,
     differences: u64,
     shown: usize,
 }
@@ -82,8 +88,8 @@ fn main() -> ExitCode {
     for number in 0..given.count {
         // A case depends on the seed and its number alone.
         let seed = given.seed.wrapping_mul(1_000_003).wrapping_add(number);
-        let (family, call) = generated(seed, &sheets);
-        let difference = compared(&mut capture, &mut tally, &family, &call);
+        let (family, call, integers) = generated(seed, &sheets);
+        let difference = compared(&mut capture, &mut tally, &family, &call, integers);
         tally.report(&format!("case {number}, {family}"), &call, difference);
     }
     if let Some(folder) = &given.real {
@@ -91,7 +97,7 @@ fn main() -> ExitCode {
             Ok(found) => {
                 for real::Payload { sheet, name, input } in found {
                     let call = call(input);
-                    let difference = compared(&mut capture, &mut tally, &sheet, &call);
+                    let difference = compared(&mut capture, &mut tally, &sheet, &call, None);
                     tally.report(&format!("{sheet} {name}"), &call, difference);
                 }
             }
@@ -119,7 +125,8 @@ fn call(input: Input) -> Call {
     }
 }
 
-fn generated(seed: u64, sheets: &[sheets::Sheet]) -> (String, Call) {
+/// A sheet's family, a call, and the integers that were written, where they are known.
+fn generated(seed: u64, sheets: &[sheets::Sheet]) -> (String, Call, Option<Vec<Integer>>) {
     let random = &mut Random::new(seed);
     let fixed = random.chance(700);
     let sheet =
@@ -133,7 +140,7 @@ fn generated(seed: u64, sheets: &[sheets::Sheet]) -> (String, Call) {
     let budget = random.one_of(&[10, 20, 40, 80, 300]);
     let way = random.below(100);
     let deepest = random.one_of(&[4, 4, 10, 40]);
-    let mut payload = match way {
+    let mut written = match way {
         0..=4 => payloads::drawn(random, &sheet),
         5 => payloads::noise(random),
         6..=9 => payloads::Writer::new(random, &sheet, spaces, budget, deepest).write_deep(),
@@ -147,15 +154,16 @@ fn generated(seed: u64, sheets: &[sheets::Sheet]) -> (String, Call) {
         _ => payloads::Writer::new(random, &sheet, spaces, budget, deepest).write(),
     };
     if way >= 70 {
-        payloads::damage(random, &sheet, &mut payload);
+        payloads::damage(random, &sheet, &mut written);
     }
+    let Written { payload, integers } = written;
     let scratch = scratch_length(random, &payload);
     let mut call = Call { sheet: sheet.numbers.to_vec(), payload, reserve, trusted, scratch, fill: seed };
     if random.chance(10) {
         call.sheet = sheets::unusable(random, sheets);
-        return ("unusable".into(), call);
+        return ("unusable".into(), call, None);
     }
-    (sheet.family.into(), call)
+    (sheet.family.into(), call, integers)
 }
 
 /// Too little scratch for pending numbers; enough for these, and none, too little or some for the
@@ -212,7 +220,7 @@ fn longest(sheet: &sheets::Sheet) -> Option<String> {
     payload.resize(bytes - 1, tag("kRootArrayConstants"));
     payload.push(tag("kSynchronize"));
     let graph = port::graph(&Call { payload, ..empty(sheet) }, [4, 6 * words, 0, 0]);
-    let wanted = [1, words as u64, 0, 0, bytes as u64, 0];
+    let wanted = [1, words as u64, 0, 0, bytes as u64, 0, 0];
     let alike = graph.number == 0 && graph.outcome == wanted;
     (!alike).then(|| format!("{} {:?}, and not {wanted:?}", graph.number, graph.outcome))
 }
@@ -234,16 +242,58 @@ fn reservations(random: &mut Random) -> Vec<u32> {
 // ---- comparing
 
 /// What differs, if anything does.
-fn compared(capture: &mut rust::Capture, tally: &mut Tally, family: &str, call: &Call) -> Option<String> {
+fn compared(
+    capture: &mut rust::Capture,
+    tally: &mut Tally,
+    family: &str,
+    call: &Call,
+    integers: Option<Vec<Integer>>,
+) -> Option<String> {
     let bytes = call.payload.len();
     // Deferred entries can ask for far more slots than these; the Rust is not walked then.
     let records = [bytes / 2 + 2, 8 * bytes + 4096, bytes + 2, bytes / 2 + 2];
     let graph = port::graph(call, [0, 1, 2, 3].map(|table| records[table] * FIELDS[table]));
     *tally.outcomes.entry((family.into(), graph.number)).or_default() += 1;
     let odd = graph.left_over();
-    odd.or_else(|| against_rust(capture, tally, call, &graph))
+    odd.or_else(|| against_reader(tally, call, &graph, integers))
+        .or_else(|| against_rust(capture, tally, call, &graph))
         .or_else(|| other_scratch(call, &graph))
         .or_else(|| other_rooms(tally, call, &graph))
+}
+
+/// The library beside the reader that was written from docs/FORMAT.md alone (tools/oracle): the
+/// first line of `graphlist`. Where that reader meets the integers that the generator wrote, each at
+/// its place, the generator's own count is compared too.
+fn against_reader(
+    tally: &mut Tally,
+    call: &Call,
+    graph: &Graph,
+    integers: Option<Vec<Integer>>,
+) -> Option<String> {
+    let sheet = Numbers::from_numbers(&call.sheet)?;
+    let (trusted, payload, reserve) = (Vec::new(), call.payload.clone(), call.reserve.clone());
+    let input = Input { sheet, trusted, payload, reserve };
+    if graph.number == 3 || input.not_walked().is_some() {
+        return None;
+    }
+    let read = reader::read(&input);
+    let (got, wanted) = (graph.first_line(), reader::first_line(&read));
+    if got != wanted {
+        return Some(format!("{got}, the reader of docs/FORMAT.md has {wanted}"));
+    }
+    let reading = read.ok()?;
+    for integer in reading.integers.iter().filter(|integer| integer.bytes > integer.needed) {
+        tally.long.entry(integer.what).or_default()[integer.bytes - 2] += 1;
+    }
+    let integers = integers?;
+    if !reading.integers.iter().map(|i| i.place).eq(integers.iter().map(|i| i.place)) {
+        return None;
+    }
+    let long = integers.iter().filter(|integer| integer.long).count() as u64;
+    tally.noted[0] += 1;
+    tally.noted[1] += (long > 0) as u64;
+    (graph.outcome[6] != long)
+        .then(|| format!("{} integers longer than needed, {long} were written", graph.outcome[6]))
 }
 
 fn against_rust(
@@ -282,7 +332,7 @@ fn against_rust(
         }
     }
     if wanted.starts_with("refused 16 ") {
-        return (graph.number != 16).then(|| format!("{}, the Rust wraps a sum", first_line(&got)));
+        return (graph.number != 16).then(|| format!("{}, the Rust wraps a sum", graph.first_line()));
     }
     let untold = wanted.contains('?') || may_hide_values(&input.sheet);
     if untold && accepted && wanted.starts_with("graph") {
@@ -312,8 +362,8 @@ fn told(text: &str) -> String {
     let lines = text.lines().filter(|line| !line.starts_with('v')).map(|line| {
         let words: Vec<&str> = line.split(' ').collect();
         match words[..] {
-            ["graph", objects, slots, _, addresses, end] => {
-                format!("graph {objects} {slots} {addresses} {end}")
+            ["graph", objects, slots, _, addresses, end, long] => {
+                format!("graph {objects} {slots} {addresses} {end} {long}")
             }
             ["s", object, index, "7", count, _, waits] => format!("s {object} {index} 7 {count} {waits}"),
             ["s", object, index, "12", _, b, waits] => format!("s {object} {index} 12 {b} {waits}"),
@@ -321,10 +371,6 @@ fn told(text: &str) -> String {
         }
     });
     lines.collect::<Vec<_>>().join("\n")
-}
-
-fn first_line(text: &str) -> &str {
-    text.lines().next().unwrap_or("")
 }
 
 fn different(got: &str, wanted: &str) -> Option<String> {
@@ -361,7 +407,7 @@ fn other_rooms(tally: &mut Tally, call: &Call, graph: &Graph) -> Option<String> 
     let lengths = graph.lengths();
     let exact = port::graph(call, lengths);
     let odd = exact.left_over().or_else(|| {
-        (exact.text() != graph.text()).then(|| format!("{} with exact rooms", first_line(&exact.text())))
+        (exact.text() != graph.text()).then(|| format!("{} with exact rooms", exact.first_line()))
     });
     if odd.is_some() {
         return odd;
@@ -374,7 +420,7 @@ fn other_rooms(tally: &mut Tally, call: &Call, graph: &Graph) -> Option<String> 
         short[table] -= 1;
         let refused = port::graph(call, short);
         if refused.number != 3 || refused.outcome[5] > call.payload.len() as u64 {
-            return Some(format!("{} with a short table {table}", first_line(&refused.text())));
+            return Some(format!("{} with a short table {table}", refused.first_line()));
         }
         if let Some(odd) = refused.left_over() {
             return Some(format!("{odd}, with a short table {table}"));
@@ -426,6 +472,12 @@ impl Tally {
         println!("refused {}", refused.join(", "));
         println!("{} accepted with other rooms, {} compared without values", self.rooms, self.partly);
         println!("{} with kRootArray inside the new-object span, not run against the Rust", self.not_asked);
+        let [noted, long] = self.noted;
+        println!("{noted} by the generator's own count of long integers, {long} of them with some");
+        println!("long integers that were read:");
+        for (what, [two, three, four]) in &self.long {
+            println!("  {what}: {two} of 2 bytes, {three} of 3, {four} of 4");
+        }
         println!("{} differences", self.differences);
     }
 }

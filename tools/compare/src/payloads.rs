@@ -26,10 +26,29 @@ pub struct Writer<'a> {
     numbered: [usize; 2],
     /// 6.x repeats copy the slot before: the Rust's time grows with the square of a chain.
     copies: usize,
+    /// In so many of 1000 cases an integer may be written longer than its value needs.
+    long: usize,
+    /// Those written, in the order of their places.
+    integers: Vec<Integer>,
+}
+
+/// An integer as it was written.
+#[derive(Clone, Copy)]
+pub struct Integer {
+    pub place: usize,
+    pub bytes: usize,
+    /// Whether its value needs fewer bytes.
+    pub long: bool,
+}
+
+/// A payload, and its integers where they are known.
+pub struct Written {
+    pub payload: Vec<u8>,
+    pub integers: Option<Vec<Integer>>,
 }
 
 #[rustfmt::skip]
-const HEADS: [&str; 36] = [
+const HEADS: [&str; 42] = [
     "kNewObject", "kBackref", "kBackrefWithSkip", "kHotObject", "kHotObjectWithSkip", "kRootArray",
     "kRootArrayConstants", "kRootArrayConstantsWithSkip", "kFixedRawData", "kVariableRawData", "kSkip",
     "kFixedRepeat", "kFixedRepeatRoot", "kVariableRepeat", "kVariableRepeatRoot", "kNextChunk",
@@ -37,8 +56,14 @@ const HEADS: [&str; 36] = [
     "kRegisterPendingForwardRef", "kClearedWeakReference", "kInitializeSelfIndirectPointer",
     "kReadOnlyHeapRef", "kApiReference", "kOffHeapTarget", "kInternalReference", "kEmbedderFieldsData",
     "kDeoptimizerEntryPlain", "kOffHeapBackingStore", "kVariableRawCode", "kAttachedReference", "kBuiltin",
-    "kExternalReference", "kStartupObjectCache", "kPartialSnapshotCache",
+    "kExternalReference", "kStartupObjectCache", "kPartialSnapshotCache", "kReadOnlyObjectCache",
+    "kSharedHeapObjectCache", "kAllocateJSDispatchEntry", "kJSDispatchEntry", "kInternalReferenceEncoded",
+    "kDeoptimizerEntryFromCode",
 ];
+
+/// Numbers of references, those among them at which an integer takes a byte more.
+const NUMBERS: [usize; 14] =
+    [0, 1, 2, 5, 63, 64, 70, 300, 16383, 16384, 17000, (1 << 22) - 1, 1 << 22, (1 << 30) - 1];
 
 /// An item's width in bytes, and whether it makes a slot.
 type Item = (usize, bool);
@@ -55,8 +80,10 @@ impl<'a> Writer<'a> {
             "kApiReference",
             "kOffHeapTarget",
             "kInternalReference",
+            "kInternalReferenceEncoded",
             "kEmbedderFieldsData",
             "kDeoptimizerEntryPlain",
+            "kDeoptimizerEntryFromCode",
             "kOffHeapBackingStore",
             "kVariableRawCode",
             "kBuiltin",
@@ -65,6 +92,7 @@ impl<'a> Writer<'a> {
         let read = |name: &&str| sheet.has(name) && (sheet.six_x() || !six_only.contains(name));
         let heads = HEADS.into_iter().filter(read).collect();
         let word = sheet.or("tagged_size", 8);
+        let long = random.one_of(&[0, 50, 50, 400, 1000]);
         Writer {
             random,
             sheet,
@@ -83,6 +111,8 @@ impl<'a> Writer<'a> {
             addresses: Vec::new(),
             numbered: [0; 2],
             copies: 0,
+            long,
+            integers: Vec::new(),
         }
     }
 
@@ -94,8 +124,9 @@ impl<'a> Writer<'a> {
 
     fn integer(&mut self, value: usize) {
         let least = (1..4).find(|n| value < 1 << (8 * n - 2)).unwrap_or(4);
-        let count = if self.random.chance(50) { self.random.from_to(least, 4) } else { least };
+        let count = if self.random.chance(self.long) { self.random.from_to(least, 4) } else { least };
         let bytes = (((value as u64) << 2) | (count as u64 - 1)).to_le_bytes();
+        self.integers.push(Integer { place: self.out.len(), bytes: count, long: count > least });
         self.out.extend(&bytes[..count]);
     }
 
@@ -155,11 +186,14 @@ impl<'a> Writer<'a> {
             }
             "kClearedWeakReference" | "kInitializeSelfIndirectPointer" => self.with_integers(name, 0, room),
             "kReadOnlyHeapRef" | "kApiReference" | "kOffHeapTarget" => self.with_integers(name, 2, room),
-            "kInternalReference" | "kEmbedderFieldsData" => {
+            "kInternalReference" | "kInternalReferenceEncoded" | "kEmbedderFieldsData" => {
                 self.with_integers(name, 2, room);
                 (0, false)
             }
-            "kDeoptimizerEntryPlain" | "kOffHeapBackingStore" | "kVariableRawCode" => {
+            "kDeoptimizerEntryPlain"
+            | "kDeoptimizerEntryFromCode"
+            | "kOffHeapBackingStore"
+            | "kVariableRawCode" => {
                 self.with_integers(name, 1, room);
                 (0, false)
             }
@@ -191,7 +225,7 @@ impl<'a> Writer<'a> {
             if skips && k == 0 {
                 self.amount(room);
             } else {
-                let n = self.random.one_of(&[0, 1, 2, 5, 70, 300, 17000]);
+                let n = self.random.one_of(&NUMBERS);
                 self.integer(n);
             }
         }
@@ -264,15 +298,18 @@ impl<'a> Writer<'a> {
     }
 
     fn legacy_address(&mut self, (space, chunk, offset): (usize, usize, usize)) {
+        // In 6.x the bits above the number or address don't count.
+        let above = self.sheet.six_x() && self.random.chance(100);
+        let above = if above { 1 << (32 - self.sheet.or("kSpaceTagSize", 3)) } else { 0 };
         if let Some(kind) = self.canonical(space) {
             let count = self.numbered[kind];
             let over = count == 0 || self.random.chance(20);
             let number = if over { count } else { self.random.below(count) };
-            self.integer(number);
+            self.integer(number | above);
         } else if self.sheet.six_x() {
             let word_bits = if self.word == 4 { 2 } else { 3 };
             let bits = self.sheet.or("kPageSizeBits", 19).saturating_sub(word_bits);
-            self.integer((chunk << bits | offset / self.word) & ((1 << 29) - 1));
+            self.integer((chunk << bits | offset / self.word) & ((1 << 29) - 1) | above);
         } else {
             self.integer(chunk);
             self.integer(offset);
@@ -496,7 +533,7 @@ impl<'a> Writer<'a> {
         self.head("kNewObject", address.0);
         self.legacy_address(address);
         self.hot += 1;
-        let (at, mut done, mut size) = (self.out.len(), 1, 1);
+        let (at, written, mut done, mut size) = (self.out.len(), self.integers.len(), 1, 1);
         for _ in 0..self.random.below(4) {
             let before = done;
             let (width, slot) = self.reference(1, Some(6 * self.word));
@@ -505,8 +542,10 @@ impl<'a> Writer<'a> {
                 size = self.random.from_to(before + 1, done);
             }
         }
-        let rest = self.out.split_off(at);
+        let (rest, integers) = (self.out.split_off(at), self.integers.split_off(written));
         self.integer(size);
+        let by = self.out.len() - at;
+        self.integers.extend(integers.iter().map(|i| Integer { place: i.place + by, ..*i }));
         self.out.extend(rest);
     }
 
@@ -547,6 +586,12 @@ impl<'a> Writer<'a> {
                 self.reference(0, None);
             }
         }
+        if self.sheet.legacy() && self.random.chance(60) {
+            return self.cut();
+        }
+        if self.sheet.legacy() && self.random.chance(100) {
+            self.faulty();
+        }
         if self.random.chance(970) {
             self.head("kSynchronize", 0);
         }
@@ -558,6 +603,49 @@ impl<'a> Writer<'a> {
         }
     }
 
+    /// A closing item of a legacy sheet that is a fault after an integer was read: 7, 8, 9 or 15.
+    fn faulty(&mut self) {
+        let map_space = self.sheet.or("kMapSpace", 4);
+        let spaces = self.sheet.or("kNumberOfSpaces", 6);
+        match self.random.below(3) {
+            0 if spaces == 0 => {
+                self.head("kBackref", 0);
+                self.integer(self.objects);
+            }
+            0 if map_space < spaces => {
+                self.head("kBackref", map_space);
+                self.integer(self.numbered[0]);
+            }
+            1 if self.sheet.has("kHotObjectWithSkip") && self.hot < 8 => {
+                let first = self.sheet.or("kHotObjectWithSkip", 0);
+                let empty: Vec<usize> = (first..first + 8).filter(|byte| byte & 7 >= self.hot).collect();
+                let byte = self.random.one_of(&empty);
+                self.out.push(byte as u8);
+                self.integer(0);
+            }
+            _ => {
+                self.head("kVariableRawData", 0);
+                self.integer(60);
+            }
+        }
+    }
+
+    /// The last bytes are missing, so that some item of a legacy closing section is cut, often a
+    /// back-reference.
+    fn cut(&mut self) {
+        if self.random.chance(600) {
+            let skips = self.sheet.six_x() && self.random.chance(500);
+            self.backref(if skips { "kBackrefWithSkip" } else { "kBackref" }, None);
+        }
+        let left = self.out.len().saturating_sub(self.random.from_to(1, 6));
+        self.out.truncate(left);
+        self.integers.retain(|integer| integer.place + integer.bytes <= left);
+    }
+
+    fn written(self) -> Written {
+        Written { payload: self.out, integers: Some(self.integers) }
+    }
+
     fn first_space(&mut self) -> usize {
         let opening = self.opening();
         if self.random.chance(300) {
@@ -567,24 +655,24 @@ impl<'a> Writer<'a> {
         }
     }
 
-    pub fn write(mut self) -> Vec<u8> {
+    pub fn write(mut self) -> Written {
         let space = self.first_space();
         self.new_object(0, space);
         self.closing();
-        self.out
+        self.written()
     }
 
     /// One object of very many words.
-    pub fn write_wide(mut self, words: usize) -> Vec<u8> {
+    pub fn write_wide(mut self, words: usize) -> Written {
         let space = self.first_space();
         self.object_of(0, space, words);
         self.closing();
-        self.out
+        self.written()
     }
 
     /// Legacy objects of very many words, most of them left by kDeferred, so that addresses come
     /// near 2^32.
-    pub fn write_large(mut self) -> Vec<u8> {
+    pub fn write_large(mut self) -> Written {
         let most = (1 << 30) - 1;
         let part = (1 << 32) / self.word;
         let top = self.first_space();
@@ -609,11 +697,11 @@ impl<'a> Writer<'a> {
             self.head("kDeferred", 0);
         }
         self.closing();
-        self.out
+        self.written()
     }
 
     /// Objects, weak references and repeats inside each other, to about the deepest that is read.
-    pub fn write_deep(mut self) -> Vec<u8> {
+    pub fn write_deep(mut self) -> Written {
         let levels = self.random.from_to(61, 66);
         let mut after = 0;
         self.head("kNewObject", 0);
@@ -638,12 +726,14 @@ impl<'a> Writer<'a> {
             self.root_constant("kRootArrayConstants", None);
         }
         self.closing();
-        self.out
+        self.written()
     }
 }
 
 /// Some bytes changed, put in, taken out or cut off.
-pub fn damage(random: &mut Random, sheet: &Sheet, payload: &mut Vec<u8>) {
+pub fn damage(random: &mut Random, sheet: &Sheet, written: &mut Written) {
+    written.integers = None;
+    let payload = &mut written.payload;
     for _ in 0..random.one_of(&[1, 1, 1, 2, 5]) {
         if payload.is_empty() {
             return;
@@ -668,7 +758,7 @@ pub fn damage(random: &mut Random, sheet: &Sheet, payload: &mut Vec<u8>) {
 }
 
 /// An object of some words, then bytes drawn from the sheet's heads and at random.
-pub fn drawn(random: &mut Random, sheet: &Sheet) -> Vec<u8> {
+pub fn drawn(random: &mut Random, sheet: &Sheet) -> Written {
     let heads: Vec<u8> = sheet.numbers[..48].iter().filter(|n| **n < 256).map(|n| *n as u8).collect();
     let words = random.from_to(1, 9);
     let mut payload = vec![sheet.or("kNewObject", 0) as u8, 4 * words as u8];
@@ -677,10 +767,11 @@ pub fn drawn(random: &mut Random, sheet: &Sheet) -> Vec<u8> {
         let byte = random.one_of(&[head, head, small as u8, any]);
         payload.push(byte);
     }
-    payload
+    Written { payload, integers: None }
 }
 
 /// Bytes at random.
-pub fn noise(random: &mut Random) -> Vec<u8> {
-    (0..random.below(40)).map(|_| random.byte()).collect()
+pub fn noise(random: &mut Random) -> Written {
+    let payload = (0..random.below(40)).map(|_| random.byte()).collect();
+    Written { payload, integers: None }
 }

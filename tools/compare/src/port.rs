@@ -65,10 +65,14 @@ impl Call {
     }
 }
 
-/// What a call gives: number, counts with `end` and place, and the four tables whole.
+/// The counts of the four tables, `end`, the refusal's place, and how many integers are longer than
+/// their values need.
+pub type Outcome = [u64; 7];
+
+/// What a call gives: number, outcome and the four tables whole.
 pub struct Graph {
     pub number: u64,
-    pub outcome: [u64; 6],
+    pub outcome: Outcome,
     pub tables: [Vec<u64>; 4],
 }
 
@@ -79,7 +83,7 @@ pub fn graph(call: &Call, lengths: [usize; 4]) -> Graph {
     let mut tables =
         [call.filled(objects, 1), call.filled(slots, 2), call.filled(values, 3), call.filled(addresses, 4)];
     let mut scratch = call.filled(call.scratch, 0);
-    let mut outcome = [u64::MAX; 6];
+    let mut outcome = [u64::MAX; 7];
     let [objects, slots, values, addresses] = &mut tables;
     // Each length is that of the slice whose pointer stands before it, and no two of them overlap.
     let number = unsafe {
@@ -134,9 +138,9 @@ impl Graph {
                 return Some(format!("table {} is not zero past its records", LETTERS[table]));
             }
         }
-        let refused = self.number != 0;
-        let unused = if refused { &self.outcome[..5] } else { &self.outcome[5..] };
-        unused.iter().any(|n| *n != 0).then(|| "an unused number of the outcome is not zero".into())
+        let [counts @ .., place, long] = self.outcome;
+        let unused = if self.number == 0 { place } else { long | counts.iter().fold(0, |all, n| all | n) };
+        (unused != 0).then(|| "an unused number of the outcome is not zero".into())
     }
 
     /// Number, outcome and records are the same.
@@ -149,13 +153,22 @@ impl Graph {
         (self.number, self.outcome) == (other.number, other.outcome) && (0..4).all(alike)
     }
 
+    /// The first line of `graphlist`.
+    pub fn first_line(&self) -> String {
+        let [objects, slots, values, addresses, end, place, long] = self.outcome;
+        match self.number {
+            0 => format!("graph {objects} {slots} {values} {addresses} {end} {long}"),
+            number => format!("refused {number} {place}"),
+        }
+    }
+
     /// In the form of `graphlist`.
     pub fn text(&self) -> String {
+        let mut lines = vec![self.first_line()];
         if self.number != 0 {
-            return format!("refused {} {}", self.number, self.outcome[5]);
+            return lines.remove(0);
         }
         let words = |numbers: &[u64]| numbers.iter().map(u64::to_string).collect::<Vec<_>>().join(" ");
-        let mut lines = vec![format!("graph {}", words(&self.outcome[..5]))];
         for (table, letter) in LETTERS.iter().enumerate() {
             let records =
                 (0..self.count(table)).map(|k| format!("{letter} {}", words(self.record(table, k))));

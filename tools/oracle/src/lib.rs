@@ -4,6 +4,7 @@
 
 pub mod heads;
 pub mod listing;
+pub mod reader;
 pub mod real;
 pub mod refusal;
 pub mod sha256;

@@ -2,6 +2,7 @@
 //! debug output.
 
 use crate::heads::{Heads, Prefix};
+use crate::reader::{self, Reading};
 use crate::serializer::{Object, Raw, Ref, SlotValue};
 use crate::trace::{Event, Holds};
 use crate::Input;
@@ -242,10 +243,23 @@ impl Listing<'_> {
         }
     }
 
+    /// How many integers are longer than their values need, which the Rust does not tell; unknown
+    /// where the reader of docs/FORMAT.md does not read the payload as the Rust does.
+    fn long_integers(&self) -> String {
+        let counts = [self.objects.len(), self.slots.len(), self.addresses.len(), self.end];
+        let alike = |reading: &Reading| {
+            let [objects, slots, _, addresses] = reading.counts.map(|count| count as usize);
+            [objects, slots, addresses, reading.end] == counts
+        };
+        let reading = reader::read(self.input).ok().filter(alike);
+        reading.map_or("?".into(), |reading| reading.long_integers().to_string())
+    }
+
     fn print(&self) -> String {
         let counts = [self.objects.len(), self.slots.len(), self.values.len(), self.addresses.len()];
         let [objects, slots, values, addresses] = counts;
-        let mut lines = vec![format!("graph {objects} {slots} {values} {addresses} {}", self.end)];
+        let long = self.long_integers();
+        let mut lines = vec![format!("graph {objects} {slots} {values} {addresses} {} {long}", self.end)];
         lines.extend(
             self.objects.iter().map(|o| {
                 format!("o {} {} {} {}", o.byte_size, o.start_offset, o.raw_len as u8, o.slots.len())
