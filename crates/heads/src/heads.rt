@@ -8,7 +8,9 @@ ghost use Rattle.heads.specs.Assigning.{Assigned};
 use crate::kinds::Kind;
 use crate::order::{Argument, Family, ORDER, Span};
 use sheet::names::{K_BACKREF, K_FIXED_REPEAT, K_NEW_OBJECT};
-use sheet::numbers::{legacy, number, number_of_spaces, present, present_number, root_mask, six_x};
+use sheet::numbers::{
+    legacy, new_object_span, number, number_of_spaces, present, present_number, root_mask, six_x,
+};
 use usable_sheets::usable::usable;
 
 // How many bytes a name lays hold of.
@@ -18,6 +20,7 @@ fn span_of(sheet: &[u16], span: Span) -> u64
     match span {
         Span::Bytes(n) => n,
         Span::Spaces => number_of_spaces(sheet),
+        Span::NewObjects => new_object_span(sheet),
         Span::RootConstants => root_mask(sheet) + 1,
         Span::UpToBackref => {
             number(sheet, K_BACKREF).saturating_sub(number(sheet, K_NEW_OBJECT))
