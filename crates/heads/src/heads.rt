@@ -13,8 +13,8 @@ use sheet::numbers::{
 };
 use usable_sheets::usable::usable;
 
-// How many bytes a name lays hold of.
-fn span_of(sheet: &[u16], span: Span) -> u64
+/// How many bytes a row's name lays hold of, from its first byte on.
+pub fn span_of(sheet: &[u16], span: Span) -> u64
     ensures { result ≡ span_of sheet.now span }
 {
     match span {
@@ -28,8 +28,8 @@ fn span_of(sheet: &[u16], span: Span) -> u64
     }
 }
 
-// Whether this sheet tests a name of such a family.
-fn tested(sheet: &[u16], family: Family) -> bool
+/// Whether this sheet tests a row's name at a reference's head.
+pub fn tested(sheet: &[u16], family: Family) -> bool
     ensures { result ≡ tests sheet.now family }
 {
     match family {
