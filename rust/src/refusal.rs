@@ -9,7 +9,7 @@ const WORDS: [&str; 16] = [
     "payload over 16,777,216 bytes or over 65,536 reservations",
     "the record to append next is the first past its table's room",
     "a byte is needed and none is left",
-    "first byte not in kNewObject up to below kBackref",
+    "the first byte opens no object",
     "a reference at depth over 64",
     "raw range passes the payload's end",
     "back-reference by plain index not below the object count",

@@ -281,7 +281,7 @@ fn refusals() {
     let inputs: [(&str, &str, &str); 14] = [
         ("tagged_size 8", "00 04 45 0D", "refused 1 at 0: sheet not usable"),
         (A, "00", "refused 4 at 1: a byte is needed and none is left"),
-        (A, "08 04 45 0D", "refused 5 at 0: first byte not in kNewObject up to below kBackref"),
+        (A, "08 04 45 0D", "refused 5 at 0: the first byte opens no object"),
         (A, &deep, "refused 6 at 130: a reference at depth over 64"),
         (A, "00 08 45 60 01 0D", "refused 7 at 4: raw range passes the payload's end"),
         (A, "00 08 45 08 04 0D", "refused 8 at 5: back-reference by plain index not below the object count"),

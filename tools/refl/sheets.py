@@ -109,6 +109,15 @@ def coinciding(rnd):
     return made
 
 
+def root_array_inside(sheet_numbers):
+    """kRootArray is among the bytes of kNewObject in a legacy sheet without kNumberOfSpaces: the Rust
+    takes it for a new object there, and Dawichko does not (docs/DIFFERENCES.md, D45)."""
+    got = dict(zip(NAMES, sheet_numbers))
+    first = got.get('kNewObject', ABSENT)
+    return got.get('kSpaceMask', ABSENT) != ABSENT and got.get('kNumberOfSpaces', ABSENT) == ABSENT and \
+        first <= got.get('kRootArray', ABSENT) < first + 6
+
+
 # the names that `parse_ref_inner` tests at a reference's head, in its order, without kNewObject
 TESTED = """kBackrefWithSkip kBackref kNextChunk kAlignmentPrefix kHotObject kHotObjectWithSkip kRootArray kRootArrayConstants
 kRootArrayConstantsWithSkip kReadOnlyHeapRef kAttachedReference kBuiltin kExternalReference kApiReference kInternalReference

@@ -6,6 +6,7 @@ use Rattle.std.proofs.lemmas.Bool.{not-true, and_parts, or_cases}
 use Rattle.sheet.specs.Names.{k_new_object, k_backref, k_hot_object_with_skip, k_root_array_constants_with_skip, k_skip}
 use Rattle.sheet.specs.Sheet.{number, present}
 use Rattle.sheet.specs.Tests.{opens}
+use Rattle.sheet.proofs.TestsLaws.{none_past}
 use Rattle.heads.specs.declared.heads.Head.{Head}
 use Rattle.heads.specs.declared.kinds.Kind.{Kind}
 use Rattle.heads.specs.declared.kinds.Kind.TheVariants.{NewObject, LegacyBackref, LegacyBackrefWithSkip, NextChunk, Alignment, HotWithSkip, RootConstantWithSkip, Builtin, External, Api, Internal, Deoptimizer, StreamBytes, EmbedderFields, OffHeapTarget, Skip, RepeatPrevious, VariableRepeatPrevious}
@@ -99,10 +100,10 @@ module _ (v : List ℕ) (s : PlainSheet v) where
 
   -- of the modern row for new objects
   opening : (r : Claim) (b : ℕ) → r.name ≡ k_new_object → r.span ≡ UpToBackref → claims v r b ≡ true → opens v b ≡ true
-  opening r b n s c =
+  opening r b n u c =
       let low : number v k_new_object ≤ b = leb-true _ _ (rw n at (and_parts (present v r.name && tests v r.family) _ (and_parts _ _ c).0).1) in
-      let high : b < number v k_new_object + (number v k_backref - number v k_new_object) = ltb-true _ _ (rw (n, s) at (and_parts (present v r.name && tests v r.family && leb (number v r.name) b) _ c).1) in
-      rw (le-leb (number v k_new_object) b low, lt-ltb b (number v k_backref) (omega arith))
+      let high : b < number v k_new_object + (number v k_backref - number v k_new_object) = ltb-true _ _ (rw (n, u) at (and_parts (present v r.name && tests v r.family && leb (number v r.name) b) _ c).1) in
+      rw (le-leb (number v k_new_object) b low, lt-ltb b (number v k_backref) (omega arith), none_past v s.no_legacy b)
 
   row_plain : (r : Claim) (b : ℕ) → fits r ≡ true → claims v r b ≡ true → PlainHead v b (head_by v r b)
   row_plain r b f c =

@@ -1,10 +1,9 @@
 -- What the rules keep is kept by every reader, under a plain sheet: references. Assumes nothing.
-use Rattle.std.specs.Prelude.{◌≡◌, ◌≢◌, Bool, List, ltb, eqb, Option, Some, None}
+use Rattle.std.specs.Prelude.{◌≡◌, Bool, List, ltb, Option, Some, None}
 use Rattle.std.proofs.Math.Path.{refl}
-use Rattle.std.proofs.Math.Bool.{true, false}
+use Rattle.std.proofs.Math.Bool.{true}
 use Prim.Native.Nat.{ℕ, zero, suc, ◌+◌, ◌*◌, ◌-◌, ◌^◌, ◌<◌, ◌≤◌}
-use Rattle.std.proofs.Common.{arith, ltb-true, eqb-true}
-use Rattle.std.proofs.lemmas.Bool.{eqb-false}
+use Rattle.std.proofs.Common.{arith, ltb-true}
 use Rattle.std.proofs.Math.ListN.{length}
 use Rattle.stream.specs.Bytes.{raw_at}
 use Rattle.stream.proofs.ByteLaws.{Bytes}
@@ -22,7 +21,6 @@ use Rattle.tables.specs.Values.{fields_of}
 use Rattle.backref.specs.HotRing.{hot_at}
 use Rattle.definition.specs.Memory.{◌>>=◌, Input, word, Mem, Reader, byte, int, moved, has_room}
 use Rattle.definition.specs.Slots.{add_value}
-use Rattle.definition.specs.Object.{object}
 use Rattle.definition.specs.Reference.{refers_hot, backref_to, of_hot, hot_place, outside, pending_reference, after_raw, raw_data, raw_bytes, weak_of, repeat_of, repeat_root, by_head, reference, ref_at}
 use Rattle.laws.specs.Leaves.{RawEnds, raw_ends}
 use Rattle.assurance.specs.PlainSheet.{PlainSheet, words_pos}

@@ -1,8 +1,9 @@
 -- Cases a to l of document 01, as one table with one proof. Assumes nothing.
-use Rattle.std.specs.Prelude.{◌≡◌, refl, List, [], ◌∷◌, map, reverse, ℕ, ◌*◌, ◌^◌, take, replicate}
+use Rattle.std.specs.Prelude.{◌≡◌, refl, List, [], ◌∷◌, map, reverse, ℕ, ◌*◌, ◌^◌, take, replicate, set}
 use Rattle.stream.specs.Bytes.{peek_at, little_endian, raw_at}
 use Rattle.stream.specs.PutInt.{int_length, int_at}
-use Rattle.sheet.specs.Sheet.{all_within, usable}
+use Rattle.sheet.specs.Names.{k_new_object, k_root_array}
+use Rattle.sheet.specs.Sheet.{all_within, usable, new_object_span}
 use Rattle.heads.specs.Heads.{order, first_of, head_of}
 use Rattle.sheet.specs.Tests.{alignment_of, closing_of}
 use Rattle.tables.specs.Values.{triple}
@@ -83,7 +84,7 @@ cases =
     []
 
 pub cases_hold : map (λ (c : Case). shown (graph (call_a c.0) rooms_a)) cases ≡ map (λ (c : Case). c.1) cases
-unfolding peek_at little_endian raw_at int_length int_at all_within usable order first_of head_of alignment_of closing_of written filled spaces_of entered hot_at byte int add_value add_slot waiter resolved keep_item place_item add_object flag_object keep_map resolves items body object backref_to pending_reference raw_data by_head reference ref_at entries padding closing walk called graph
+unfolding peek_at little_endian raw_at int_length int_at all_within usable new_object_span order first_of head_of alignment_of closing_of written filled spaces_of entered hot_at byte int add_value add_slot waiter resolved keep_item place_item add_object flag_object keep_map resolves items body object backref_to pending_reference raw_data by_head reference ref_at entries padding closing walk called graph
 cases_hold = refl
 
 -- sheet L8 of the notes, in the manner of V8 7.8, with six reservations of the top bit alone
@@ -100,6 +101,19 @@ sheet_l =
 abbrev pub call_l : List ℕ → Call
 call_l p = record { sheet = sheet_l; payload = p; reservations = replicate 6 (2 ^ 31); trusted = [] }
 
+-- the same with kRootArray 05: without kNumberOfSpaces, among the bytes of kNewObject
+abbrev pub sheet_root_inside : List ℕ
+sheet_root_inside = set sheet_l k_root_array 5
+
+abbrev pub call_root_inside : List ℕ → Call
+call_root_inside p =
+    record { sheet = sheet_root_inside; payload = p; reservations = replicate 6 (2 ^ 31); trusted = [] }
+
+-- kNewObject 250 and kRootArray 251: the span that ends below kRootArray would fit, the full one not
+abbrev pub call_span_too_long : List ℕ → Call
+call_span_too_long p =
+    record { sheet = set (set sheet_l k_new_object 250) k_root_array 251; payload = p; reservations = []; trusted = [] }
+
 abbrev pub CallCase : Type 0
 CallCase = Call × List (List ℕ)
 
@@ -114,10 +128,23 @@ further_cases =
     ((call_l (0x07 ∷ 0x08 ∷ 0x45 ∷ 0x46 ∷ 0x14 ∷ [])), ((0 ∷ 1 ∷ 2 ∷ 0 ∷ 1 ∷ 5 ∷ []) ∷ (16 ∷ 0 ∷ 0 ∷ 2 ∷ []) ∷ (0 ∷ 0 ∷ 2 ∷ 5 ∷ 0 ∷ 0 ∷ 0 ∷ 1 ∷ 2 ∷ 6 ∷ 0 ∷ 0 ∷ []) ∷ ([]) ∷ (7 ∷ 0 ∷ 0 ∷ 0 ∷ 0 ∷ []) ∷ [])) ∷
     -- a fault in a legacy closing section ends it; kNop bytes are still read from there
     ((call_l (0x00 ∷ 0x04 ∷ 0x45 ∷ 0xFF ∷ 0x13 ∷ 0x13 ∷ 0x14 ∷ 0x13 ∷ [])), ((0 ∷ 1 ∷ 1 ∷ 0 ∷ 1 ∷ 6 ∷ []) ∷ (8 ∷ 0 ∷ 0 ∷ 1 ∷ []) ∷ (0 ∷ 0 ∷ 2 ∷ 5 ∷ 0 ∷ 0 ∷ []) ∷ ([]) ∷ (0 ∷ 0 ∷ 0 ∷ 0 ∷ 1 ∷ []) ∷ [])) ∷
+    -- kRootArray among the bytes of kNewObject: as a reference it is a root
+    ((call_root_inside (0x00 ∷ 0x08 ∷ 0x45 ∷ 0x05 ∷ 0x04 ∷ 0x14 ∷ [])), ((0 ∷ 1 ∷ 2 ∷ 0 ∷ 1 ∷ 6 ∷ []) ∷ (16 ∷ 0 ∷ 0 ∷ 2 ∷ []) ∷ (0 ∷ 0 ∷ 2 ∷ 5 ∷ 0 ∷ 0 ∷ 0 ∷ 1 ∷ 2 ∷ 1 ∷ 0 ∷ 0 ∷ []) ∷ ([]) ∷ (0 ∷ 0 ∷ 0 ∷ 0 ∷ 1 ∷ []) ∷ [])) ∷
+    -- in the closing section too, and no deferred entry
+    ((call_root_inside (0x00 ∷ 0x04 ∷ 0x45 ∷ 0x05 ∷ 0x04 ∷ 0x14 ∷ [])), ((0 ∷ 1 ∷ 1 ∷ 0 ∷ 1 ∷ 6 ∷ []) ∷ (8 ∷ 0 ∷ 0 ∷ 1 ∷ []) ∷ (0 ∷ 0 ∷ 2 ∷ 5 ∷ 0 ∷ 0 ∷ []) ∷ ([]) ∷ (0 ∷ 0 ∷ 0 ∷ 0 ∷ 1 ∷ []) ∷ [])) ∷
+    -- as first byte: 5 at 0
+    ((call_root_inside (0x05 ∷ 0x08 ∷ 0x45 ∷ 0x46 ∷ 0x14 ∷ [])), ((5 ∷ 0 ∷ []) ∷ [])) ∷
+    -- but a byte past the full span opens the top object, as under every legacy sheet
+    ((call_root_inside (0x06 ∷ 0x08 ∷ 0x45 ∷ 0x46 ∷ 0x14 ∷ [])), ((0 ∷ 1 ∷ 2 ∷ 0 ∷ 1 ∷ 5 ∷ []) ∷ (16 ∷ 0 ∷ 0 ∷ 2 ∷ []) ∷ (0 ∷ 0 ∷ 2 ∷ 5 ∷ 0 ∷ 0 ∷ 0 ∷ 1 ∷ 2 ∷ 6 ∷ 0 ∷ 0 ∷ []) ∷ ([]) ∷ (6 ∷ 0 ∷ 0 ∷ 0 ∷ 1 ∷ []) ∷ [])) ∷
+    ((call_root_inside (0x07 ∷ 0x08 ∷ 0x45 ∷ 0x46 ∷ 0x14 ∷ [])), ((0 ∷ 1 ∷ 2 ∷ 0 ∷ 1 ∷ 5 ∷ []) ∷ (16 ∷ 0 ∷ 0 ∷ 2 ∷ []) ∷ (0 ∷ 0 ∷ 2 ∷ 5 ∷ 0 ∷ 0 ∷ 0 ∷ 1 ∷ 2 ∷ 6 ∷ 0 ∷ 0 ∷ []) ∷ ([]) ∷ (7 ∷ 0 ∷ 0 ∷ 0 ∷ 0 ∷ []) ∷ [])) ∷
+    -- back-references keep the full span: space 5, in which no object lies
+    ((call_root_inside (0x00 ∷ 0x08 ∷ 0x45 ∷ 0x0D ∷ 0x00 ∷ 0x14 ∷ [])), ((15 ∷ 5 ∷ []) ∷ [])) ∷
+    -- *usable* goes by the full span
+    ((call_span_too_long (0x00 ∷ 0x04 ∷ 0x45 ∷ 0x14 ∷ [])), ((1 ∷ 0 ∷ []) ∷ [])) ∷
     []
 
 pub further_hold : map (λ (c : CallCase). shown (graph c.0 rooms_a)) further_cases ≡ map (λ (c : CallCase). c.1) further_cases
-unfolding peek_at little_endian raw_at int_length int_at all_within usable order first_of head_of alignment_of closing_of written filled spaces_of entered hot_at byte int add_value add_slot waiter resolved keep_item place_item add_object flag_object keep_map resolves items body object backref_to pending_reference raw_data by_head reference ref_at entries padding closing walk called graph fill_to_align max_fill_to_align advance_of allocate_of next_chunk addressed resolve_of ordinal_from packed_backref plain_backref backref_of allocate chunk_changes map_first legacy_reference add_slots entry_items entry
+unfolding peek_at little_endian raw_at int_length int_at all_within usable new_object_span order first_of head_of alignment_of closing_of written filled spaces_of entered hot_at byte int add_value add_slot waiter resolved keep_item place_item add_object flag_object keep_map resolves items body object backref_to pending_reference raw_data by_head reference ref_at entries padding closing walk called graph fill_to_align max_fill_to_align advance_of allocate_of next_chunk addressed resolve_of ordinal_from packed_backref plain_backref backref_of allocate chunk_changes map_first legacy_reference add_slots entry_items entry
 further_hold = refl
 
 -- what a reading tells: a weak and a pending slot, an object with a resolve and raw data, and a reference that the closing section drops
@@ -150,5 +177,5 @@ told_events =
     []
 
 pub told_holds : events_of (graph (call_a told_payload) rooms_a) ≡ reverse told_events
-unfolding peek_at little_endian raw_at int_length int_at all_within usable order first_of head_of alignment_of closing_of written filled spaces_of entered hot_at byte int add_value add_slot waiter resolved keep_item place_item add_object flag_object keep_map resolves items body object backref_to pending_reference raw_data by_head reference ref_at entries padding closing walk called graph
+unfolding peek_at little_endian raw_at int_length int_at all_within usable new_object_span order first_of head_of alignment_of closing_of written filled spaces_of entered hot_at byte int add_value add_slot waiter resolved keep_item place_item add_object flag_object keep_map resolves items body object backref_to pending_reference raw_data by_head reference ref_at entries padding closing walk called graph
 told_holds = refl

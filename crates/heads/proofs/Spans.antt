@@ -9,10 +9,11 @@ use lib.Dec.{ltb, eqb}
 use borrow.Author.Tests.{ltb-true, eqb-true, eqb-false, not-true}
 use Rattle.sheet.specs.Sheet.{number, present}
 use Rattle.sheet.specs.Usable.{Usable}
+use Rattle.sheet.proofs.TestsLaws.{span_at_most}
 use Rattle.heads.specs.Heads.{order, span_of, tests}
 use Rattle.heads.specs.declared.order.Claim.{Claim}
 use Rattle.heads.specs.declared.order.Span.{Span}
-use Rattle.heads.specs.declared.order.Span.TheVariants.{Bytes, Spaces, RootConstants, UpToBackref}
+use Rattle.heads.specs.declared.order.Span.TheVariants.{Bytes, Spaces, NewObjects, RootConstants, UpToBackref}
 use Rattle.std.proofs.lemmas.Bool.{and_parts}
 
 abbrev pub Fits : List ℕ → Claim → Type 0
@@ -22,6 +23,7 @@ Fits v r = present v r.name ≡ true → tests v r.family ≡ true → number v 
 abbrev is_byte : Span → Bool
 is_byte (Bytes n) = eqb n 1
 is_byte Spaces = false
+is_byte NewObjects = false
 is_byte RootConstants = false
 is_byte UpToBackref = false
 
@@ -31,6 +33,7 @@ is_narrow r = is_byte r.span && ltb r.name 56
 one_byte : (v : List ℕ) (s : Span) → is_byte s ≡ true → span_of v s ≡ 1
 one_byte v (Bytes n) e = eqb-true n 1 e
 one_byte v Spaces e = cc
+one_byte v NewObjects e = cc
 one_byte v RootConstants e = cc
 one_byte v UpToBackref e = cc
 
@@ -66,7 +69,7 @@ module _ (v : List ℕ) (u : Usable v) where
   wide : Wide v order
   unfolding order
   wide = (
-    λ p t. up (u.new_object_lem t p),
+    λ p t. omega (arith, span_at_most v, u.new_object_lem t p),
     (
       λ p t. up (u.backref_with_skip (u.six_x_legacy t) p),
       (

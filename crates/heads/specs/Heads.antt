@@ -4,12 +4,12 @@
 use Rattle.std.specs.Prelude.{◌≡◌, Bool, true, not, ◌&&◌, if◌then◌else◌, List, [], ◌∷◌, ℕ, ◌+◌, ◌-◌, ◌<◌, ltb, leb, length, Option, is_some, IfSome, slice_index_or}
 use Rattle.std.specs.Int.Bits.{bit_and}
 use Rattle.sheet.specs.Names.{k_new_object, k_backref_with_skip, k_backref, k_next_chunk, k_alignment_prefix, k_hot_object, k_hot_object_with_skip, k_root_array, k_root_array_constants, k_root_array_constants_with_skip, k_read_only_heap_ref, k_attached_reference, k_builtin, k_external_reference, k_api_reference, k_internal_reference, k_internal_reference_encoded, k_deoptimizer_entry_plain, k_deoptimizer_entry_from_code, k_off_heap_backing_store, k_variable_raw_code, k_embedder_fields_data, k_off_heap_target, k_partial_snapshot_cache, k_startup_object_cache, k_read_only_object_cache, k_shared_heap_object_cache, k_register_pending_forward_ref, k_cleared_weak_reference, k_weak_prefix, k_indirect_pointer_prefix, k_protected_pointer_prefix, k_initialize_self_indirect_pointer, k_allocate_js_dispatch_entry, k_js_dispatch_entry, k_fixed_raw_data, k_variable_raw_data, k_skip, k_fixed_repeat, k_fixed_repeat_root, k_variable_repeat, k_variable_repeat_root, k_new_meta_map, k_new_contextless_meta_map, k_new_contextful_meta_map}
-use Rattle.sheet.specs.Sheet.{number, present, number_of_spaces, root_mask, is_legacy, is_six_x, usable as isUsable}
+use Rattle.sheet.specs.Sheet.{number, present, number_of_spaces, root_mask, is_legacy, is_six_x, new_object_span, usable as isUsable}
 use Rattle.heads.specs.declared.kinds.Kind.{Kind}
 use Rattle.heads.specs.declared.kinds.Kind.TheVariants.{NoMeaning, NewObject, Backref, LegacyBackref, LegacyBackrefWithSkip, NextChunk, Alignment, Hot, HotWithSkip, RootArray, RootConstant, RootConstantWithSkip, ReadOnly, Attached, Builtin, External, Api, Internal, Deoptimizer, StreamBytes, EmbedderFields, OffHeapTarget, Cache, RegisterPending, ClearedWeak, WeakPrefix, PointerPrefix, DispatchEntry, FixedRaw, VariableRaw, Skip, FixedRepeat, FixedRepeatRoot, RepeatPrevious, VariableRepeat, VariableRepeatPrevious, VariableRepeatRoot, MetaMap}
 use Rattle.heads.specs.declared.heads.Head.{Head}
 use Rattle.heads.specs.declared.order.Span.{Span}
-use Rattle.heads.specs.declared.order.Span.TheVariants.{Bytes, Spaces, RootConstants, UpToBackref}
+use Rattle.heads.specs.declared.order.Span.TheVariants.{Bytes, Spaces, NewObjects, RootConstants, UpToBackref}
 use Rattle.heads.specs.declared.order.Family.{Family}
 use Rattle.heads.specs.declared.order.Family.TheVariants.{Always, Legacy, Modern, SixX, NotSixX, SixXAlone, NotSixXAlone}
 use Rattle.heads.specs.declared.order.Argument.{Argument}
@@ -20,6 +20,7 @@ use Rattle.heads.specs.declared.order.Claim.{Claim}
 abbrev pub span_of : List ℕ → Span → ℕ
 span_of v (Bytes n) = n
 span_of v Spaces = number_of_spaces v
+span_of v NewObjects = new_object_span v
 span_of v RootConstants = root_mask v + 1
 span_of v UpToBackref = number v k_backref - number v k_new_object
 
@@ -48,7 +49,7 @@ row n s f k a = record { name = n; span = s; family = f; kind = k; argument = a 
 -- the order of the tests. Legacy sheets test the first five before all others
 unfoldable pub order : List Claim
 order =
-    row k_new_object Spaces Legacy NewObject Offset ∷
+    row k_new_object NewObjects Legacy NewObject Offset ∷
     row k_backref_with_skip Spaces SixX LegacyBackrefWithSkip Offset ∷
     row k_backref Spaces Legacy LegacyBackref Offset ∷
     row k_next_chunk (Bytes 1) Legacy NextChunk Nothing ∷

@@ -8,16 +8,19 @@ ghost use Rattle.heads.specs.Assigning.{Assigned};
 use crate::kinds::Kind;
 use crate::order::{Argument, Family, ORDER, Span};
 use sheet::names::{K_BACKREF, K_FIXED_REPEAT, K_NEW_OBJECT};
-use sheet::numbers::{legacy, number, number_of_spaces, present, present_number, root_mask, six_x};
+use sheet::numbers::{
+    legacy, new_object_span, number, number_of_spaces, present, present_number, root_mask, six_x,
+};
 use usable_sheets::usable::usable;
 
-// How many bytes a name lays hold of.
-fn span_of(sheet: &[u16], span: Span) -> u64
+/// How many bytes a row's name lays hold of, from its first byte on.
+pub fn span_of(sheet: &[u16], span: Span) -> u64
     ensures { result ≡ span_of sheet.now span }
 {
     match span {
         Span::Bytes(n) => n,
         Span::Spaces => number_of_spaces(sheet),
+        Span::NewObjects => new_object_span(sheet),
         Span::RootConstants => root_mask(sheet) + 1,
         Span::UpToBackref => {
             number(sheet, K_BACKREF).saturating_sub(number(sheet, K_NEW_OBJECT))
@@ -25,8 +28,8 @@ fn span_of(sheet: &[u16], span: Span) -> u64
     }
 }
 
-// Whether this sheet tests a name of such a family.
-fn tested(sheet: &[u16], family: Family) -> bool
+/// Whether this sheet tests a row's name at a reference's head.
+pub fn tested(sheet: &[u16], family: Family) -> bool
     ensures { result ≡ tests sheet.now family }
 {
     match family {

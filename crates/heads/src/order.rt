@@ -10,6 +10,8 @@ pub enum Span {
     Bytes(u64),
     /// kNumberOfSpaces.
     Spaces,
+    /// kNumberOfSpaces, but none from a kRootArray on that lies there (`new_object_span`).
+    NewObjects,
     /// kRootArrayConstantsMask + 1.
     RootConstants,
     /// From kNewObject to below kBackref.
@@ -73,7 +75,7 @@ macro_rules! claims {
 
 /// The rows, in order. Legacy sheets test the first five before all others.
 pub const ORDER: [Claim; 50] = claims! {
-    K_NEW_OBJECT, Spaces, Legacy, NewObject, Offset;
+    K_NEW_OBJECT, NewObjects, Legacy, NewObject, Offset;
     K_BACKREF_WITH_SKIP, Spaces, SixX, LegacyBackrefWithSkip, Offset;
     K_BACKREF, Spaces, Legacy, LegacyBackref, Offset;
     K_NEXT_CHUNK, Bytes(1), Legacy, NextChunk, Nothing;

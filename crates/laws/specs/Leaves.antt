@@ -10,7 +10,7 @@ use Rattle.stream.specs.Bytes.{peek_at, little_endian, raw_at, pick_range}
 use Rattle.stream.specs.PutInt.{pick_int, int_length, int_at}
 use Rattle.stream.proofs.ByteLaws.{Bytes, le_below, peek-byte}
 use Rattle.sheet.specs.Names.{k_new_object, k_synchronize, k_alignment_prefix, k_new_meta_map}
-use Rattle.sheet.specs.Sheet.{pick_ℕ, number, present, number_of_spaces, word_bytes, is_legacy, is_six_x}
+use Rattle.sheet.specs.Sheet.{pick_ℕ, number, present, new_object_span, word_bytes, is_legacy, is_six_x}
 use Rattle.sheet.specs.declared.tests.Closing.TheVariants.{Synchronize, Alignment, Deferred, Reference}
 use Rattle.sheet.specs.Tests.{in_span, alignment_of, pick_closing, is_entry, closing_of}
 use Rattle.sheet.specs.Usable.{Usable}
@@ -225,5 +225,5 @@ deferred_legacy v b space e = by (eqb (number v k_synchronize) b) (in_span v k_a
     by : (s a d : Bool) → is_entry v b ≡ d → pick_closing s Synchronize (pick_closing a (Alignment (b - number v k_alignment_prefix + 1)) (pick_closing d (Deferred (b - number v k_new_object)) Reference)) ≡ Deferred space → is_legacy v ≡ true
     by true a d q e = absurd (let z : ◌≡◌ {A = ℕ} 0 1 = cc in omega arith)
     by false true d q e = absurd (let z : ◌≡◌ {A = ℕ} 0 1 = cc in omega arith)
-    by false false true q e = (and_parts (is_legacy v) (not (present v k_new_meta_map)) (and_parts (is_legacy v && not (present v k_new_meta_map)) (in_span v k_new_object (number_of_spaces v) b) q).0).0
+    by false false true q e = (and_parts (is_legacy v) (not (present v k_new_meta_map)) (and_parts (is_legacy v && not (present v k_new_meta_map)) (in_span v k_new_object (new_object_span v) b) q).0).0
     by false false false q e = absurd (let z : ◌≡◌ {A = ℕ} 0 1 = cc in omega arith)

@@ -1,6 +1,6 @@
 -- A reference that holds no other, read without the readers of every reference. Assumes nothing:
 -- these are definitions.
-use Rattle.std.specs.Prelude.{◌≡◌, Bool, true, ◌||◌, eqb, List, ℕ, ◌+◌, ◌^◌, ◌<◌, ◌≤◌, length, get_or, Option, Some, None, IfSome}
+use Rattle.std.specs.Prelude.{◌≡◌, Bool, true, false, List, ℕ, ◌+◌, ◌^◌, ◌<◌, ◌≤◌, length, get_or, Option, Some, None, IfSome}
 use Rattle.sheet.specs.Sheet.{word_bytes}
 use Rattle.heads.specs.Heads.{head_at, Heads}
 use Rattle.heads.specs.declared.kinds.Kind.{Kind}

@@ -1,7 +1,7 @@
 //! Objects within objects, read in one loop: each is a level, and those around the current one
 //! are kept until it is full.
 
-ghost use Rattle.std.specs.Prelude.{false, ◌≡◌, ◌+◌, ◌^◌, ◌<◌, IfSome, IsNone};
+ghost use Rattle.std.specs.Prelude.{◌≡◌, ◌+◌, ◌^◌, ◌<◌, IfSome, IsNone};
 ghost use Rattle.sheet.specs.Sheet.{word_bytes};
 ghost use Rattle.tables.specs.Records.{Countable};
 ghost use Rattle.tables.specs.declared.values.Ref.TheVariants.{Object};
@@ -9,7 +9,7 @@ ghost use Rattle.tables.specs.declared.values.SlotValue.TheVariants.{Ref as IsRe
 ghost use Rattle.definition.specs.Slots.{place_item};
 ghost use Rattle.readers.specs.Views.{mem, seen};
 ghost use Rattle.readers.specs.Lent.{input_of, lent_of, Kept};
-ghost use Rattle.objects.specs.Head.{opens_at};
+ghost use Rattle.objects.specs.Head.{OpensAt};
 ghost use Rattle.levels.specs.Level.{Begins};
 
 use objects::head::{NewObject, new_object_at};
@@ -27,7 +27,7 @@ pub const LEVELS: usize = 8;
 /// 64 and one more level has room.
 pub fn begins_object(w: &Walker, at: usize, d: usize, kept: usize) -> Option<NewObject>
     ensures some { IfSome result (Begins w.now at d kept) }
-    ensures none { IsNone result → d < 64 → kept < 8 → opens_at w.now at ≡ false }
+    ensures none { IsNone result → d < 64 → kept < 8 → OpensAt w.now at → ⊥ }
 {
     if DEEPEST <= d || LEVELS <= kept {
         return None;

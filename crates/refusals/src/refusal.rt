@@ -27,7 +27,7 @@ pub enum Refusal {
     /// A byte is needed and none is left.
     #[error("a byte is needed and none is left")]
     PayloadEnds = 4,
-    /// The first byte is not in kNewObject up to below kBackref: it opens no object.
+    /// The first byte opens no object (`opens` of `sheet`).
     #[error("the first byte opens no object")]
     NoObjectFirst = 5,
     /// A reference stands at a depth over 64.

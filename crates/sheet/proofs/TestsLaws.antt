@@ -1,13 +1,15 @@
--- What a byte in a span gives, and one that is no alignment prefix. Assumes nothing.
+-- What a byte in a span gives, and one that is no alignment prefix; the new-object span is at most
+-- the full one, and in modern sheets nothing is past it. Assumes nothing.
 use mathlib.Core.Path.{◌≡◌, refl, sym}
-use mathlib.Core.Bool.{Bool, true, false}
+use mathlib.Core.Bool.{Bool, true, false, ◌&&◌}
 use mathlib.Core.List.{List}
 use Prim.Native.Nat.{ℕ, ◌+◌, ◌<◌, ◌≤◌}
+use native.Mathlib.Omega.{arith}
 use borrow.Author.Tests.{ltb-true, leb-true}
 use lib.Dec.{ltb, leb}
-use Rattle.sheet.specs.Names.{k_alignment_prefix}
-use Rattle.sheet.specs.Sheet.{number, present, present_number}
-use Rattle.sheet.specs.Tests.{in_span, alignment_of}
+use Rattle.sheet.specs.Names.{k_alignment_prefix, k_new_object, k_root_array}
+use Rattle.sheet.specs.Sheet.{pick_ℕ, number, present, present_number, number_of_spaces, is_legacy, root_array_inside, new_object_span}
+use Rattle.sheet.specs.Tests.{in_span, alignment_of, past_new_objects}
 use Rattle.std.proofs.lemmas.Bool.{and_parts}
 use Rattle.std.proofs.lemmas.Option.{cond_some, none-some}
 use Rattle.std.specs.Prelude.{cond, Some, None}
@@ -35,3 +37,31 @@ module _ (v : List ℕ) (k : ℕ) where
 
   pub absent_is : None ≡ present_number v k → present v k ≡ false
   absent_is e = absent_of (present v k) (number v k) (sym e)
+
+module _ (v : List ℕ) where
+  picked : (t : Bool) (a b : ℕ) → (t ≡ true → a ≤ b) → pick_ℕ t a b ≤ b
+  picked true a b h = h refl
+  picked false a b h = omega arith
+
+  inside_below : root_array_inside v ≡ true → number v k_root_array < number v k_new_object + number_of_spaces v
+  inside_below e = ltb-true _ _ (and_parts _ _ e).1
+
+  pub span_at_most : new_object_span v ≤ number_of_spaces v
+  unfolding new_object_span
+  span_at_most = picked (root_array_inside v) _ _ (λ e. omega (arith, inside_below e))
+
+  module _ (m : is_legacy v ≡ false) where
+    span_whole : new_object_span v ≡ number_of_spaces v
+    unfolding new_object_span
+    span_whole = rw m
+
+    none_between : (n b : ℕ) → leb n b && ltb b n ≡ false
+    none_between n b = by (leb n b) (ltb b n) refl refl
+      where
+        by : (s t : Bool) → leb n b ≡ s → ltb b n ≡ t → s && t ≡ false
+        by true true e f = absurd (omega (arith, leb-true n b e, ltb-true b n f))
+        by true false e f = refl
+        by false t e f = refl
+
+    pub none_past : (b : ℕ) → past_new_objects v b ≡ false
+    none_past b = rw span_whole (none_between _ b)

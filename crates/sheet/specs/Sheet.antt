@@ -1,7 +1,7 @@
 -- The version sheet: its numbers, their defaults, and which sheets are usable and plain
 -- (docs/FORMAT.md, "The version sheet"). Assumes nothing: these are definitions.
-use Rattle.std.specs.Prelude.{cond, Bool, true, false, not, ◌&&◌, ◌||◌, List, ℕ, zero, suc, ◌+◌, leb, eqb, length, get_or, Option, Some, None}
-use Rattle.sheet.specs.Names.{k_new_object, k_backref, k_hot_object, k_root_array_constants, k_fixed_raw_data, k_alignment_prefix, k_hot_object_with_skip, k_root_array_constants_with_skip, k_skip, k_fixed_repeat, k_fixed_repeat_root, k_new_meta_map, k_deferred, k_number_of_spaces, k_map_space, k_lo_space, k_root_array_constants_mask, k_space_tag_size, k_page_size_bits, k_space_mask, k_backref_with_skip, tagged_size, var_raw_advances}
+use Rattle.std.specs.Prelude.{cond, Bool, true, false, not, ◌&&◌, ◌||◌, List, ℕ, zero, suc, ◌+◌, ◌-◌, leb, ltb, eqb, length, get_or, Option, Some, None}
+use Rattle.sheet.specs.Names.{k_new_object, k_backref, k_root_array, k_hot_object, k_root_array_constants, k_fixed_raw_data, k_alignment_prefix, k_hot_object_with_skip, k_root_array_constants_with_skip, k_skip, k_fixed_repeat, k_fixed_repeat_root, k_new_meta_map, k_deferred, k_number_of_spaces, k_map_space, k_lo_space, k_root_array_constants_mask, k_space_tag_size, k_page_size_bits, k_space_mask, k_backref_with_skip, tagged_size, var_raw_advances}
 
 abbrev pub pick_ℕ : Bool → ℕ → ℕ → ℕ
 pick_ℕ true a b = a
@@ -64,6 +64,21 @@ is_six_x v = present v k_backref_with_skip
 -- legacy with kNewMetaMap: an object's map stands before its allocation (V8 8.7)
 abbrev pub is_map_first : List ℕ → Bool
 is_map_first v = is_legacy v && present v k_new_meta_map
+
+-- a legacy sheet without kNumberOfSpaces has kRootArray among the bytes of kNewObject (V8 6.2, which
+-- has five spaces)
+abbrev pub root_array_inside : List ℕ → Bool
+root_array_inside v =
+    is_legacy v
+    && not (present v k_number_of_spaces)
+    && leb (number v k_new_object) (number v k_root_array)
+    && ltb (number v k_root_array) (number v k_new_object + number_of_spaces v)
+
+-- how many bytes from kNewObject on open an object in legacy sheets: one for each space, but none
+-- from such a kRootArray on (difference D45). *Usable* and the back-references keep the full span
+unfoldable pub new_object_span : List ℕ → ℕ
+new_object_span v =
+    pick_ℕ (root_array_inside v) (number v k_root_array - number v k_new_object) (number_of_spaces v)
 
 -- the clauses of *usable*, one by one
 abbrev pub has_length : List ℕ → Bool

@@ -7,9 +7,9 @@ ghost use Rattle.std.specs.Prelude.{◌≡◌, ◌/◌, ◌<◌, IfSome};
 ghost use Rattle.sheet.specs.Sheet as Sheet;
 
 use crate::names::{
-    ABSENT, K_BACKREF_WITH_SKIP, K_LO_SPACE, K_MAP_SPACE, K_NEW_META_MAP, K_NUMBER_OF_SPACES,
-    K_PAGE_SIZE_BITS, K_ROOT_ARRAY_CONSTANTS_MASK, K_SPACE_MASK, K_SPACE_TAG_SIZE, TAGGED_SIZE,
-    VAR_RAW_ADVANCES,
+    ABSENT, K_BACKREF_WITH_SKIP, K_LO_SPACE, K_MAP_SPACE, K_NEW_META_MAP, K_NEW_OBJECT,
+    K_NUMBER_OF_SPACES, K_PAGE_SIZE_BITS, K_ROOT_ARRAY, K_ROOT_ARRAY_CONSTANTS_MASK, K_SPACE_MASK,
+    K_SPACE_TAG_SIZE, TAGGED_SIZE, VAR_RAW_ADVANCES,
 };
 
 /// The number at place `k` of the sheet; 65535 where it is absent, as is every place past the
@@ -42,7 +42,8 @@ fn constant(sheet: &[u16], k: usize, default: u64) -> u64
     present_number(sheet, k).unwrap_or(default)
 }
 
-/// kNumberOfSpaces: how many bytes the new-object and back-reference tags of legacy sheets span.
+/// kNumberOfSpaces: how many bytes the back-reference tags of legacy sheets span, and the new-object
+/// tag in the test of a usable sheet (see `new_object_span`).
 pub fn number_of_spaces(sheet: &[u16]) -> u64
     ensures { (result ≡ Sheet.number_of_spaces sheet.now) × (result < 65536) }
 {
@@ -129,4 +130,27 @@ pub fn map_first(sheet: &[u16]) -> bool
     ensures { result ≡ Sheet.is_map_first sheet.now }
 {
     legacy(sheet) && present(sheet, K_NEW_META_MAP)
+}
+
+// kRootArray is among the bytes of kNewObject, in a legacy sheet without kNumberOfSpaces.
+fn root_array_inside(sheet: &[u16]) -> bool
+    ensures { result ≡ Sheet.root_array_inside sheet.now }
+{
+    let first = number(sheet, K_NEW_OBJECT);
+    legacy(sheet)
+        && !present(sheet, K_NUMBER_OF_SPACES)
+        && (first..first + number_of_spaces(sheet)).contains(&number(sheet, K_ROOT_ARRAY))
+}
+
+/// How many bytes from kNewObject on open an object in legacy sheets: kNumberOfSpaces. Where it is
+/// absent, the span of its default ends below kRootArray if kRootArray lies in it.
+#[tactic(auto, unfolding(crate::specs::Sheet::new_object_span))]
+pub fn new_object_span(sheet: &[u16]) -> u64
+    ensures { (result ≡ Sheet.new_object_span sheet.now) × (result < 65536) }
+{
+    if root_array_inside(sheet) {
+        number(sheet, K_ROOT_ARRAY) - number(sheet, K_NEW_OBJECT)
+    } else {
+        number_of_spaces(sheet)
+    }
 }

@@ -6,7 +6,7 @@ ghost use Rattle.sheet.specs.Sheet as Sheet;
 ghost use Rattle.sheet.specs.Tests as Tests;
 
 use crate::names::{K_ALIGNMENT_PREFIX, K_BACKREF, K_NEW_META_MAP, K_NEW_OBJECT, K_SYNCHRONIZE};
-use crate::numbers::{legacy, number, number_of_spaces, present};
+use crate::numbers::{legacy, new_object_span, number, number_of_spaces, present};
 
 /// What the closing section takes a byte for.
 #[derive(Clone, Copy)]
@@ -37,11 +37,21 @@ fn in_span(sheet: &[u16], k: usize, n: u64, b: u64) -> bool
     (first..first + n).contains(&b)
 }
 
-/// Whether the payload's first byte opens an object: kNewObject up to below kBackref.
+// A byte of the full new-object span that opens no object, since the span ends below kRootArray.
+fn past_new_objects(sheet: &[u16], b: u64) -> bool
+    ensures { result ≡ Tests.past_new_objects sheet.now b }
+{
+    let first = number(sheet, K_NEW_OBJECT);
+    (first + new_object_span(sheet)..first + number_of_spaces(sheet)).contains(&b)
+}
+
+/// Whether the payload's first byte opens an object: kNewObject up to below kBackref, but no byte of
+/// the span of kNumberOfSpaces that is past `new_object_span`.
 pub fn opens(sheet: &[u16], b: u64) -> bool
     ensures { result ≡ Tests.opens sheet.now b }
 {
     (number(sheet, K_NEW_OBJECT)..number(sheet, K_BACKREF)).contains(&b)
+        && !past_new_objects(sheet, b)
 }
 
 /// The alignment of an alignment prefix, from 1 to 3; `None` where the byte is no such prefix.
@@ -58,7 +68,7 @@ fn is_entry(sheet: &[u16], b: u64) -> bool
 {
     legacy(sheet)
         && !present(sheet, K_NEW_META_MAP)
-        && in_span(sheet, K_NEW_OBJECT, number_of_spaces(sheet), b)
+        && in_span(sheet, K_NEW_OBJECT, new_object_span(sheet), b)
 }
 
 /// What the closing section takes a byte for: kSynchronize, alignment prefix, deferred entry and

@@ -1,6 +1,6 @@
 -- A weak reference to a leaf, as a reference within one, and its slot. Assumes nothing.
 use Rattle.std.specs.Prelude.{◌≡◌, refl, true, false, List, ℕ, ◌+◌, ◌/◌, ◌<◌, length, get_or}
-use Rattle.std.proofs.Common.{arith, sym, subst, ◌∙◌, lt-ltb}
+use Rattle.std.proofs.Common.{arith, subst, ◌∙◌, lt-ltb}
 use Rattle.sheet.specs.Sheet.{word_bytes}
 use Rattle.heads.specs.Heads.{head_at, head_of, Heads}
 use Rattle.heads.specs.declared.kinds.Kind.TheVariants.{WeakPrefix}

@@ -236,7 +236,7 @@ impl<'a> Writer<'a> {
             return self.alignment(depth, room);
         }
         let space = match self.sheet.legacy() {
-            true => self.random.one_of(&[0, 0, 1, 2, 3, 4, 5]) % self.sheet.or("kNumberOfSpaces", 6).max(1),
+            true => self.random.one_of(&[0, 0, 1, 2, 3, 4, 5]) % self.sheet.new_objects().max(1),
             false => self.random.below(self.opening()),
         };
         self.new_object(depth, space);

@@ -59,6 +59,17 @@ impl Sheet {
         }
     }
 
+    /// How many bytes from kNewObject on open an object in legacy sheets.
+    pub fn new_objects(&self) -> usize {
+        let span = self.span("kNewObject");
+        match self.has("kNumberOfSpaces") {
+            true => span,
+            false => {
+                span.min(self.or("kRootArray", 256).checked_sub(self.or("kNewObject", 0)).unwrap_or(span))
+            }
+        }
+    }
+
     /// With further names, `name value` with hexadecimal values; `-name` takes a name away.
     fn with(&self, family: &'static str, text: &str) -> Sheet {
         let mut made = Sheet { family, numbers: self.numbers };

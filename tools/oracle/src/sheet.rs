@@ -83,6 +83,18 @@ impl Sheet {
         self.get("kBackrefWithSkip").is_some()
     }
 
+    /// Whether kRootArray is among the bytes of kNewObject in a legacy sheet without
+    /// kNumberOfSpaces. The Rust takes it for a new object there, and Dawichko does not
+    /// (docs/DIFFERENCES.md, D45).
+    pub fn root_array_inside(&self) -> bool {
+        let (Some(first), Some(root_array)) = (self.get("kNewObject"), self.get("kRootArray")) else {
+            return false;
+        };
+        self.legacy()
+            && self.get("kNumberOfSpaces").is_none()
+            && (first..first.saturating_add(6)).contains(&root_array)
+    }
+
     /// Bytes of a word.
     pub fn tagged_size(&self) -> u16 {
         self.numbers[TAGS_AND_CONSTANTS]

@@ -1,0 +1,2 @@
+pub mod Inspection
+pub mod Rows
