@@ -61,6 +61,10 @@ const HEADS: [&str; 42] = [
     "kDeoptimizerEntryFromCode",
 ];
 
+/// Numbers of references, those among them at which an integer takes a byte more.
+const NUMBERS: [usize; 14] =
+    [0, 1, 2, 5, 63, 64, 70, 300, 16383, 16384, 17000, (1 << 22) - 1, 1 << 22, (1 << 30) - 1];
+
 /// An item's width in bytes, and whether it makes a slot.
 type Item = (usize, bool);
 
@@ -221,7 +225,7 @@ impl<'a> Writer<'a> {
             if skips && k == 0 {
                 self.amount(room);
             } else {
-                let n = self.random.one_of(&[0, 1, 2, 5, 70, 300, 17000]);
+                let n = self.random.one_of(&NUMBERS);
                 self.integer(n);
             }
         }
@@ -585,6 +589,9 @@ impl<'a> Writer<'a> {
         if self.sheet.legacy() && self.random.chance(60) {
             return self.cut();
         }
+        if self.sheet.legacy() && self.random.chance(100) {
+            self.faulty();
+        }
         if self.random.chance(970) {
             self.head("kSynchronize", 0);
         }
@@ -596,8 +603,40 @@ impl<'a> Writer<'a> {
         }
     }
 
-    /// The last bytes are missing, so that some item of a legacy closing section is cut.
+    /// A closing item of a legacy sheet that is a fault after an integer was read: 7, 8, 9 or 15.
+    fn faulty(&mut self) {
+        let map_space = self.sheet.or("kMapSpace", 4);
+        let spaces = self.sheet.or("kNumberOfSpaces", 6);
+        match self.random.below(3) {
+            0 if spaces == 0 => {
+                self.head("kBackref", 0);
+                self.integer(self.objects);
+            }
+            0 if map_space < spaces => {
+                self.head("kBackref", map_space);
+                self.integer(self.numbered[0]);
+            }
+            1 if self.sheet.has("kHotObjectWithSkip") && self.hot < 8 => {
+                let first = self.sheet.or("kHotObjectWithSkip", 0);
+                let empty: Vec<usize> = (first..first + 8).filter(|byte| byte & 7 >= self.hot).collect();
+                let byte = self.random.one_of(&empty);
+                self.out.push(byte as u8);
+                self.integer(0);
+            }
+            _ => {
+                self.head("kVariableRawData", 0);
+                self.integer(60);
+            }
+        }
+    }
+
+    /// The last bytes are missing, so that some item of a legacy closing section is cut, often a
+    /// back-reference.
     fn cut(&mut self) {
+        if self.random.chance(600) {
+            let skips = self.sheet.six_x() && self.random.chance(500);
+            self.backref(if skips { "kBackrefWithSkip" } else { "kBackref" }, None);
+        }
         let left = self.out.len().saturating_sub(self.random.from_to(1, 6));
         self.out.truncate(left);
         self.integers.retain(|integer| integer.place + integer.bytes <= left);
