@@ -158,8 +158,10 @@ fn print_notes(given: &Options, times: &[Times]) {
         *long.entry(timed.long).or_default() += 1;
     }
     let long: Vec<String> = long.iter().map(|(long, count)| format!("{long} in {count} payloads")).collect();
-    println!();
-    println!("Integers longer than their values need: {}.", long.join(", "));
+    if !long.is_empty() {
+        println!();
+        println!("Integers longer than their values need: {}.", long.join(", "));
+    }
     let mut timed = ROWS.iter().filter(|row| row.name.contains(&given.only));
     if given.rust && timed.any(|row| row.family == Family::Six) {
         println!();
