@@ -47,6 +47,13 @@ def ask(oracle, sheet, payload, reservations, trusted):
 
 # ---- cases
 
+def numbers_of(line):
+    """Counts, `end` and the number of long integers of an accepted payload, which is None where
+    docs/FORMAT.md and the Rust read it otherwise: such cases are left out."""
+    *counts, end, long = line[1:]
+    return [int(count) for count in counts], int(end), None if long == '?' else int(long)
+
+
 def refusal(number, place, rooms):
     return [[number, 0, 0, 0, 0, 0, place, 0]] + [[0] * rooms[letter] for letter in 'osvd']
 
@@ -54,7 +61,7 @@ def refusal(number, place, rooms):
 def accepted(rnd, lines):
     """Rooms that are just large enough, and the tables that the Rust's answer stands for in
     them."""
-    *counts, end, long = [int(word) for word in lines[0][1:]]
+    counts, end, long = numbers_of(lines[0])
     rooms, tables = {}, []
     for letter, count in zip('osvd', counts):
         rows = [int(word) for line in lines[1:] if line[0] == letter for word in line[1:]]
@@ -66,7 +73,7 @@ def accepted(rnd, lines):
 def part(lines):
     """Where the oracle does not know a value that the closing section drops: the numbers without
     the values, objects, addresses."""
-    *counts, end, long = [int(word) for word in lines[0][1:]]
+    counts, end, long = numbers_of(lines[0])
     rows = {letter: [int(word) for line in lines[1:] if line[0] == letter for word in line[1:]] for letter in 'od'}
     tables = [rows[letter] + [0] * (LARGE[letter] - len(rows[letter])) for letter in 'od']
     return LARGE, [[0, counts[0], counts[1], counts[3], end, 0, long]] + tables, False
@@ -75,7 +82,7 @@ def part(lines):
 def answered(rnd, lines):
     """Rooms and answer; None where the oracle cannot tell."""
     if lines[0][0] == 'graph':
-        return part(lines) if any('?' in line for line in lines) else accepted(rnd, lines)
+        return part(lines) if any('?' in line for line in lines[1:]) else accepted(rnd, lines)
     return None if '?' in lines[0] else (LARGE, refusal(int(lines[0][1]), int(lines[0][2]), LARGE))
 
 

@@ -64,7 +64,9 @@ impl Sheet {
         let span = self.span("kNewObject");
         match self.has("kNumberOfSpaces") {
             true => span,
-            false => span.min(self.or("kRootArray", 256).checked_sub(self.or("kNewObject", 0)).unwrap_or(span)),
+            false => {
+                span.min(self.or("kRootArray", 256).checked_sub(self.or("kNewObject", 0)).unwrap_or(span))
+            }
         }
     }
 

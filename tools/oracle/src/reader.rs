@@ -4,6 +4,7 @@
 use crate::sheet::Sheet;
 use crate::Input;
 use std::collections::HashSet;
+use std::ops::Range;
 
 /// An integer that was read whole.
 pub struct Integer {
@@ -122,6 +123,8 @@ struct Reader<'a> {
     backref: u8,
     /// How many bytes from kNewObject on open an object, legacy sheets alone.
     opening: u64,
+    /// How far from kNewObject the bytes lie that a kRootArray among them leaves out.
+    left_out: Range<u64>,
     map_space: u64,
     large_space: u64,
     space_tag_size: u32,
@@ -149,9 +152,14 @@ struct Reader<'a> {
     large: u64,
 }
 
-/// How many bytes from kNewObject on open an object in legacy sheets.
+/// How many bytes from kNewObject on open an object in legacy sheets, a kRootArray among them left
+/// out.
 fn opening(sheet: &Sheet) -> u64 {
-    sheet.get("kNumberOfSpaces").unwrap_or(6) as u64
+    let number = |name| sheet.get(name).unwrap_or(0) as u64;
+    match sheet.root_array_inside() {
+        true => number("kRootArray") - number("kNewObject"),
+        false => sheet.get("kNumberOfSpaces").unwrap_or(6) as u64,
+    }
 }
 
 /// The rows of docs/FORMAT.md, "Head bytes", that a sheet's family tests, in their order: name,
@@ -258,6 +266,7 @@ impl Reader<'_> {
             new_object: byte("kNewObject").unwrap_or(0),
             backref: byte("kBackref").unwrap_or(0),
             opening: opening(sheet),
+            left_out: opening(sheet)..or("kNumberOfSpaces", 6),
             map_space: or("kMapSpace", 4),
             large_space: or("kLoSpace", 5),
             space_tag_size: or("kSpaceTagSize", 3) as u32,
@@ -594,10 +603,11 @@ impl Reader<'_> {
 
     fn whole(&mut self) -> Result<(), Fault> {
         let first = self.byte()?;
-        if !(self.new_object..self.backref).contains(&first) {
+        let space = first.wrapping_sub(self.new_object) as u64;
+        if !(self.new_object..self.backref).contains(&first) || self.left_out.contains(&space) {
             return Err(Fault { number: 5, place: 0 });
         }
-        self.object(0, (first - self.new_object) as u64, 0)?;
+        self.object(0, space, 0)?;
         if let Err(fault) = self.closing() {
             if !self.legacy || fault.number == 16 {
                 return Err(fault);
