@@ -6,7 +6,7 @@ use Prim.Native.Nat.{ℕ, zero, suc, ◌+◌, ◌-◌, ◌^◌, ◌<◌, ◌≤�
 use native.Mathlib.Omega.{arith}
 use borrow.Author.Tests.{le-leb, lt-leb}
 use lib.Dec.{ltb, eqb}
-use lib.ListN.{length, get_or}
+use lib.ListN.{length}
 use Rattle.std.specs.Prelude.{if◌then◌else◌, Option, Some, None as Nothing, Ok, Err, ok_or}
 use Rattle.sheet.specs.Sheet.{is_legacy}
 use Rattle.tables.specs.declared.values.SlotValue.{SlotValue}

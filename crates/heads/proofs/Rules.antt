@@ -20,7 +20,8 @@ use Rattle.heads.specs.declared.order.Argument.TheVariants.{Nothing, Offset, Fro
 
 -- ---- one induction over the rows
 
--- what holds of a byte without meaning, and of one that a row of a kind lays hold of, holds of every head
+-- what holds of a byte without meaning, and of each byte that a row which passes a test lays hold of,
+-- holds of every head, if each row of the order passes the test
 module _ (v : List ℕ) (b : ℕ) (P : Head → Type 0) (test : Claim → Bool) (none : P no_head) (given : (r : Claim) → test r ≡ true → claims v r b ≡ true → P (head_by v r b)) where
   picked : (r : Claim) (t : Bool) (h : Head) → test r ≡ true → claims v r b ≡ t → P h → P (if t then head_by v r b else h)
   picked r true h s e k = given r s e
@@ -52,7 +53,8 @@ module _ (mask first b : ℕ) (l : b < 256) where
 pub argument_small : (mask : ℕ) (rule : Argument) (first b : ℕ) → b < 256 → argument_of mask rule first b < 65536
 argument_small mask rule first b l = omega (arith, argument_low mask first b l rule)
 
--- a head's argument; of a new object it is a space, of a hot byte one of eight places, and fixed raw data has a word at least
+-- a head's argument; of a new object it is a space, of a hot byte one of eight places, and fixed raw
+-- data has a word at least
 pub record Argued (h : Head) : Type 0 where
   pub bound : h.argument ≤ 257
   pub space : h.kind ≡ NewObject → h.argument < 256

@@ -1,6 +1,7 @@
 -- What a head byte means: the first name that lays hold of it, in the order in which the Rust's
 -- `parse_ref_inner` tests them (docs/FORMAT.md, "Head bytes"). The kinds, spans, families and
--- arguments are the code's enums (src/kinds.rt, src/order.rt). Assumes nothing: these are definitions.
+-- arguments are the code's enums (src/kinds.rt, src/order.rt). Assumes nothing: these are
+-- definitions.
 use Rattle.std.specs.Prelude.{◌≡◌, Bool, true, not, ◌&&◌, if◌then◌else◌, List, [], ◌∷◌, ℕ, ◌+◌, ◌-◌, ◌<◌, ltb, leb, length, Option, is_some, IfSome, slice_index_or}
 use Rattle.std.specs.Int.Bits.{bit_and}
 use Rattle.sheet.specs.Names.{k_new_object, k_backref_with_skip, k_backref, k_next_chunk, k_alignment_prefix, k_hot_object, k_hot_object_with_skip, k_root_array, k_root_array_constants, k_root_array_constants_with_skip, k_read_only_heap_ref, k_attached_reference, k_builtin, k_external_reference, k_api_reference, k_internal_reference, k_internal_reference_encoded, k_deoptimizer_entry_plain, k_deoptimizer_entry_from_code, k_off_heap_backing_store, k_variable_raw_code, k_embedder_fields_data, k_off_heap_target, k_partial_snapshot_cache, k_startup_object_cache, k_read_only_object_cache, k_shared_heap_object_cache, k_register_pending_forward_ref, k_cleared_weak_reference, k_weak_prefix, k_indirect_pointer_prefix, k_protected_pointer_prefix, k_initialize_self_indirect_pointer, k_allocate_js_dispatch_entry, k_js_dispatch_entry, k_fixed_raw_data, k_variable_raw_data, k_skip, k_fixed_repeat, k_fixed_repeat_root, k_variable_repeat, k_variable_repeat_root, k_new_meta_map, k_new_contextless_meta_map, k_new_contextful_meta_map}
@@ -106,7 +107,8 @@ head k a = record { kind = k; argument = a }
 -- a row's name lays hold of a byte
 abbrev pub claims : List ℕ → Claim → ℕ → Bool
 claims v r b =
-    present v r.name && tests v r.family && leb (number v r.name) b && ltb b (number v r.name + span_of v r.span)
+    present v r.name && tests v r.family && leb (number v r.name) b
+    && ltb b (number v r.name + span_of v r.span)
 
 -- what a byte means that this row's name lays hold of
 abbrev pub head_by : List ℕ → Claim → ℕ → Head

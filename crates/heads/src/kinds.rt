@@ -1,8 +1,9 @@
 //! What a reference can be by its head byte.
 //!
 //! Each kind says what stands after the head byte, and what the reference then is. *Integer* is one
-//! of the format's (docs/FORMAT.md, "Integers"); a *with-skip amount* is an integer too, which stands until
-//! the next slot item. What is read of each kind is `by_head` of the crate `definition`.
+//! of the format's (docs/FORMAT.md, "Integers"); a *with-skip amount* is an integer too, which
+//! stands until the next slot item. What is read of each kind is `by_head` of the crate
+//! `definition`.
 
 /// The kind of a reference.
 #[derive(Clone, Copy, PartialEq, Eq, Debug)]

@@ -2,16 +2,16 @@
 -- follows it; the head and then the body. Assumes nothing.
 use mathlib.Core.Path.{◌≡◌, refl}
 use mathlib.Core.Bool.{Bool, true, false, ◌&&◌}
-use Prim.Native.Nat.{ℕ, ◌+◌, ◌-◌, ◌*◌}
+use Prim.Native.Nat.{ℕ, ◌-◌, ◌*◌}
 use lib.Dec.{ltb, eqb}
-use lib.ListN.{length, get_or}
+use lib.ListN.{length}
 use Rattle.std.specs.Prelude.{if◌then◌else◌, Option, Some, None}
 use Rattle.stream.specs.declared.putint.Int.{Int}
 use Rattle.stream.specs.PutInt.{int_at}
 use Rattle.sheet.specs.Sheet.{is_legacy, is_six_x, is_map_first, lo_space}
 use Rattle.tables.specs.declared.values.SlotValue.{SlotValue}
 use Rattle.tables.specs.Records.{object_row}
-use Rattle.definition.specs.Memory.{Input, Mem, Out, got, no, Reader, and_then, ◌>>=◌, ◌>>◌, give, change, aligned, refuse, moved, cut, after_int, byte, int, has_room, added, noted, opened, with_objects, word, next_byte, appended}
+use Rattle.definition.specs.Memory.{Input, Mem, Out, got, no, Reader, and_then, ◌>>=◌, ◌>>◌, give, change, aligned, refuse, cut, after_int, byte, int, has_room, added, noted, opened, with_objects, word, next_byte, appended}
 use Rattle.definition.specs.Object.{large_byte, add_object, alignment_byte, chunk_changes, allocate, map_first, map_then_allocate, read_map, body, object}
 use Rattle.objects.specs.Head.{recording, opening}
 use Rattle.objects.specs.Map.{after_map}
