@@ -21,12 +21,16 @@ compile_error!("the library is made for x86-64, and its numbers of 64 bits are t
 
 #[allow(unsafe_code)]
 mod ffi;
+mod filled;
 mod graph;
+mod inspect;
 mod read;
 mod refusal;
 mod sheet;
 
+pub use filled::{decode_smi_bytes, Covering, Kept, Number, Wish};
 pub use graph::{Address, Graph, Object, Records, Slot, Value};
+pub use inspect::Obeyed;
 pub use read::{read, read_up_to, read_within, Call, Rooms, MOST_BYTES, MOST_RESERVATIONS};
 pub use refusal::Refusal;
 pub use sheet::{place, Sheet, SheetError, ABSENT, NAMES};

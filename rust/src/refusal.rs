@@ -3,8 +3,8 @@
 use std::error::Error;
 use std::fmt;
 
-/// When each of the numbers 1 to 16 is returned.
-const WORDS: [&str; 16] = [
+/// When each of the numbers 1 to 19 is returned.
+const WORDS: [&str; 19] = [
     "sheet not usable",
     "payload over 16,777,216 bytes or over 65,536 reservations",
     "the record to append next is the first past its table's room",
@@ -21,15 +21,19 @@ const WORDS: [&str; 16] = [
     "not legacy, other than kNop after kSynchronize",
     "legacy map or large-object number has no entry",
     "a legacy address, size or next free offset passes 2^32 − 1",
+    "counts that do not fit the tables, or a slot without view",
+    "an offset that is not below the payload's length",
+    "fewer marks than objects, or byte sizes past 2^64 − 1",
 ];
 
-/// Why a payload has no graph (docs/FORMAT.md, "Refusals").
+/// Why a payload has no graph, or a graph no answer (docs/FORMAT.md, "Refusals").
 #[derive(Clone, Copy, PartialEq, Eq, Debug)]
 pub struct Refusal {
-    /// 1 to 16.
+    /// 1 to 16 where a payload has no graph, 17 to 19 where a graph is asked for what it does not
+    /// have.
     pub number: u64,
-    /// A place in the payload, from 0 to its length; which one depends on the number. 0 for 1 and
-    /// 2.
+    /// A place in the payload, from 0 to its length; which one depends on the number. 0 for 1, 2
+    /// and 17 to 19.
     pub place: usize,
 }
 

@@ -316,10 +316,10 @@ fn refusals() {
     let many = vec![0; dawichko::MOST_RESERVATIONS + 1];
     let refusal = read(&Call { reservations: &many, ..Call::new(&sheet, &[0]) }).expect_err(limit);
     assert_eq!(refusal.to_string(), limit);
-    // 3 is in rooms.rs.
+    // 3 is in rooms.rs, and 17 to 19 in filled.rs.
     let words = "the record to append next is the first past its table's room";
     assert_eq!(Refusal { number: Refusal::ROOM, place: 0 }.words(), words);
-    for number in [0, 17, u64::MAX] {
+    for number in [0, 20, u64::MAX] {
         assert_eq!(Refusal { number, place: 0 }.words(), "a number that a call does not return");
     }
 }

@@ -1,1 +1,4 @@
 pub mod Export
+pub mod Part
+pub mod Covered
+pub mod Told

@@ -1,5 +1,11 @@
-//! The entry point for C and Rust; include/dawichko.h declares it.
+//! The entry points for C and Rust; include/dawichko.h declares them.
 #![tactic(auto)]
+
+pub mod covering;
+pub mod inspecting;
+pub mod keeping;
+pub mod numbers;
+pub mod part;
 
 ghost use Rattle.std.specs.Prelude.{true, ◌≡◌, ◌≢◌, ◌≤◌};
 ghost use Rattle.sheet.specs.Sheet as Sheet;
