@@ -253,7 +253,10 @@ fn views(rt: &impl Print) -> io::Result<()> {
     for (size, at) in [(4, 0), (8, 0), (4, 5), (5, 0)] {
         println!(rt; "number {:?}", number_in(&bytes, at, Wish::Smi(size)))?;
     }
-    println!(rt; "number {:?}", number_in(&[0, 0, 0, 0, 0, 0, 0xf8, 0x7f], 0, Wish::Double))
+    println!(rt;
+        "number {:?}",
+        number_in(&[0, 0, 0, 0, 0, 0, 0xf8, 0x7f], 0, Wish::Double)
+    )
 }
 
 fn main(rt: HostRuntime) -> io::Result<()> {
