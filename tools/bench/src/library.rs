@@ -24,6 +24,40 @@ extern "C" {
         scratch_length: usize,
         outcome: *mut u64,
     ) -> u64;
+
+    fn dawichko_range_at(
+        objects: *const u64,
+        objects_length: usize,
+        slots: *const u64,
+        slots_length: usize,
+        values: *const u64,
+        values_length: usize,
+        addresses: *const u64,
+        addresses_length: usize,
+        starts: *const u64,
+        counts: *const u64,
+        payload_length: u64,
+        offset: u64,
+        answer: *mut u64,
+    ) -> u64;
+
+    fn dawichko_kept(
+        objects: *const u64,
+        objects_length: usize,
+        slots: *const u64,
+        slots_length: usize,
+        values: *const u64,
+        values_length: usize,
+        addresses: *const u64,
+        addresses_length: usize,
+        starts: *const u64,
+        counts: *const u64,
+        marks: *mut u8,
+        marks_length: usize,
+        scratch: *mut u64,
+        scratch_length: usize,
+        sums: *mut u64,
+    ) -> u64;
 }
 
 /// Numbers in a record of objects, slots, values and addresses.
@@ -81,6 +115,11 @@ impl Tables {
         self.scratch.truncate(scratch_length(bytes, legacy, outcome[3] as usize));
         self.scratch.shrink_to_fit();
     }
+
+    /// How many records each table has.
+    fn counts(&self) -> [u64; 4] {
+        [0, 1, 2, 3].map(|k| (self.records[k].len() / FIELDS[k]) as u64)
+    }
 }
 
 /// The refusal's number or 0, and the outcome.
@@ -115,4 +154,58 @@ pub fn graph(call: &Call, tables: &mut Tables) -> (u64, Outcome) {
         )
     };
     (number, outcome)
+}
+
+/// The number that the search for a range returns, and its answer, for a payload that ends after
+/// the offset.
+pub fn range_at(tables: &Tables, offset: u64) -> (u64, [u64; 3]) {
+    let [objects, slots, values, addresses] = &tables.records;
+    let mut answer = [0; 3];
+    // As in `graph`.
+    let number = unsafe {
+        dawichko_range_at(
+            objects.as_ptr(),
+            objects.len(),
+            slots.as_ptr(),
+            slots.len(),
+            values.as_ptr(),
+            values.len(),
+            addresses.as_ptr(),
+            addresses.len(),
+            [0; 4].as_ptr(),
+            tables.counts().as_ptr(),
+            offset + 1,
+            offset,
+            answer.as_mut_ptr(),
+        )
+    };
+    (number, answer)
+}
+
+/// The number that the call returns, and both sums; it writes the marks.
+pub fn kept(tables: &mut Tables, marks: &mut [u8]) -> (u64, [u64; 2]) {
+    let counts = tables.counts();
+    let [objects, slots, values, addresses] = &tables.records;
+    let mut sums = [0; 2];
+    // As in `graph`.
+    let number = unsafe {
+        dawichko_kept(
+            objects.as_ptr(),
+            objects.len(),
+            slots.as_ptr(),
+            slots.len(),
+            values.as_ptr(),
+            values.len(),
+            addresses.as_ptr(),
+            addresses.len(),
+            [0; 4].as_ptr(),
+            counts.as_ptr(),
+            marks.as_mut_ptr(),
+            marks.len(),
+            tables.scratch.as_mut_ptr(),
+            tables.scratch.len(),
+            sums.as_mut_ptr(),
+        )
+    };
+    (number, sums)
 }

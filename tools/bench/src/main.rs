@@ -2,6 +2,7 @@
 //! (twin.rs), on the same payloads.
 
 mod clock;
+mod filled;
 mod library;
 mod real;
 mod rows;
@@ -146,6 +147,7 @@ fn run(given: &Options) -> Result<(), String> {
     }
     print_notes(given, &times);
     print_aims(&times);
+    filled::print(given)?;
     if given.stack {
         print_stack();
     }
