@@ -47,7 +47,7 @@ extern "C" {
  * read otherwise than V8 reads it (docs/DIFFERENCES.md, D23 and D24), other bytes are taken for
  * integers, and a payload that V8 wrote can have some.
  *
- * The call takes up to 130 kB of stack, where objects lie inside each other as deep as is read
+ * The call takes up to 141 kB of stack, where objects lie inside each other as deep as is read
  * (docs/BENCHMARKS.md).
  *
  * The caller sees to it that each pointer leads to as many elements as its length says, aligned for

@@ -100,7 +100,7 @@ extern "C" {
     fn dawichko_inspect(sheet: *const u16, sheet_length: usize, names: *mut u16, shared: *mut u8) -> u64;
 }
 
-/// Bytes: more than ten times the 130 kB that a call takes at most (docs/BENCHMARKS.md).
+/// Bytes: more than ten times the 141 kB that a call takes at most (docs/BENCHMARKS.md).
 const STACK: usize = 2 << 20;
 
 /// What is lent to be written: the four tables and scratch, as include/dawichko.h has them.
