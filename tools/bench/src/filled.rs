@@ -182,9 +182,11 @@ pub fn print(given: &Options) -> Result<(), String> {
             growths.push((row.name, last / first));
         }
     }
-    println!();
-    println!("| call | growth | aim |");
-    println!("|---|---:|---:|");
+    if !growths.is_empty() {
+        println!();
+        println!("| call | growth | aim |");
+        println!("|---|---:|---:|");
+    }
     for (name, growth) in growths {
         println!("| {name} | {} |", against_aim(Some(growth), 2, GROWTH_AIM, |n| n <= GROWTH_AIM));
     }

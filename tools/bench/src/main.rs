@@ -1,5 +1,5 @@
 //! Times the library beside the Rust that it is a port of, and beside a walker written by hand
-//! (twin.rs), on the same payloads.
+//! (twin.rs), on the same payloads; and its calls over filled tables.
 
 mod clock;
 mod filled;
