@@ -8,6 +8,7 @@ use alloc::resolve::{Place, resolve};
 use filled::covering::range_at;
 use filled::filled::{Counts, Filled, Tables};
 use filled::number::{Wish, number_in};
+use filled::refused::Refused;
 use filled::view::raw_range;
 use heads::heads::decode;
 use inspection::inspect::inspect;
@@ -199,10 +200,8 @@ fn addresses(rt: &impl Print) -> io::Result<()> {
     Ok(())
 }
 
-// The view of a raw slot, of one whose range ends past the payload, and of one that is not listed;
-// the slots whose ranges cover each byte; and numbers in raw data.
-fn views(rt: &impl Print) -> io::Result<()> {
-    let payload = [7u8; 4];
+// A table of two raw slots: three bytes from place 1, and three from place 2.
+fn raw_slots() -> [u64; 12] {
     let mut table = [0u64; 12];
     for (k, off) in [1, 2].into_iter().enumerate() {
         let raw = SlotValue::Raw(Raw {
@@ -218,29 +217,41 @@ fn views(rt: &impl Print) -> io::Result<()> {
         };
         add_slot(&mut table, k, slot);
     }
+    table
+}
+
+// A slot table of two slots as filled tables, the others empty.
+fn filled_of(slots: &[u64]) -> Result<Filled<'_>, Refused> {
+    let tables = Tables {
+        objects: &[],
+        slots,
+        values: &[],
+        addresses: &[],
+    };
     let none = Counts {
         objects: 0,
         slots: 0,
         values: 0,
         addresses: 0,
     };
-    let tables = Tables {
-        objects: &[],
-        slots: &table,
-        values: &[],
-        addresses: &[],
-    };
-    let Ok(filled) = Filled::new(tables, none, Counts { slots: 2, ..none }) else {
-        return println!(rt; "not filled");
-    };
+    Filled::new(tables, none, Counts { slots: 2, ..none })
+}
+
+// The view of a raw slot, of one whose range ends past the payload, and of one that is not listed.
+fn views(rt: &impl Print, filled: Filled<'_>) -> io::Result<()> {
     for k in 0..3 {
-        match raw_range(filled, &payload, k) {
+        match raw_range(filled, &[7u8; 4], k) {
             Ok(range) => println!(rt; "view {} {}", range.begin, range.len)?,
             Err(refused) => {
                 println!(rt; "refused {} {}", refused.refusal.number(), refused.place)?
             }
         }
     }
+    Ok(())
+}
+
+// The slots whose ranges cover each byte of a payload of five, and the byte past its end.
+fn coverings(rt: &impl Print, filled: Filled<'_>) -> io::Result<()> {
     for offset in 0..6 {
         match range_at(filled, 5, offset) {
             Ok(covering) => println!(rt; "covering {covering:?}")?,
@@ -249,14 +260,17 @@ fn views(rt: &impl Print) -> io::Result<()> {
             }
         }
     }
+    Ok(())
+}
+
+// Numbers in raw data.
+fn numbers(rt: &impl Print) -> io::Result<()> {
     let bytes = [8, 0, 0, 0, 0, 0, 0, 0];
     for (size, at) in [(4, 0), (8, 0), (4, 5), (5, 0)] {
         println!(rt; "number {:?}", number_in(&bytes, at, Wish::Smi(size)))?;
     }
-    println!(rt;
-        "number {:?}",
-        number_in(&[0, 0, 0, 0, 0, 0, 0xf8, 0x7f], 0, Wish::Double)
-    )
+    let nan = [0, 0, 0, 0, 0, 0, 0xf8, 0x7f];
+    println!(rt; "number {:?}", number_in(&nan, 0, Wish::Double))
 }
 
 fn main(rt: HostRuntime) -> io::Result<()> {
@@ -266,5 +280,13 @@ fn main(rt: HostRuntime) -> io::Result<()> {
     inspections(&rt)?;
     fillers(&rt)?;
     addresses(&rt)?;
-    views(&rt)
+    let table = raw_slots();
+    match filled_of(&table) {
+        Ok(filled) => {
+            views(&rt, filled)?;
+            coverings(&rt, filled)?;
+        }
+        Err(_) => println!(rt; "not filled")?,
+    }
+    numbers(&rt)
 }
