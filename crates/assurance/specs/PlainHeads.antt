@@ -5,19 +5,19 @@ use Rattle.std.proofs.Common.{⊎_elim, arith, eqb-true, leb-true, ltb-true, le-
 use mathlib.Core.List.{List}
 use Rattle.std.proofs.lemmas.Bool.{not-true, and_parts, or_cases}
 use Rattle.sheet.specs.Names.{k_new_object, k_backref, k_hot_object_with_skip, k_root_array_constants_with_skip, k_skip}
-use Rattle.sheet.specs.Sheet.{number, present}
+use Rattle.sheet.specs.Sheet.{number, present, root_mask}
 use Rattle.sheet.specs.Tests.{opens}
 use Rattle.sheet.proofs.TestsLaws.{none_past}
 use Rattle.heads.specs.declared.heads.Head.{Head}
 use Rattle.heads.specs.declared.kinds.Kind.{Kind}
-use Rattle.heads.specs.declared.kinds.Kind.TheVariants.{NewObject, LegacyBackref, LegacyBackrefWithSkip, NextChunk, Alignment, HotWithSkip, RootConstantWithSkip, Builtin, External, Api, Internal, Deoptimizer, StreamBytes, EmbedderFields, OffHeapTarget, Skip, RepeatPrevious, VariableRepeatPrevious}
+use Rattle.heads.specs.declared.kinds.Kind.TheVariants.{NewObject, Hot, FixedRaw, LegacyBackref, LegacyBackrefWithSkip, NextChunk, Alignment, HotWithSkip, RootConstantWithSkip, Builtin, External, Api, Internal, Deoptimizer, StreamBytes, EmbedderFields, OffHeapTarget, Skip, RepeatPrevious, VariableRepeatPrevious}
 use Rattle.heads.specs.declared.order.Claim.{Claim}
 use Rattle.heads.specs.declared.order.Span.{Span}
 use Rattle.heads.specs.declared.order.Span.TheVariants.{UpToBackref}
 use Rattle.heads.specs.declared.order.Family.{Family}
 use Rattle.heads.specs.declared.order.Family.TheVariants.{Legacy, SixX, SixXAlone}
 use Rattle.heads.specs.Heads.{tests, order, claims, head_by, head_of}
-use Rattle.heads.proofs.Rules.{each_head}
+use Rattle.heads.proofs.Rules.{each_head, is_ruled, place_low, raw_low}
 use Rattle.assurance.specs.PlainSheet.{clash, PlainSheet}
 
 -- the kinds that a plain sheet does not have
@@ -42,10 +42,13 @@ not_plain VariableRepeatPrevious = true
 not_plain kind = false
 
 -- what is known of a head that a plain sheet gives a byte: its kind; a new-object head lies from
--- kNewObject up to below kBackref
+-- kNewObject up to below kBackref; fixed raw data has a word at least; a hot byte names one of eight
+-- places
 pub record PlainHead (v : List ℕ) (b : ℕ) (h : Head) : Type 0 where
   pub kind : not_plain h.kind ≡ false
   pub new_object_lem : h.kind ≡ NewObject → opens v b ≡ true
+  pub raw : h.kind ≡ FixedRaw → 1 ≤ h.argument
+  pub place : h.kind ≡ Hot → h.argument < 8
 
 -- families and names of which a plain sheet has none
 abbrev no_family : Family → Bool
@@ -70,7 +73,7 @@ is_opening NewObject r = untested r || (eqb r.name k_new_object && is_up_to_back
 is_opening kind r = true
 
 abbrev fits : Claim → Bool
-fits r = (untested r || not (not_plain r.kind)) && is_opening r.kind r
+fits r = (untested r || not (not_plain r.kind)) && is_opening r.kind r && is_ruled r.kind r.argument
 
 up_to_backref : (s : Span) → is_up_to_backref s ≡ true → s ≡ UpToBackref
 up_to_backref UpToBackref e = refl
@@ -108,16 +111,23 @@ module _ (v : List ℕ) (s : PlainSheet v) where
 
   row_plain : (r : Claim) (b : ℕ) → fits r ≡ true → claims v r b ≡ true → PlainHead v b (head_by v r b)
   row_plain r b f c =
-      let p = and_parts (untested r || not (not_plain r.kind)) (is_opening r.kind r) f in
+      let both = and_parts ((untested r || not (not_plain r.kind)) && is_opening r.kind r) _ f in
+      let p = and_parts (untested r || not (not_plain r.kind)) (is_opening r.kind r) both.0 in
+      let first : ℕ = number v r.name in
+      let mask : ℕ = root_mask v in
       record {
         kind = ⊎_elim (λ u. absurd (untested_row r b u c)) (λ n. not-true _ n) (or_cases (untested r) _ p.0);
         new_object_lem =
             (λ e. ⊎_elim (λ u. absurd (untested_row r b u c))
             (λ q. let q = and_parts (eqb r.name k_new_object) (is_up_to_backref r.span) q in opening r b (eqb-true r.name k_new_object q.0) (up_to_backref r.span q.1) c)
             (or_cases (untested r) _ (rw e at p.1)));
+        raw = λ e. raw_low mask first b r.argument (rw e at both.1);
+        place = λ e. place_low mask first b r.argument (rw e at both.1);
       }
 
   -- THE THEOREM
   pub head_plain : (b : ℕ) → PlainHead v b (head_of v b)
   unfolding order
-  head_plain b = each_head v b (PlainHead v b) fits (record { kind = refl; new_object_lem = λ e. absurd cc }) (λ r f c. row_plain r b f c) refl
+  head_plain b = each_head v b (PlainHead v b) fits
+      (record { kind = refl; new_object_lem = λ e. absurd cc; raw = λ e. absurd cc; place = λ e. absurd cc })
+      (λ r f c. row_plain r b f c) refl

@@ -46,7 +46,7 @@ use Rattle.deferred.proofs.ReadyLaws.{Law, law_went, ready_after, idle_ready}
 -- ---- the object that an entry names
 
 -- a byte leaves the addresses as they are
-byte_same : (x : Input) (m : Mem) {m1 : Mem} {b : ℕ} → got b m1 ≡ byte x m → m1.addresses ≡ m.addresses
+pub byte_same : (x : Input) (m : Mem) {m1 : Mem} {b : ℕ} → got b m1 ≡ byte x m → m1.addresses ≡ m.addresses
 unfolding byte
 byte_same x m {m1} {b} e = go (ltb m.at (length x.payload)) e
   where
@@ -149,6 +149,14 @@ module _ {w : Walker} {s : State} (g : Ready w s) where
 abbrev items_left : Input → ℕ → ℕ → ℕ → ℕ → Reader (Unit {0})
 items_left x o size index done m = entry_items x o size (length x.payload - m.at + 1) index done m
 
+-- how much an item adds to the count
+pub narrow_count : (x : Input) (v : SlotValue) → word x ≤ 8 → width_of (word x) v ≤ 2 ^ 34 → entry_count x v ≤ 2 ^ 34
+narrow_count x v b narrow = go (is_skip v)
+  where
+    go : (t : Bool) → (if t then width_of (word x) v else max (width_of (word x) v) (word x)) ≤ 2 ^ 34
+    go true = narrow
+    go false = omega (arith, narrow, b)
+
 module _ (x : Input) (o size index done : ℕ) (m : Mem) where
   one_more : length x.payload - m.at + 1 ≡ suc (length x.payload - m.at)
   one_more = omega arith
@@ -207,13 +215,8 @@ module _ {o size : ℕ} {w₀ : Walker} {s₀ : State} {index done : ℕ} {w : W
           let z = read in
           (z.kept.counted.count_low o, omega (arith, z.kept.sound.slots_fit), omega (arith, z.kept.sound.waiting_low, z.kept.sound.slots_fit, z.kept.onward.slots_size), omega (arith, a.place, z.kept.onward.slots_up))
 
-      -- how much an item adds to the count
       pub count_low : entry_count (input_of w) v ≤ 2 ^ 34
-      count_low = go (is_skip v)
-        where
-          go : (t : Bool) → (if t then width_of (word (input_of w)) v else max (width_of (word (input_of w)) v) (word (input_of w))) ≤ 2 ^ 34
-          go true = read.more.narrow
-          go false = omega (arith, read.more.narrow, word_low a.ready.proper)
+      count_low = narrow_count (input_of w) v (word_low a.ready.proper) read.more.narrow
 
       module _ {f : Fields} {n : ℕ} (ef : f ≡ entry_fields (mem s1 (lent_of w1)).values v) (en : n ≡ entry_slots (input_of w) v) where
         item_is : {out : Out (Unit {0})} → out ≡ add_slots o f index n (mem s1 (lent_of w1)) → out ≡ entry_item (input_of w) o index v (mem s1 (lent_of w1))

@@ -63,7 +63,7 @@ pub record Argued (h : Head) : Type 0 where
   pub raw : h.kind ≡ FixedRaw → 1 ≤ h.argument
 
 -- the rules that rows of these kinds have
-abbrev is_ruled : Kind → Argument → Bool
+abbrev pub is_ruled : Kind → Argument → Bool
 is_ruled NewObject Nothing = true
 is_ruled NewObject Offset = true
 is_ruled NewObject rule = false
@@ -81,7 +81,8 @@ module _ (mask first b : ℕ) (l : b < 256) where
   space_low Offset e = omega arith
   space_low rule e = absurd cc
 
-  place_low : (rule : Argument) → is_ruled Hot rule ≡ true → argument_of mask rule first b < 8
+module _ (mask first b : ℕ) where
+  pub place_low : (rule : Argument) → is_ruled Hot rule ≡ true → argument_of mask rule first b < 8
   place_low AndSeven e = omega (arith, and_le_r b 7)
   place_low rule e = absurd cc
 
@@ -89,7 +90,7 @@ module _ (mask first b : ℕ) (l : b < 256) where
   skip_place_low AndSeven e = omega (arith, and_le_r b 7)
   skip_place_low rule e = absurd cc
 
-  raw_low : (rule : Argument) → is_ruled FixedRaw rule ≡ true → 1 ≤ argument_of mask rule first b
+  pub raw_low : (rule : Argument) → is_ruled FixedRaw rule ≡ true → 1 ≤ argument_of mask rule first b
   raw_low FromOne e = omega arith
   raw_low rule e = absurd cc
 
@@ -103,8 +104,8 @@ head_argued v b l =
     record {
       bound = argument_low mask first b l r.argument;
       space = λ e. space_low mask first b l r.argument (rw e at t);
-      place = λ e. place_low mask first b l r.argument (rw e at t);
-      skip_place = λ e. skip_place_low mask first b l r.argument (rw e at t);
-      raw = λ e. raw_low mask first b l r.argument (rw e at t);
+      place = λ e. place_low mask first b r.argument (rw e at t);
+      skip_place = λ e. skip_place_low mask first b r.argument (rw e at t);
+      raw = λ e. raw_low mask first b r.argument (rw e at t);
     })
     refl

@@ -36,7 +36,7 @@ use Rattle.readers.specs.Lent.{input_of, lent_of}
 use Rattle.readers.proofs.ViewLaws.{then_got, then_no}
 use Rattle.readers.proofs.SimpleLaws.{backref_in, backref_past, hot_is_lem, first_no, single_no, single_to, second_no, place_to, raw_to}
 use Rattle.leaves.specs.declared.leaf.Leaf.{Leaf}
-use Rattle.leaves.specs.Leaf.{ring_with, ring, after, Stands, Found, Missing, Refused, LeafAt, NoLeafAt, MissingIn, begins_leaf, begins_item, kind_at, argument_at, FoundIn, slot_in}
+use Rattle.leaves.specs.Leaf.{ring_with, ring, after, Stands, Found, Missing, Refused, LeafAt, NoLeafAt, MissingIn, begins_leaf, begins_item, kind_at, argument_at, FoundIn, slot_in, lent_reference}
 
 -- a reference that is one word wide
 abbrev one_word : Ref → ℕ → ℕ → Bool → ℕ → Leaf
@@ -250,11 +250,22 @@ head_read : (w : Walker) (s : State) (l : Lent) (inner : Reader SlotValue) → H
 unfolding reference byte
 head_read w s l inner h b c = rw (lt-ltb s.at (length w.payload.now) b, h.each (get_or w.payload.now s.at 0) c)
 
-module _ (w : Walker) (at objects : ℕ) (r : Leaf) (decoded : Heads w.sheet.now w.heads.now) (found : LeafAt w at objects (Some r)) where
-  pub leaf_read : (inner : Reader SlotValue) (s : State) (l : Lent) → s.at ≡ at → s.objects ≡ objects → l.hot ≡ w.hot → got r.value (mem (after r s) (hot_is (ring r l.hot) l)) ≡ reference (input_of w) inner (mem s l)
-  leaf_read inner s l ea eo eh =
+-- the same by the heads that are lent
+pub head_lent : (w : Walker) (s : State) (l : Lent) (inner : Reader SlotValue) → s.at < length w.payload.now
+    → by_head (input_of w) inner s.at (kind_at w s.at) (argument_at w s.at) (mem (moved_to (s.at + 1) s) l) ≡ lent_reference w inner (mem s l)
+unfolding lent_reference byte
+head_lent w s l inner b = rw (lt-ltb s.at (length w.payload.now) b)
+
+-- where these are the sheet's, that is the reference
+pub lent_is : (w : Walker) (s : State) (l : Lent) (inner : Reader SlotValue) → Heads w.sheet.now w.heads.now → (s.at < length w.payload.now) × (get_or w.payload.now s.at 0 < 256)
+    → lent_reference w inner (mem s l) ≡ reference (input_of w) inner (mem s l)
+lent_is w s l inner h b = sym (head_lent w s l inner b.0) ∙ head_read w s l inner h b.0 b.1
+
+module _ (w : Walker) (at objects : ℕ) (r : Leaf) (found : LeafAt w at objects (Some r)) where
+  pub leaf_lent : (inner : Reader SlotValue) (s : State) (l : Lent) → s.at ≡ at → s.objects ≡ objects → l.hot ≡ w.hot → got r.value (mem (after r s) (hot_is (ring r l.hot) l)) ≡ lent_reference w inner (mem s l)
+  leaf_lent inner s l ea eo eh =
       let stands = rw (← eh) at (found.1 w.sheet.now w.trusted.now w.spaces s.at (moved_to (s.at + 1) s) l refl (ap (λ (i : ℕ). i + 1) ea) eo) in
-      stands.is inner ∙ rw (← ea) (head_read w s l inner decoded (rw ea found.0.0) (rw ea found.0.1))
+      stands.is inner ∙ rw (← ea) (head_lent w s l inner (rw ea found.0.0))
 
 -- a leaf has two integers at most
 pub leaf_few : (w : Walker) (at objects : ℕ) (r : Leaf) → LeafAt w at objects (Some r) → (s : State) → r.long_integers ≤ 2
@@ -296,25 +307,31 @@ slot_full : (x : Input) (o done : ℕ) (v : SlotValue) (m : Mem) → has_room 6 
 unfolding keep_item add_slot
 slot_full x o done v m b = rw b
 
+-- where the heads that are lent are the sheet's, an item by them is that of the reference
+pub item_is : (w : Walker) (s : State) (o done : ℕ) → (inner : Reader SlotValue) → Heads w.sheet.now w.heads.now → (s.at < length w.payload.now) × (get_or w.payload.now s.at 0 < 256)
+    → slot_in (input_of w) (lent_reference w inner) o done (mem s (lent_of w)) ≡ slot_in (input_of w) (reference (input_of w) inner) o done (mem s (lent_of w))
+item_is w s o done inner h b = ap (λ (out : Out SlotValue). and_then out (place_item (input_of w) o done)) (lent_is w s (lent_of w) inner h b)
+
 -- a leaf at the cursor as an item of object o
-module _ (w : Walker) (s : State) (r : Leaf) (decoded : Heads w.sheet.now w.heads.now) (in_payload : s.at < length w.payload.now) (small : get_or w.payload.now s.at 0 < 256)
+module _ (w : Walker) (s : State) (r : Leaf) (in_payload : s.at < length w.payload.now)
     (found : FoundIn w s (s.at + 1) (head_at w.heads.now (get_or w.payload.now s.at 0)).kind (head_at w.heads.now (get_or w.payload.now s.at 0)).argument (Some r)) where
   abbrev is : Stands (input_of w) s.at (head_at w.heads.now (get_or w.payload.now s.at 0)).kind (head_at w.heads.now (get_or w.payload.now s.at 0)).argument (moved_to (s.at + 1) s) (lent_of w) r
   is = found s.at
 
-  pub item_read : (o done : ℕ) (ot st : List ℕ) (hot : HotRing) → s.slots < room 6 w.slots.now → st ≡ written w.slots.now s.slots (slot_row o ((done + s.skip) / word_bytes w.sheet.now) (fields_of r.value) 0) → ot ≡ counted w.objects.now o → hot ≡ ring r w.hot → (inner : Reader SlotValue)
-      → got (done + s.skip + r.width) (mem (stepped r s) (objects_is ot (slots_is st (hot_is hot (lent_of w))))) ≡ slot_in (input_of w) (reference (input_of w) inner) o done (mem s (lent_of w))
-  item_read o done ot st hot b es eo eh inner =
+  is_lent : (inner : Reader SlotValue) → got r.value (mem (after r s) (hot_is (ring r w.hot) (lent_of w))) ≡ lent_reference w inner (mem s (lent_of w))
+  is_lent inner = is.is inner ∙ head_lent w s (lent_of w) inner in_payload
+
+  pub item_lent : (o done : ℕ) (ot st : List ℕ) (hot : HotRing) → s.slots < room 6 w.slots.now → st ≡ written w.slots.now s.slots (slot_row o ((done + s.skip) / word_bytes w.sheet.now) (fields_of r.value) 0) → ot ≡ counted w.objects.now o → hot ≡ ring r w.hot → (inner : Reader SlotValue)
+      → got (done + s.skip + r.width) (mem (stepped r s) (objects_is ot (slots_is st (hot_is hot (lent_of w))))) ≡ slot_in (input_of w) (lent_reference w inner) o done (mem s (lent_of w))
+  item_lent o done ot st hot b es eo eh inner =
       let m : Mem = mem (after r s) (hot_is (ring r w.hot) (lent_of w)) in
-      let read : got r.value m ≡ reference (input_of w) inner (mem s (lent_of w)) = is.is inner ∙ head_read w s (lent_of w) inner decoded in_payload small in
       let k : got (done + s.skip + r.width) (mem (stepped r s) (objects_is ot (slots_is st (hot_is (ring r w.hot) (lent_of w))))) ≡ keep_item (input_of w) o done r.value m =
       slot_kept (input_of w) o done s (hot_is (ring r w.hot) (lent_of w)) r refl is.width is.waits b es eo in
-      rw eh (then_got (place_item (input_of w) o done) read (k ∙ is.kept o done m))
+      rw eh (then_got (place_item (input_of w) o done) (is_lent inner) (k ∙ is.kept o done m))
 
   -- where its slot has no room, the item is refused
-  pub item_full : (o done : ℕ) → has_room 6 (table w.slots.now s.slots) ≡ false → (inner : Reader SlotValue) → Refused (slot_in (input_of w) (reference (input_of w) inner) o done (mem s (lent_of w)))
-  item_full o done b inner =
+  pub item_full : (o done : ℕ) → has_room 6 (table w.slots.now s.slots) ≡ false → (inner : Reader SlotValue) → Heads w.sheet.now w.heads.now → get_or w.payload.now s.at 0 < 256 → Refused (slot_in (input_of w) (reference (input_of w) inner) o done (mem s (lent_of w)))
+  item_full o done b inner h small =
       let m : Mem = mem (after r s) (hot_is (ring r w.hot) (lent_of w)) in
-      let read : got r.value m ≡ reference (input_of w) inner (mem s (lent_of w)) = is.is inner ∙ head_read w s (lent_of w) inner decoded in_payload small in
       let k : no 3 m.at m ≡ place_item (input_of w) o done r.value m = slot_full (input_of w) o done r.value m b ∙ is.kept o done m in
-      refused (then_got (place_item (input_of w) o done) read k)
+      refused (then_got (place_item (input_of w) o done) (is_lent inner) k ∙ item_is w s o done inner h (in_payload, small))

@@ -11,7 +11,7 @@ use Rattle.tables.specs.Values.{width_of}
 use Rattle.address_index.specs.Links.{Linked}
 use Rattle.backref.specs.declared.hot_ring.HotRing.{HotRing}
 use Rattle.backref.specs.HotRing.{entered}
-use Rattle.definition.specs.Memory.{Input, word, Mem, Out, got, no, Reader, ◌>>=◌}
+use Rattle.definition.specs.Memory.{Input, word, Mem, Out, got, no, Reader, ◌>>=◌, here, byte}
 use Rattle.definition.specs.Slots.{waits_of, keep_item, place_item}
 use Rattle.definition.specs.Reference.{by_head, reference}
 use Rattle.readers.specs.declared.state.State.{State}
@@ -140,6 +140,19 @@ StaysInOrder w s (Some r) w' =
     (Indexed w.slots.now s.slots w.pending.now → Indexed w'.slots.now r.1.slots w'.pending.now)
     × (Linked w.addresses.now s.addresses w.index.now → Linked w'.addresses.now r.1.addresses w'.index.now)
 StaysInOrder w s None w' = lent_of w' ≡ lent_of w
+
+-- a reference as the definition reads it, but that its head byte means what the heads that are lent
+-- say, whether they are the sheet's or not
+unfoldable pub lent_reference : Walker → Reader SlotValue → Reader SlotValue
+lent_reference w r =
+    here
+    >>= (λ tag. byte (input_of w)
+    >>= (λ b. by_head (input_of w) r tag (head_at w.heads.now b).kind (head_at w.heads.now b).argument))
+
+-- what was read is what this reader reads, whatever heads are lent and whatever the reader of inner
+-- references is
+abbrev pub ReadByHeads : {A : Type 0} → Walker → State → Walker → (Reader SlotValue → Reader A) → A × State → Type 0
+ReadByHeads w s w' F r = (inner : Reader SlotValue) → got r.0 (mem r.1 (lent_of w')) ≡ F inner (mem s (lent_of w))
 
 -- where the heads are the sheet's, what was read is what this reader of the definition reads,
 -- whatever the reader of inner references is

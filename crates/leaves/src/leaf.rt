@@ -17,7 +17,7 @@ ghost use Rattle.tables.specs.declared.values.SlotValue.TheVariants.{Ref as IsRe
 ghost use Rattle.backref.specs.declared.hot_ring.HotRing.{HotRing};
 ghost use Rattle.definition.specs.Reference.{reference as referenceOf};
 ghost use Rattle.readers.specs.Lent.{input_of, Kept, Addressed};
-ghost use Rattle.leaves.specs.Leaf.{Found, Missing, LeafAt, LeafByte, NoLeafAt, begins_leaf, RefusedAs, ItemByte, RoomyItem, item_of, kind_at, argument_at, FoundIn, MissingIn, StaysInOrder, ReadAs, slot_in, ring_with};
+ghost use Rattle.leaves.specs.Leaf.{Found, Missing, LeafAt, LeafByte, NoLeafAt, begins_leaf, begins_item, RefusedAs, ItemByte, RoomyItem, item_of, kind_at, argument_at, FoundIn, MissingIn, StaysInOrder, ReadAs, ReadByHeads, lent_reference, slot_in, ring_with};
 ghost use Rattle.readers.specs.Views.{Counts};
 
 use backref::hot_ring::HotRing;
@@ -147,6 +147,7 @@ fn raw_leaf(p: &[u8], at: usize, n: u64, word: u64) -> Option<Leaf>
 // The leaf that a head begins; `at` is the place after the head.
 #[inline(always)]
 fn leaf_of(w: &Walker, head: Head, at: usize, objects: usize) -> Option<Leaf>
+    ensures kind { IfSome result (λ _. begins_leaf head.kind ≡ true) }
     ensures some { Found w.now.payload.now w.now.hot objects (word_bytes w.now.sheet.now) at
         head.kind head.argument result }
     ensures none { IsNone result → begins_leaf head.kind ≡ true
@@ -173,6 +174,7 @@ fn leaf_of(w: &Walker, head: Head, at: usize, objects: usize) -> Option<Leaf>
 #[inline(always)]
 pub fn leaf_at(w: &Walker, at: usize, objects: usize) -> Option<Leaf>
     ensures some { LeafAt w.now at objects result }
+    ensures there { IfSome result (λ _. LeafByte w.now at) }
     ensures none { IsNone result → LeafByte w.now at → NoLeafAt w.now at objects }
 {
     leaf_of(w, w.head_at(at)?, at + 1, objects)
@@ -203,6 +205,7 @@ fn legacy_leaf(w: &Walker, s: State, at: usize, space: u64) -> Option<Leaf>
 fn any_leaf(w: &Walker, s: State) -> Option<Leaf>
     requires addressed { Addressed w.now s.addresses }
     ensures there { IfSome result (λ _. (s.at < length w.now.payload.now) × (get_or w.now.payload.now s.at 0 < 256)) }
+    ensures kind { IfSome result (λ _. begins_item (kind_at w.now s.at) ≡ true) }
     ensures found { FoundIn w.now s (s.at + 1) (kind_at w.now s.at)
         (argument_at w.now s.at) result }
     ensures none { IsNone result → ItemByte w.now s.at
@@ -229,10 +232,13 @@ pub fn enter(hot: &mut HotRing, leaf: Leaf)
 }
 
 /// Reads the leaf at the cursor as a reference: its value, and the state after it. `None` as in
-/// `leaf_at`; then nothing is changed.
+/// `leaf_at` (`no_leaf`, `none`); then nothing is changed.
 pub fn take_leaf(w: &mut Walker, s: State) -> Option<(SlotValue, State)>
     requires { Counts s }
+    ensures there { IfSome result (λ _. LeafByte w.old s.at) }
+    ensures by_heads { IfSome result (ReadByHeads w.old s w.new (lent_reference w.old)) }
     ensures read { IfSome result (ReadAs w.old s w.new (referenceOf (input_of w.old))) }
+    ensures no_leaf { IsNone result → LeafByte w.old s.at → NoLeafAt w.old s.at s.objects }
     ensures none { IsNone result → LeafByte w.old s.at
         → RefusedAs w.old s (referenceOf (input_of w.old)) }
     ensures order { StaysInOrder w.old s result w.new }
@@ -257,6 +263,9 @@ pub fn take_leaf(w: &mut Walker, s: State) -> Option<(SlotValue, State)>
 /// then nothing is changed.
 pub fn place_leaf(w: &mut Walker, s: State, d: usize, level: Level) -> Option<(u64, State)>
     requires { Countable w.old.objects.now level.object × Addressed w.old s.addresses × Counts s }
+    ensures there { IfSome result (λ _. ItemByte w.old s.at) }
+    ensures by_heads { IfSome result (ReadByHeads w.old s w.new
+        (λ inner. slot_in (input_of w.old) (lent_reference w.old inner) level.object level.done)) }
     ensures read { IfSome result (λ r. (d < 64) × ReadAs w.old s w.new (λ inner. slot_in (input_of w.old) (referenceOf (input_of w.old) inner) level.object level.done) r) }
     ensures none { IsNone result → d < 64 → ItemByte w.old s.at → RoomyItem w.old s level
         → RefusedAs w.old s (item_of w.old level) }

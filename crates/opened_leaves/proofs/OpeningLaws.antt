@@ -1,6 +1,6 @@
 -- An object whose map is a leaf: its head, its map, its address and its slot 0. Assumes nothing.
 use Rattle.std.specs.Prelude.{if◌then◌else◌, ◌≡◌, refl, Bool, true, false, List, ℕ, ◌+◌, ◌*◌, ◌^◌, ◌<◌, ◌≤◌, ltb, eqb}
-use Rattle.std.proofs.Common.{arith, ap, subst, lt-ltb}
+use Rattle.std.proofs.Common.{arith, ap, subst, ◌∙◌, lt-ltb}
 use Rattle.std.specs.Int.{from_bool}
 use Rattle.stream.specs.declared.putint.Int.{Int}
 use Rattle.stream.specs.PutInt.{is_long}
@@ -28,8 +28,8 @@ use Rattle.objects.specs.Map.{AddressAlone}
 use Rattle.objects.specs.Index.{Indexed}
 use Rattle.objects.proofs.WaiterLaws.{indexed_plain}
 use Rattle.leaves.specs.declared.leaf.Leaf.{Leaf}
-use Rattle.leaves.specs.Leaf.{ring, after, Refused, NoLeafAt}
-use Rattle.leaves.proofs.LeafLaws.{leaf_read, leaf_refused, refused_then}
+use Rattle.leaves.specs.Leaf.{ring, after, lent_reference, Refused, NoLeafAt}
+use Rattle.leaves.proofs.LeafLaws.{leaf_lent, lent_is, leaf_refused, refused_then}
 use Rattle.opened_leaves.specs.Opening.{opened, MapAt, MapByte, Given}
 
 -- ---- the address
@@ -117,7 +117,7 @@ abbrev opened_state : Int → Leaf → State → State → State
 opened_state i r s t =
     record t { at = r.next; objects = s.objects + 1; slots = s.slots + 1; long_integers = s.long_integers + from_bool (is_long i) + r.long_integers }
 
-module _ (w w₁ : Walker) (s t : State) (ts : ℕ) (size : Int) (map : Leaf) (space tag : ℕ) (decoded : Heads w.sheet.now w.heads.now) (ew : ts ≡ word_bytes w.sheet.now) (a : MapAt w s size map) (g : Given w s space (size.value * ts) s.objects t w₁) {f : Fields} {ot ot' st : List ℕ} {hot : HotRing} (po : Put w₁.objects.now s.objects (object_row (size.value * ts) tag) true ot) (eo : ot' ≡ counted ot s.objects)
+module _ (w w₁ : Walker) (s t : State) (ts : ℕ) (size : Int) (map : Leaf) (space tag : ℕ) (ew : ts ≡ word_bytes w.sheet.now) (a : MapAt w s size map) (g : Given w s space (size.value * ts) s.objects t w₁) {f : Fields} {ot ot' st : List ℕ} {hot : HotRing} (po : Put w₁.objects.now s.objects (object_row (size.value * ts) tag) true ot) (eo : ot' ≡ counted ot s.objects)
     (ef : f ≡ fields_of map.value) (ps : Put w₁.slots.now s.slots (slot_row s.objects 0 f 0) true st) (eh : hot ≡ ring map w₁.hot) where
   abbrev x : Input
   x = input_of w
@@ -172,19 +172,19 @@ module _ (w w₁ : Walker) (s t : State) (ts : ℕ) (size : Int) (map : Leaf) (s
       let b : ltb s.objects (room 4 w.objects.now) ≡ true = rw same_objects at (put_done po refl).0 in
       rw (← a.sized, a.no_large_byte, b, ← ew) refl
 
-  module _ (inner : Reader SlotValue) where
+  -- what a reader of the map has read
+  module _ (r : Reader SlotValue) (read : got map.value m₂ ≡ r m₁) where
     -- the map
-    is_read : got map.value (mem s₃ l₃) ≡ read_map x (reference x inner) space bytes s.objects m₁
+    is_read : got map.value (mem s₃ l₃) ≡ read_map x r space bytes s.objects m₁
     is_read =
-        let read : got map.value m₂ ≡ reference x inner m₁ = leaf_read w (s.at + size.count) (s.objects + 1) map decoded a.leaf inner (recorded size s) l₁ refl refl refl in
-        rw a.not_first (map_read (is_legacy w.sheet.now) x (reference x inner) space bytes s.objects map.value m₁ m₂ (mem s₃ l₃) read (given.1 m₂ refl refl refl))
+        rw a.not_first (map_read (is_legacy w.sheet.now) x r space bytes s.objects map.value m₁ m₂ (mem s₃ l₃) read (given.1 m₂ refl refl refl))
 
     -- its slot
     is_kept : got tt (mem (record s₃ { slots = s.slots + 1 }) (objects_is ot' (slots_is st l₃))) ≡ keep_map x s.objects map.value (mem s₃ l₃)
     is_kept =
         slot_kept x s.objects map.value s₃ l₃ (a.unflagged w.sheet.now w.payload.now w.spaces) (rw same_slots at (put_done ps refl).0) (rw is_object at eo) (rw (same_slots, ef) at (put_done ps refl).1)
 
-    pub is_whole : got bytes (mem (opened_state size map s t) (objects_is ot' (slots_is st (hot_is hot (lent_of w₁))))) ≡ opened x (reference x inner) space tag s.objects m
+    is_whole : got bytes (mem (opened_state size map s t) (objects_is ot' (slots_is st (hot_is hot (lent_of w₁))))) ≡ opened x r space tag s.objects m
     is_whole =
         let e = given.0 in
         let ev : t.values ≡ s.values = ap (λ (m : Mem). m.values.count) e in
@@ -192,6 +192,17 @@ module _ (w w₁ : Walker) (s t : State) (ts : ℕ) (size : Int) (map : Leaf) (s
         let et : t.waiting ≡ s.waiting = ap (λ (m : Mem). m.waiting) e in
         let es : t.skip ≡ s.skip = ap (λ (m : Mem). m.skip) e in
         rw (ev, ep, et, es, same_values, is_hot)
-        (then_got (λ n. read_map x (reference x inner) space (n * word x) s.objects >>= keep_map x s.objects >> give (n * word x))
+        (then_got (λ n. read_map x r space (n * word x) s.objects >>= keep_map x s.objects >> give (n * word x))
         is_opened
         (rw (← ew) (then_got (λ (u : Unit {0}). give bytes) (then_got (keep_map x s.objects) is_read is_kept) refl)))
+
+  module _ (inner : Reader SlotValue) where
+    lent : got map.value m₂ ≡ lent_reference w inner m₁
+    lent = leaf_lent w (s.at + size.count) (s.objects + 1) map a.leaf inner (recorded size s) l₁ refl refl refl
+
+    -- by the heads that are lent, and where these are the sheet's
+    pub opened_lent : got bytes (mem (opened_state size map s t) (objects_is ot' (slots_is st (hot_is hot (lent_of w₁))))) ≡ opened x (lent_reference w inner) space tag s.objects m
+    opened_lent = is_whole (lent_reference w inner) lent
+
+    pub opened_read : Heads w.sheet.now w.heads.now → got bytes (mem (opened_state size map s t) (objects_is ot' (slots_is st (hot_is hot (lent_of w₁))))) ≡ opened x (reference x inner) space tag s.objects m
+    opened_read h = is_whole (reference x inner) (lent ∙ lent_is w (recorded size s) l₁ inner h a.leaf.0)

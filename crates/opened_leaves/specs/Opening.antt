@@ -36,6 +36,12 @@ pub record MapAt (w : Walker) (s : State) (size : Int) (map : Leaf) : Type 0 whe
   pub leaf : LeafAt w (s.at + size.count) (s.objects + 1) (Some map)
   pub unflagged : (sh q : List ℕ) (sp : ℕ) → flags (input sh q sp w.trusted.now) map.value ≡ false
 
+-- a size and a map stand there so
+pub record OpenedAt (w : Walker) (s : State) : Type 0 where
+  pub size : Int
+  pub map : Leaf
+  pub is : MapAt w s size map
+
 -- the size stands at the cursor, and after it the head of what may be a leaf; nothing but the map
 -- follows, and no root is flagged
 pub record MapByte (w : Walker) (s : State) (count : ℕ) : Type 0 where

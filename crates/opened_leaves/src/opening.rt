@@ -8,8 +8,8 @@ ghost use Rattle.definition.specs.Reference.{reference};
 ghost use Rattle.readers.specs.Views.{Counts};
 ghost use Rattle.readers.specs.Lent.{input_of, PendingKept, Untouched};
 ghost use Rattle.objects.specs.Index.{Indexed};
-ghost use Rattle.leaves.specs.Leaf.{NoLeafAt, ReadAs, RefusedAs};
-ghost use Rattle.opened_leaves.specs.Opening.{opened, object_of, MapAt, MapByte, RoomyTables, AddressGiven};
+ghost use Rattle.leaves.specs.Leaf.{NoLeafAt, ReadAs, ReadByHeads, RefusedAs, lent_reference};
+ghost use Rattle.opened_leaves.specs.Opening.{opened, object_of, MapAt, MapByte, OpenedAt, RoomyTables, AddressGiven};
 
 use leaves::leaf::{Leaf, enter, leaf_at};
 use objects::head::NewObject;
@@ -77,6 +77,9 @@ fn records_fit(w: &Walker, s: State) -> bool
 pub fn open_leaf(w: &mut Walker, s: State, d: usize, new: NewObject) -> Option<(u64, State)>
     requires usable { (usable w.old.sheet.now ≡ true) × (new.space < 256) × (s.objects < 2 ^ 63) × Counts s }
     requires linked_before { Linked w.old.addresses.now s.addresses w.old.index.now }
+    ensures there { IfSome result (λ _. OpenedAt w.old s) }
+    ensures by_heads { IfSome result (ReadByHeads w.old s w.new (λ inner.
+        opened (input_of w.old) (lent_reference w.old inner) new.space new.tag s.objects)) }
     ensures read { IfSome result (λ r. (d < 64) × (r.0 < 2 ^ 33) × (s.objects < r.1.objects) × ReadAs w.old s w.new (λ inner. opened (input_of w.old) (reference (input_of w.old) inner) new.space new.tag s.objects) r) }
     ensures linked { IfSome result (λ r. Linked w.new.addresses.now r.1.addresses w.new.index.now) }
     ensures indexed { IfSome result (λ r. Indexed w.old.slots.now s.slots w.old.pending.now → Indexed w.new.slots.now r.1.slots w.new.pending.now) }

@@ -6,7 +6,7 @@ ghost use Rattle.tables.specs.Records.{room, Countable};
 ghost use Rattle.definition.specs.Reference.{reference};
 ghost use Rattle.readers.specs.Lent.{input_of, Kept};
 ghost use Rattle.readers.specs.Views.{Counts};
-ghost use Rattle.leaves.specs.Leaf.{slot_in, item_of, NoLeafAt, ReadAs, RefusedAs, RoomyItem, StaysInOrder};
+ghost use Rattle.leaves.specs.Leaf.{slot_in, item_of, NoLeafAt, ReadAs, ReadByHeads, RefusedAs, lent_reference, RoomyItem, StaysInOrder};
 ghost use Rattle.weak_leaves.specs.Weak.{WeakAt, WeakByte};
 
 use heads::kinds::Kind;
@@ -22,6 +22,7 @@ use tables::values::{Fields, SlotValue};
 // object at depth d is one level below it, and the leaf two. The room is tested here, where the
 // walker is only read: of a table that a call was lent, the proof knows the length alone.
 fn weak_leaf(w: &Walker, s: State, d: usize) -> Option<Leaf>
+    ensures there { IfSome result (λ _. WeakByte w.now s.at) }
     ensures is { IfSome result (WeakAt w.now s d) }
     ensures roomy { IfSome result (λ _. s.slots < room 6 w.now.slots.now) }
     ensures none { IsNone result → d < 63 → WeakByte w.now s.at → s.slots < room 6 w.now.slots.now
@@ -46,6 +47,10 @@ fn weak_leaf(w: &Walker, s: State, d: usize) -> Option<Leaf>
 /// its bytes could pass 2^64; then nothing is changed.
 pub fn place_weak(w: &mut Walker, s: State, d: usize, level: Level) -> Option<(u64, State)>
     requires { Countable w.old.objects.now level.object × Counts s }
+    ensures there { IfSome result (λ _. WeakByte w.old s.at) }
+    ensures by_heads { IfSome result (ReadByHeads w.old s w.new (λ inner.
+        slot_in (input_of w.old) (lent_reference w.old (lent_reference w.old inner))
+        level.object level.done)) }
     ensures read { IfSome result (λ r. (d < 63) × ReadAs w.old s w.new (λ inner. slot_in (input_of w.old) (reference (input_of w.old) (reference (input_of w.old) inner)) level.object level.done) r) }
     ensures none { IsNone result → d < 63 → WeakByte w.old s.at → s.slots < room 6 w.old.slots.now
         → RoomyItem w.old s level

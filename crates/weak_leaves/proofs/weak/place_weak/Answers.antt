@@ -6,7 +6,7 @@ use borrow.Author.Tests.{lt-ltb}
 use Rattle.leaves.proofs.LeafLaws.{leaf_few}
 use Rattle.readers.proofs.ViewLaws.{put_done, put_full}
 use Rattle.objects.proofs.WaiterLaws.{indexed_plain}
-use Rattle.weak_leaves.proofs.WeakLaws.{weak_placed, weak_refused, unheld_refused}
+use Rattle.weak_leaves.proofs.WeakLaws.{weak_placed, weak_is, weak_refused, unheld_refused}
 use Rattle.weak_leaves.proofs.weak.place_weak.Goals as goal
 
 pub overflow_add-t-3 : goal.overflow_add-t-3
@@ -14,13 +14,19 @@ overflow_add-t-3 c =
     let f = c.in_ok-leaf.ensures.is.leaf in
     omega (arith, c.requires.1, f.0.0, leaf_few c.args.w.now (c.args.s.at + 1) c.args.s.objects c.in_ok-leaf.leaf f c.args.s)
 
-pub returns-clause-read : goal.returns-clause-read
-returns-clause-read c =
+pub returns-clause-by_heads : goal.returns-clause-by_heads
+returns-clause-by_heads c =
     let a = c.args in
     let q = c.in_ok-leaf.ensures in
     let e = c.in_ok-start.ensures.1 in
     let n = c.word_bytes-word.ensures.0 in
-    (q.is.deep, λ h inner. rw (c.in_ok-end.ensures.1, e, n) (weak_placed a.w.now a.s a.d c.in_ok-leaf.leaf h q.is a.level.object a.level.done (rw c.from-2.ensures at c.in_ok-add_value.ensures) c.in_ok-append_slot.ensures.slot (rw (← e) c.words_in.ensures) c.from.ensures c.in_ok-append_slot.ensures.count c.enter.ensures inner))
+    λ inner. rw (c.in_ok-end.ensures.1, e, n) (weak_placed a.w.now a.s a.d c.in_ok-leaf.leaf q.is a.level.object a.level.done (rw c.from-2.ensures at c.in_ok-add_value.ensures) c.in_ok-append_slot.ensures.slot (rw (← e) c.words_in.ensures) c.from.ensures c.in_ok-append_slot.ensures.count c.enter.ensures inner)
+
+pub returns-clause-read : goal.returns-clause-read
+returns-clause-read c =
+    let a = c.args in
+    let q = c.in_ok-leaf.ensures.is in
+    (q.deep, λ h inner. returns-clause-by_heads c inner ∙ weak_is a.w.now a.s a.d c.in_ok-leaf.leaf a.level.object a.level.done inner h q)
 
 pub returns-clause-order : goal.returns-clause-order
 returns-clause-order c =
